@@ -6,7 +6,7 @@ from chart_reader import read_chart
 from charts import text_of_chart
 from random_charts import random_chart
 from reader import END, NAME, Fault
-from texts import RULES, VOCABULARY, changed, deep, first_stop, laid_out, wanted_of
+from texts import RULES, VOCABULARY, changed, deep, laid_out, wanted_of, wrong_stop
 
 # ---- rows: what a text is refused with, at the place that ^ marks
 
@@ -291,14 +291,5 @@ def check_random_chart(seed):
         if got != texts[0] and not got.startswith("E07"):
             wrong.append(f"{text!r}: {got!r}")
     for text in texts:
-        data = text.encode()
-        got = told_chart(data)
-        try:
-            stop = first_stop(data, CHART_RULES, is_chart=True)
-        except Fault:
-            stop = None
-        # the first pass has its own faults, and nesting stops a text before its end
-        differs = got != f"E02 at {stop}" if got.startswith("E02") else stop is not None
-        if differs and not got.startswith(("E01", "E07")):
-            wrong.append(f"{text!r}: {got!r}, and by the grammar {stop}")
+        wrong += wrong_stop(text, told_chart(text.encode()), CHART_RULES, is_chart=True)
     return wrong

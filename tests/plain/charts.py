@@ -62,11 +62,11 @@ def is_flat(regions, inside_aborts=False):
 
 
 def is_layered(regions, around=frozenset()):
-    """Whether, where a superstate with aborts lies inside another one with aborts, it has strong ones alone and the outer one weak
-    ones alone, inside superstates with aborts of these kinds."""
+    """Whether no superstate with strong aborts lies inside another one with strong aborts, and none with weak aborts inside another
+    one with weak aborts, inside superstates with aborts of these kinds."""
     for state in (s for region in regions for s in region.states):
         kinds = {kind for kind in ("strong", "weak") if state.of_kind(kind)}
-        if ("strong" in around and kinds) or (around and "weak" in kinds) or not is_layered(state.regions, around | kinds):
+        if around & kinds or not is_layered(state.regions, around | kinds):
             return False
     return True
 

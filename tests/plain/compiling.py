@@ -6,7 +6,7 @@ from images import encode
 from lowering import lower
 from programs import Graph, Loop, loads
 from reader import Fault, Program, read
-from tables import Tables, edges_of, entries_end, least_tables, may_end, raised, successors
+from tables import edges_of, ends_alone, entries_end, least_tables, successors
 
 NODES, THREADS, STEPS = 16384, 1024, 16777216
 
@@ -130,21 +130,6 @@ class Compiled:
         if self.tables == "E12":
             return "E12 " + " ".join(map(str, walk_along(flow + protocol, protocol)))
         return "E31 image" if self.tables.budget > STEPS else None
-
-
-def ends_alone(graph):
-    """Tables with the least end bits alone."""
-    q = Tables(graph)
-
-    def ends():
-        changed = False
-        for n, node in enumerate(graph.nodes):
-            if not q.ends[n] and may_end(graph, q, node):
-                q.ends[n] = changed = True
-        return changed
-
-    raised(len(graph.nodes) + 1, ends)
-    return q
 
 
 def compiled(text):

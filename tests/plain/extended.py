@@ -1,7 +1,8 @@
 """Extended charts: a reader of their text, and a machine, written from docs/extended.md and docs/reference.md as plainly as
 possible. The reader is that of charts (chart_reader.py) with what is new, in the same three passes. The machine is that of
 charts (chart_machine.py), and knows no reduction: it walks the active states, keeps for each of them the tick in which it was
-entered, and of each variable what it was when the tick before ended.
+entered, for each transition in how many ticks behind that what it counts was true, and of each variable what it was when the tick
+before ended.
 
 Constants and what variables were are variables here, of the roles "const" and "pre". A signal is one that is told to be one, and
 an emission an effect on it by `or true`."""
@@ -135,7 +136,7 @@ class ExtendedGrammar(ChartGrammar):
             immediate = bool(self.takes("immediate"))
             if not immediate and self.ahead() == NAME:
                 _, word, word_place = self.take(NAME)
-                delay = Draft(word_place, word, start=self.place(), code=self.expression())
+                delay = Draft(word_place, word, start=self.place(), code=self.expression(), count=self.count())
         if self.takes("if"):
             trigger = self.place(), self.expression()
         effects = self.effects() if self.takes("do") else []
@@ -143,6 +144,14 @@ class ExtendedGrammar(ChartGrammar):
         target = self.take(NAME)
         self.take(";")
         return Draft(place, kind=kind, immediate=immediate, delay=delay, trigger=trigger, effects=effects, target=target)
+
+
+    def count(self):
+        """The condition whose ticks are counted, behind its word, where ticks are waited for."""
+        if self.ahead() != NAME:
+            return None
+        _, word, place = self.take(NAME)
+        return Draft(place, word, start=self.place(), code=self.expression())
 
 
 # ---- the third pass
@@ -232,7 +241,9 @@ class ExtendedRules(ChartRules):
             if t.delay:
                 self.word(t.delay, ("after",))
                 self.expression(t.delay.code, t.delay.start, "int")
-
+            if t.delay and t.delay.count:
+                self.word(t.delay.count, ("of",))
+                self.expression(t.delay.count.code, t.delay.count.start, "bool")
 
     def emission(self, e):
         """A signal is emitted and not assigned to, and nothing else is emitted. An operator and its `=` stand side by side."""
@@ -240,6 +251,9 @@ class ExtendedRules(ChartRules):
             self.word(e.word, ("emit",))
         if e.is_parted:
             self.flaw(2, e.start)
+        # of what another word emits no more is told
+        if e.word and e.word.name != "emit":
+            return
         if bool(e.word) != (e.name in self.signals):
             self.flaw(6, e.place)
 
@@ -256,6 +270,7 @@ def resolved(region, places):
         made = Transition(t.kind, t.immediate, tree_of(t.trigger[1], places) if t.trigger else None, effects(t.effects),
                           at[t.target[1]])
         made.delay = tree_of(t.delay.code, places) if t.delay else None
+        made.count = tree_of(t.delay.count.code, places) if t.delay and t.delay.count else None
         return made
 
     def state(s):
@@ -328,6 +343,8 @@ def text_of_transition(t, states, variables):
     words = [t.kind] + ["immediate"] * t.immediate
     if t.delay is not None:
         words += ["after", text_of_expression(t.delay, variables)]
+    if t.count is not None:
+        words += ["of", text_of_expression(t.count, variables)]
     if t.trigger is not None:
         words += ["if", text_of_expression(t.trigger, variables)]
     if t.effects:
@@ -383,7 +400,7 @@ class ExtendedMachine(ChartMachine):
                 self.superstate[doer], self.path[doer], self.standing[doer] = s, self.path[self.holder[s]] + [doer], None
         self.regions = list(self.path)
         self.values = [v.initial for v in chart.variables]
-        self.now, self.entered, self.within = 0, {}, {}
+        self.now, self.entered, self.within, self.counted = 0, {}, {}, {}
 
     def saved(self):
         return *super().saved(), dict(self.entered), dict(self.within)
@@ -401,6 +418,12 @@ class ExtendedMachine(ChartMachine):
             elif v.is_signal:
                 self.values[x] = False
         super().begin(inputs)
+
+    def tick(self, inputs):
+        steps = super().tick(inputs)
+        for s, t in ((s, t) for s in self.entered for t in s.transitions if t.count is not None):
+            self.counted[t] = self.counted[t] + value(t.count, self.values) if self.entered[s] < self.now else 0
+        return steps
 
     def begin_in(self, r):
         self.act(r, r.initial(), r.initial().entry, r.states.index(r.initial()))
@@ -451,13 +474,15 @@ class ExtendedMachine(ChartMachine):
         return (set(loads(left[0].trigger)), None) if left[0].trigger is not None else access_of(*left[0].effects[0])
 
     def holds(self, s, t):
-        if t.delay is not None and self.now - self.entered[s] < value(t.delay, self.values):
-            return False
-        return super().holds(s, t)
+        return (t.delay is None or self.gone_by(s, t) >= value(t.delay, self.values)) and super().holds(s, t)
+
+    def gone_by(self, s, t):
+        """The ticks since s was entered, or in how many of them that was true which t counts, this one among them."""
+        return self.now - self.entered[s] if t.count is None else self.counted[t] + value(t.count, self.values)
 
     @staticmethod
     def asked_by(t):
-        return ChartMachine.asked_by(t) + (loads(t.delay) if t.delay else [])
+        return ChartMachine.asked_by(t) + [x for e in (t.delay, t.count) if e for x in loads(e)]
 
     def effects_of(self, s, t):
         """The exit actions of all that is active inside, those of the state, the effects of the transition, and the entry

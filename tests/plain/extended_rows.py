@@ -63,6 +63,25 @@ CHARTS = [
           "strong if A -> s; strong after 5 do x = 0 -> s; weak after 4 if B do x = x + 100 -> s; } } "
           "region M { initial state c { go after N if A do y = y + 1 -> d; } state d { go immediate if B -> c; go after N + 1 -> c; } }",
           "const int N = 2;"),
+    # counts: with triggers behind them, of what changes, of none and less, two of one state, begun anew
+    chart(f"region R {{ initial state s {{ go after 2 of A do {tells(1)} -> s; go after 3 of B if I > 0 do {tells(2)} -> t; }} "
+          f"state t {{ go after I of A or B do {tells(3)} -> s; go after 4 do {tells(4)} -> u; }} state u {{ go after -1 of A do {tells(5)} -> t; }} }}"),
+    chart(f"region R {{ initial state s {{ go after N of A and not was do {tells(1)} -> t; go after 3 of q if B do {tells(2)} -> t; }} "
+          f"state t {{ go immediate if B do {tells(3)} -> s; go after 1 of true do {tells(4)} -> s; }} }} "
+          "region Q { initial state q { go if I > 1 do emit q -> q; } }", "const int N = 2; pre bool was = A; signal q;"),
+    # of superstates, in one another, of what is written inside and beside, and set back where they are taken
+    chart("region R { initial state s { region Q { initial state a { go after 2 of A do x = x + 1 -> b; } state b { go after 1 of B do x = x + 10 -> a; } } "
+          "strong after 4 of A do x = 0 -> s; weak after 3 of x > 1 if B do x = x + 100 -> t; } state t { go after 2 of not B -> s; } } "
+          "region M { initial state c { go after N of I > 0 if A do y = y + 1 -> d; } state d { go immediate if B -> c; go after 2 of A or B -> c; } }",
+          "const int N = 2;"),
+    chart("region R { initial state s { region Q { initial state a { go if A -> b; } final state b; } strong after 3 of z do z = false, x = x + 1 -> t; "
+          "join if B -> t; } state t { go if A do z = true -> s; } } region M { initial state c { go if z do y = y + 1 -> c; } }", "local bool z = true;"),
+    # states that are left and entered in one tick, and one whose during actions set what it counts
+    chart(f"region R {{ initial state s {{ entry do {tells(1)}; exit do {tells(2)}; go after 2 of A do {tells(3)} -> t; }} "
+          f"state t {{ go immediate if B do {tells(4)} -> s; go immediate if I > 2 -> u; go after 2 of B do {tells(5)} -> s; }} "
+          f"state u {{ go after 1 of A do {tells(6)} -> s; }} }}"),
+    chart("region R { initial state s { entry do y = 0; immediate during if A do y += 1; go after 2 of y > 1 do x = x + 1 -> t; } "
+          "state t { go -> s; } }"),
     # during actions: of simple states, behind entry actions and before the transitions, which see them
     chart("region R { initial state s { entry do y = 0; during do y += 1; go if y >= 3 do x = x + 1 -> s; } }"),
     chart(f"region R {{ initial state s {{ during do {tells(1)}; immediate during if A do {tells(2)}; during if B do {tells(3)}, {tells(4)}; "

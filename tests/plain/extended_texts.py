@@ -114,6 +114,7 @@ TEXTS = {
         HEAD + REGION + "}", "extended chart extended { output int const; local bool entry; region after { initial state exit; } }",
         "extended chart P { const int const = 3; output int pre = -3; pre int after = pre; region R { initial state s { "
         "go after const + after if pre < const -> s; } } }",
+        "extended chart of { output bool of; const int after = 2; region of { initial state of { go after after of of -> of; } } }",
         HEAD + "pre int p = (x); const int M = (-(3)); output int z = -(3); const bool T = (true); " + REGION + "}",
         HEAD + "region R { initial state s { entry do x = N; exit do x = 1; entry do a = x, x = a; go -> s; } final state t { "
         "entry do x = 1; exit do x = 2; } } }",
@@ -134,7 +135,9 @@ SIMPLE = {
     "E02": [
         "go immediate ^after 3 -> t;", "go after 3 ^immediate -> t;", "go ^before 3 -> t;", "go after ^-> t;", "go after ^if i -> t;",
         "go ^After 3 -> t;", "go after 3 ^after 3 -> t;", "go if i ^after 3 -> t;", "go after 3 ^do -> t;".replace("^do ->", "do ^->"),
-        "join ^after 3 -> t;", "go ^after -> t;".replace("^after ->", "after ^->"), "go after 3 ^x = 1 -> t;", "go ^x 3 -> t;",
+        "join ^after 3 -> t;", "go ^after -> t;".replace("^after ->", "after ^->"), "go after 3 x ^= 1 -> t;", "go ^x 3 -> t;",
+        "go after 3 ^off i -> t;", "go after 3 ^Of i -> t;", "go after 3 of ^-> t;", "go after 3 of ^if i -> t;", "go after 3 of i ^of b -> t;", "go ^of i -> t;",
+        "go after 3 if b ^of i -> t;", "go immediate ^of i -> t;", "go after of i ^-> t;", "go after 3 of i ^after 3 -> t;", "go after 3 ^off ^y -> t;".replace("^y", "y"),
         "join if ^-> t;", "join ^immediate -> t;", "join if i ^after 3 -> t;", "join do x = 1 ^if i -> t;", "join ^when i -> t;",
         "go do ^emits q -> t;", "go do x = 1, ^emits q -> t;", "go do emit ^-> t;", "go do emit q ^= true -> t;", "go do ^emitted y -> t;",
         "go do x + ^= 1 -> t;", "go do x +\n^= 1 -> t;", "go do x + ^1 -> t;", "go do x +^== 1 -> t;", "go do x ^/= 2 -> t;", "go do x ^%= 2 -> t;",
@@ -142,23 +145,29 @@ SIMPLE = {
         "go do x -^- = 1 -> t;", "go do x = 1, x * ^= x -> t;",
     ],
     "E03": ["go do ^y += 1 -> t;", "go do x -= ^y -> t;", "go do ^y + = 1 -> t;", "go after ^M -> t;", "go after N + ^M if i -> t;", "go after N if ^y -> t;", "go after ^s -> t;", "go after N -> ^u;",
+            "go after 3 of ^y -> t;", "go after N of i and ^M > 1 -> t;", "go after ^M of y -> t;", "go after 3 of ^t -> t;",
             "go do emit ^y -> t;", "go do emit ^s -> t;", "go do emit ^emit -> t;"],
-    "E05": ["go do x +^= b -> t;", "go do b *^= 2 -> t;", "go do b -^= b -> t;", "go do x +^=(1 < 2) -> t;", "go after ^true -> t;", "go after ^i -> t;", "go after ^n == 3 if i -> t;", "go after N if ^n -> t;", "go after ^(i) -> t;"],
+    "E05": ["go do x +^= b -> t;", "go do b *^= 2 -> t;", "go do b -^= b -> t;", "go do x +^=(1 < 2) -> t;", "go after ^true -> t;", "go after ^i -> t;", "go after ^n == 3 if i -> t;", "go after N if ^n -> t;", "go after ^(i) -> t;",
+            "go after 3 of ^x -> t;", "go after N of ^n + 1 if i -> t;", "go after ^i of i -> t;", "go after ^b of n -> t;", "go after 3 of ^3 -> t;", "go after 1 of b if ^n -> t;"],
     "E06": ["go do ^n += 1 -> t;", "go do ^N *= 2 -> t;", "go do ^q += 1 -> t;", "go do ^n + = 1 -> t;", "^strong after 3 -> t;", "^weak after N -> t;", "go after N do ^n = 1 -> t;", "^join if i -> t;",
             "go do ^q = false -> t;", "go do emit q, ^q = q -> t;", "go do emit ^i -> t;", "go do emit ^b -> t;"],
-    "E07": ["go do x +^= 1" + " + 1" * 31 + " -> t;", "go do x +^= a" + " + a" * 15 + " -> t;", "go after ^a" + " + a" * 16 + " -> t;", "go after ^1" + " + 1" * 32 + " -> t;"],
-    None: ["go do x += 1, x-=n * 2, x *= -3, a +=x -> t;", "go do x += 1" + " + 1" * 30 + " -> t;", "go do x -= -1, x -= (2 - n) -> t;"],
+    "E07": ["go do x +^= 1" + " + 1" * 31 + " -> t;", "go do x +^= a" + " + a" * 15 + " -> t;", "go after ^a" + " + a" * 16 + " -> t;", "go after ^1" + " + 1" * 32 + " -> t;",
+            "go after 3 of ^b" + " or b" * 16 + " -> t;", "go after 3 of ^1 == 1" + " + 1" * 31 + " -> t;"],
+    None: ["go do x += 1, x-=n * 2, x *= -3, a +=x -> t;", "go do x += 1" + " + 1" * 30 + " -> t;", "go do x -= -1, x -= (2 - n) -> t;",
+           "go after 3 of i -> t;", "go after n + N of i and x < 3 if b do x = 1 -> t; go after 2 of q -> s;", "go after -1 of (b or not i) do emit q -> t;",
+           "go after 1 of b if i -> s; go after 2 of b if i -> t; go after 2 if i -> t;"],
 }
 
 
 # transitions of a superstate s, beside a state t
 SUPER = {
-    "E02": ["join if b ^-> -> t;".replace("^-> ->", "-> ^->"), "join if ^do x = 1 -> t;", "join ^if1 b -> t;"],
+    "E02": ["join ^of b -> t;", "join if b ^of b -> t;", "weak after 3 ^if1 b -> t;", "join if b ^-> -> t;".replace("^-> ->", "-> ^->"), "join if ^do x = 1 -> t;", "join ^if1 b -> t;"],
     "E03": ["join if ^y -> t;", "join if b and ^M == 3 -> t;", "join if b do emit ^y -> t;", "join if b -> ^u;", "join if ^s do x = 1 -> t;"],
     "E05": ["join if ^x -> t;", "join if ^N + 1 -> t;", "join if b do x = ^b -> t;", "join if ^(1) -> t;"],
     "E06": ["join if b -> t; ^join if q -> t;", "join -> t; ^join if q -> t;", "join if q do ^q = true -> t;"],
     "E07": ["join if ^b" + " and b" * 16 + " -> t;"],
-    None: ["join if q and N == 3 do emit q, x = 1 -> s;", "weak if b -> t; join if not b -> t; strong after 3 -> t;", "join if b -> t;"],
+    None: ["join if q and N == 3 do emit q, x = 1 -> s;", "weak if b -> t; join if not b -> t; strong after 3 -> t;", "join if b -> t;",
+           "strong after 3 of b -> t; weak after N of not i if q -> s; join if b -> t;"],
 }
 
 
@@ -217,7 +226,7 @@ class ExtendedGenerator(ChartGenerator):
         self.items = [Declared(v.name, v.role, v.kind, self.initial(v)) for v in VARIABLES] + CONSTANTS + SIGNALS + was
         self.signals = [PLAIN + len(CONSTANTS) + x for x in range(len(SIGNALS))]
         # how often each of what is new stands where it may, and whether each region stands alone: in such a chart nothing clashes
-        self.share = {word: r.choice([0, 0.2, 0.7]) for word in ("new", "after", "entry", "exit", "during", "emit", "hold")}
+        self.share = {word: r.choice([0, 0.2, 0.7]) for word in ("new", "after", "of", "entry", "exit", "during", "emit", "hold")}
         self.share["signal"] = r.choice([0, 0, 0.1, 0.3])
         self.is_alone = r.random() < 0.5
         self.super_chances = (0.7, 0.5) if self.is_alone else self.super_chances
@@ -252,11 +261,12 @@ class ExtendedGenerator(ChartGenerator):
     def transition(self, kind, at, states):
         r = self.random
         made = super().transition(kind, at, states)
-        made.delay = None
+        made.delay = made.count = None
         if kind == "join" and r.random() < self.share["hold"]:
             made.trigger = self.trigger()
         if kind != "join" and not made.immediate and r.random() < self.share["after"]:
             made.delay = r.choice([("value", 1), ("value", 2), ("value", 3), ("load", PLAIN), ("add", ("load", PLAIN), ("value", 1)), ("load", 2)])
+            made.count = self.trigger() if r.random() < self.share["of"] else None
             made.trigger = made.trigger if r.random() < 0.3 else None
         return made
 
@@ -292,12 +302,13 @@ def by_inputs(chart):
         v.role = "input" if v.role == "pre" else v.role
     for t in (t for s in states_of(made.regions) for t in s.transitions if t.delay is not None):
         is_over = ("greater or equal", ("load", 2), t.delay)
-        t.trigger, t.delay = ("and", is_over, t.trigger) if t.trigger else is_over, None
+        is_over = ("and", t.count, is_over) if t.count else is_over
+        t.trigger, t.delay, t.count = ("and", is_over, t.trigger) if t.trigger else is_over, None, None
     return made
 
 
 WORDS = CHART_WORDS + ("extended chart const pre entry exit during immediate if after signal emit do = + - * ; N M T sig seen was_x const int pre bool signal s; entry do "
-                       "emit sig a__b x__ after 3").split()
+                       "emit sig a__b x__ after 3 of A after of").split()
 
 
 def damaged_texts(seed, r):

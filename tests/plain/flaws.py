@@ -2,20 +2,33 @@
 import re
 
 from chart_reader import begins_a_chart, chart_draft_of
+from extended import extended_flaws
 from reader import NAME, Fault, draft_of, tokens
 
 TOLD = 20
 ROLES, KINDS = ["input", "output", "local"], ["bool", "int"]
 
 
+def begins_extended(text):
+    """Whether the first token is the word `extended`."""
+    return re.match(rb"(\s|//[^\n]*(\n|$))*extended(?![A-Za-z0-9_])", text) is not None
+
+
+def all_flaws(text):
+    """The flaws of the draft that a text spells, or a Fault."""
+    if begins_extended(text):
+        return extended_flaws(text)[-1]
+    draft = chart_draft_of(text) if begins_a_chart(text) else draft_of(text)
+    return draft[-1].flaws
+
+
 def told_flaws(text):
     """The flaws of a text that are told, each as (place, number): the fault of one that the grammar does not have, or the first
     twenty of the others, in the order of the text, each once."""
     try:
-        draft = chart_draft_of(text) if begins_a_chart(text) else draft_of(text)
+        return sorted(set(all_flaws(text)))[:TOLD]
     except Fault as fault:
         return [(fault.place, fault.number)]
-    return sorted(set(draft[-1].flaws))[:TOLD]
 
 
 def spot(text, place):

@@ -25,7 +25,7 @@ RANKS = [
 NESTED = """chart N { input bool A; input bool B; output int n; region M { initial state O { region R { initial state I { region P {
 initial state a; } %s if A do n = n + 1 -> t; } state t; } %s if B -> T; } state T; } }"""
 # of kinds inside and outside, whether the core follows each run as layered charts are followed, and as nested ones may be
-FOLLOWED = [("strong", "strong", False, True), ("strong", "weak", True, True), ("weak", "strong", False, True),
+FOLLOWED = [("strong", "strong", False, True), ("strong", "weak", True, True), ("weak", "strong", True, True),
             ("weak", "weak", False, False)]
 
 # an outer weak abort that reads what a region beside the inner one writes

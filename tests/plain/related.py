@@ -3,7 +3,8 @@ crates/abort_expansion_laws/specs/Related: given the chart's, where each thread 
 
 Where aborts lie in aborts, a monitor has the weak checks of the superstates around it behind its tests, as a simple state has, and
 their strong checks in front, as long as one of them guards; and who was woken inside of a superstate that guards may guard.
-`is_layered` leaves the last two away, as the relation of layered charts does."""
+With `is_layered`, as in the relation of layered charts, nobody who was woken there guards, and a monitor has the strong checks in
+front until its first weak test (`unseen`)."""
 from expansion import aborts
 
 
@@ -17,6 +18,8 @@ class Relation:
     def __init__(self, machine, expansion, core, is_layered=False):
         self.c, self.d, self.known, self.is_layered = machine, core, expansion.known, is_layered
         self.thread, self.main, self.entry, self.behind, self.watcher, self.place = {}, {}, {}, {}, {}, {}
+        # superstates whose monitors have yet to look at the strong flags around
+        self.unseen = set()
         for region, made in zip(machine.chart.regions, expansion.chart.regions, strict=True):
             self.match(region, made)
         self.region_of = {t: r for r, t in self.thread.items()}
@@ -107,7 +110,8 @@ class Relation:
         raised = [own[order.index(t)] for t in tests if t.kind != "join"]
         rest = own[len(o.of_kind("strong")):] if where == "guarding" else own[len(order):]
         if self.is_layered:
-            return "trying", watching, raised + rest + watching.transitions[len(watching.transitions) - weak:]
+            checks = watching.transitions[:strong] if o in self.unseen else []
+            return "trying", watching, checks + raised + rest + watching.transitions[len(watching.transitions) - weak:]
         return "trying", watching, self.tests_of(r, watching, raised + rest)
 
     def wanted(self, t):
@@ -142,6 +146,9 @@ class Relation:
                     yield f"{r.name} is there, and {s.name} around it is not open"
                 if c.standing[c.holder[s]][0] in ("entering", "guarding") and standing[0] not in woken:
                     yield f"{r.name} is {standing[0]}, and {s.name} around it guards"
+        for o in self.watcher if self.is_layered else []:
+            if self.is_inside(o) and c.is_guarded(c.holder[o]) and o not in self.unseen:
+                yield f"the monitor of {o.name} has looked, and somebody around guards"
         for s in self.known:
             standing = c.standing[c.holder[s]]
             if self.is_inside(s) and any(c.standing[r] is None for r in s.regions):

@@ -84,6 +84,7 @@ class Simulation:
     def leave(self, r, s, where):
         """An abort of s was taken: all inside leaves, the fork is joined, and the answer is taken."""
         watcher, fork, home = self.relation.watcher.get(s), self.relation.main[s], self.relation.thread[r]
+        self.relation.unseen -= {o for o in self.relation.unseen if o is s or s in self.c.around(self.c.holder[o])}
         if self.d.standing[watcher][0] == "acting":
             self.silent(watcher)
         inside = sorted(self.d.inside(fork), key=lambda t: -len(self.d.path[t]))
@@ -103,6 +104,11 @@ class Simulation:
 
     def abort_test(self, r, s, where, access):
         stage = 0 if where == "guarding" else 2
+        if where == "within" and s in self.relation.unseen:
+            # before its first weak test the monitor looks at the strong flags around
+            for _ in range(self.relation.checks(r)[0]):
+                self.silent(self.relation.watcher[s])
+            self.relation.unseen.remove(s)
         self.image(r, self.relation.watcher[s], [(self.home(s), stage)], access)
 
     def holds(self, t):
@@ -149,6 +155,8 @@ class Simulation:
         self.log, self.reached, self.is_admissible = [], {}, True
         self.c.begin(tick)
         self.d.begin(tick)
+        is_late = self.relation.is_layered and not is_first
+        self.relation.unseen = {o for o in self.relation.watcher if is_late and self.relation.is_inside(o)}
         if is_first:
             self.settle()
         else:

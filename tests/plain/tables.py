@@ -134,8 +134,8 @@ def raised(count, step):
     return False
 
 
-def least_tables(graph, flow, protocol):
-    """The least tables, or the fault that there are none: "E13" or "E12"."""
+def ends_alone(graph):
+    """Tables with the least end bits alone."""
     q = Tables(graph)
 
     def ends():
@@ -144,6 +144,14 @@ def least_tables(graph, flow, protocol):
             if not q.ends[n] and may_end(graph, q, node):
                 q.ends[n] = changed = True
         return changed
+
+    raised(len(graph.nodes) + 1, ends)
+    return q
+
+
+def least_tables(graph, flow, protocol):
+    """The least tables, or the fault that there are none: "E13" or "E12"."""
+    q = ends_alone(graph)
 
     def weights():
         changed = False
@@ -161,7 +169,6 @@ def least_tables(graph, flow, protocol):
                     q.priorities[m], changed = q.priorities[n] + more, True
         return changed
 
-    raised(len(graph.nodes) + 1, ends)
     if not raised(len(graph.nodes) + 2, weights):
         return "E13"
     if not raised(len(graph.nodes) + 2, priorities):

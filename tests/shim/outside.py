@@ -11,7 +11,7 @@ import threading
 import time
 
 from cases import OLD, bytes_of, compiled
-from runs import new_room, shown
+from runs import Room, new_room, shown
 
 TRACE = b'{"out":{"x":1,"y":1},"steps":7,"tick":1}\n{"out":{"x":1,"y":1},"steps":0,"tick":2}\n'
 FIRST = TRACE[:TRACE.index(b"\n") + 1]
@@ -20,7 +20,7 @@ TWO = b"scl P { output int x; output int y; fork { x = 1; } par { y = x; } join;
 NOBODY = 65534
 
 
-class Outside:
+class Outside(Room):
     """A folder with an image and a text, and runs in it."""
 
     def __init__(self, program, tally):
@@ -29,13 +29,6 @@ class Outside:
         self.image = bytes_of("examples", "two_threads.image")
         self.put("image", self.image)
         self.put("source", TWO)
-
-    def path(self, name):
-        return os.path.join(self.room, name)
-
-    def put(self, name, data):
-        with open(self.path(name), "wb") as file:
-            file.write(data)
 
     def get(self, name):
         """The bytes of a file; None where there is none."""

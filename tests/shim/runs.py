@@ -75,7 +75,18 @@ class Left(NamedTuple):
         return self.started == self.ended and self.live <= right.live + self.started
 
 
-class Served:
+class Room:
+    """A folder, whose name is `room`, with files by their names in it."""
+
+    def path(self, name):
+        return os.path.join(self.room, name)
+
+    def put(self, name, data):
+        with open(self.path(name), "wb") as file:
+            file.write(data)
+
+
+class Served(Room):
     """The program with its words, in a folder of its own. Files of the folder are named in `files`, with their bytes;
     those named `input`, `output` and `errors` are the streams."""
 
@@ -104,13 +115,6 @@ class Served:
         self.process.wait()
         os.close(self.answers)
         shutil.rmtree(self.room)
-
-    def path(self, name):
-        return os.path.join(self.room, name)
-
-    def put(self, name, data):
-        with open(self.path(name), "wb") as file:
-            file.write(data)
 
     def get(self, name):
         with open(self.path(name), "rb") as file:

@@ -15,7 +15,7 @@ use crate::names::first_name;
 use crate::pieces::{NextNumbers, Regions, StatePieces};
 use crate::places::RegionPlaces;
 use crate::states::{abandoned, simple};
-use crate::superstates::{is_prepared, stays, superstate_over};
+use crate::superstates::{Superstate, is_prepared, stays, superstate_over};
 use core_charts::{Region, State};
 use sc_graph::VariableId;
 use sqlite_items::Items;
@@ -149,9 +149,17 @@ fn expanded_state(
     let flags = flags_of(weak_around(around), own, at.variable)?;
     let inside = inside_superstate(alloc, state, around, flags, at)?;
     let regions = region_count(state.regions.as_slice())?;
-    superstate_over(
-        alloc, state.name, regions, own, around, flags, inside, to, place, begins, at,
-    )
+    let superstate = Superstate {
+        name: state.name,
+        regions,
+        own,
+        around,
+        flags,
+        place,
+        begins,
+        at,
+    };
+    superstate_over(alloc, &superstate, inside, to)
 }
 
 // What is inside a superstate with these flags.

@@ -18,6 +18,20 @@ use sc_values::{Kind, Name};
 use sqlite_items::Items;
 use std::alloc::{AllocError, Global};
 
+/// A superstate: its name, how many regions it has, its transitions, the flags of those around it and its own, the
+/// place of its first state in its region, whether that begins in it, and the numbers that come next.
+#[derive(Clone, Copy)]
+pub(crate) struct Superstate<'a> {
+    pub(crate) name: Name,
+    pub(crate) regions: u16,
+    pub(crate) own: &'a [Transition],
+    pub(crate) around: &'a [Flags],
+    pub(crate) flags: Flags,
+    pub(crate) place: u32,
+    pub(crate) begins: bool,
+    pub(crate) at: NextNumbers,
+}
+
 /// Whether a superstate stays as it is: it has no aborts, and none enclose it.
 pub(crate) fn stays(around: &[Flags], own: &[Transition]) -> bool
     ensures { result ≡ stays around.now own.now }
@@ -71,23 +85,22 @@ fn standing(
     Ok(stands_for)
 }
 
+// It stays as it is.
 fn as_it_is(
     alloc: Global,
-    name: Name,
-    own: &[Transition],
+    it: &Superstate<'_>,
     inside: Regions,
     to: &RegionPlaces,
-    begins: bool,
-    at: NextNumbers,
 ) -> Result<StatePieces, AllocError>
-    ensures { IfOk result (λ made. made ≡ as_it_is name own.now inside to.now begins at) }
+    ensures { IfOk result (λ made. made
+        ≡ as_it_is it.now.name it.now.own.now inside to.now it.now.begins it.now.at) }
 {
-    let transitions = to.all_led(alloc, own)?;
+    let transitions = to.all_led(alloc, it.own)?;
     let states = alone(
         alloc,
         State {
-            name,
-            is_initial: begins,
+            name: it.name,
+            is_initial: it.begins,
             is_final: false,
             regions: inside.regions,
             transitions,
@@ -96,28 +109,35 @@ fn as_it_is(
     Ok(StatePieces {
         states,
         variables: inside.variables,
-        stands_for: standing(alloc, at.state, inside.stands_for)?,
+        stands_for: standing(alloc, it.at.state, inside.stands_for)?,
     })
 }
 
+// The state that prepares it.
 fn prepared(
     alloc: Global,
-    regions: u16,
-    own: &[Transition],
-    flags: Flags,
+    it: &Superstate<'_>,
     to: &RegionPlaces,
-    place: u32,
-    begins: bool,
-    at: NextNumbers,
 ) -> Result<StatePieces, AllocError>
-    ensures { IfOk result (λ made. made ≡ prepared regions own.now flags to.now place begins at) }
+    ensures { IfOk result (λ made. made
+        ≡ prepared it.now.regions it.now.own.now it.now.flags to.now
+        it.now.place it.now.begins it.now.at) }
 {
-    let fork = next(place)?;
-    let state = preparation(alloc, at.superstate, flags, regions, own, to, fork, begins)?;
+    let fork = next(it.place)?;
+    let state = preparation(
+        alloc,
+        it.at.superstate,
+        it.flags,
+        it.regions,
+        it.own,
+        to,
+        fork,
+        it.begins,
+    )?;
     Ok(StatePieces {
         states: alone(alloc, state)?,
         variables: Items::new(alloc),
-        stands_for: alone(alloc, Some(at.state))?,
+        stands_for: alone(alloc, Some(it.at.state))?,
     })
 }
 
@@ -164,26 +184,24 @@ fn monitor_stands_for(alloc: Global, own: &[Transition]) -> Result<Items<Option<
 // The fork with what is inside it, and the continuation state.
 fn forked(
     alloc: Global,
-    name: Name,
-    own: &[Transition],
-    around: &[Flags],
-    flags: Flags,
+    it: &Superstate<'_>,
     inside: Regions,
     to: &RegionPlaces,
-    place: u32,
-    begins: bool,
-    at: NextNumbers,
 ) -> Result<StatePieces, AllocError>
-    ensures { IfOk result (λ made. made ≡ forked name own.now around.now flags inside to.now place begins at) }
+    ensures { IfOk result (λ made. made
+        ≡ forked it.now.name it.now.own.now it.now.around.now it.now.flags inside to.now
+        it.now.place it.now.begins it.now.at) }
 {
+    let number = it.at.superstate;
     let mut regions = inside.regions;
-    let mut stands_for = standing(alloc, at.state, inside.stands_for)?;
-    regions.append(watched(alloc, at.superstate, around, flags, own)?)?;
-    stands_for.append(monitor_stands_for(alloc, own)?)?;
-    stands_for.push(Some(at.state))?;
-    let mut states = alone(alloc, fork(alloc, name, begins, regions, next(place)?)?)?;
-    states.push(continuation(alloc, at.superstate, around, flags, to, own)?)?;
-    let mut variables = declarations(alloc, at.superstate, flags)?;
+    let mut stands_for = standing(alloc, it.at.state, inside.stands_for)?;
+    regions.append(watched(alloc, number, it.around, it.flags, it.own)?)?;
+    stands_for.append(monitor_stands_for(alloc, it.own)?)?;
+    stands_for.push(Some(it.at.state))?;
+    let behind = next(it.place)?;
+    let mut states = alone(alloc, fork(alloc, it.name, it.begins, regions, behind)?)?;
+    states.push(continuation(alloc, number, it.around, it.flags, to, it.own)?)?;
+    let mut variables = declarations(alloc, number, it.flags)?;
     variables.append(inside.variables)?;
     Ok(StatePieces {
         states,
@@ -192,56 +210,49 @@ fn forked(
     })
 }
 
+// The fork and the continuation state, behind the state that prepares it where it is prepared.
 fn split(
     alloc: Global,
-    name: Name,
-    regions: u16,
-    own: &[Transition],
-    around: &[Flags],
-    flags: Flags,
+    it: &Superstate<'_>,
     inside: Regions,
     to: &RegionPlaces,
-    place: u32,
-    begins: bool,
-    at: NextNumbers,
 ) -> Result<StatePieces, AllocError>
-    ensures { IfOk result (λ made. made ≡ split name regions own.now around.now flags inside to.now place begins at) }
+    ensures { IfOk result (λ made. made
+        ≡ split it.now.name it.now.regions it.now.own.now it.now.around.now it.now.flags inside to.now
+        it.now.place it.now.begins it.now.at) }
 {
-    if !is_prepared(around, own) {
-        return forked(
-            alloc, name, own, around, flags, inside, to, place, begins, at,
-        );
+    if !is_prepared(it.around, it.own) {
+        return forked(alloc, it, inside, to);
     }
-    let mut made = prepared(alloc, regions, own, flags, to, place, begins, at)?;
-    let behind = next(place)?;
-    made.put(forked(
-        alloc, name, own, around, flags, inside, to, behind, false, at,
-    )?)?;
+    let mut made = prepared(alloc, it, to)?;
+    let behind = Superstate {
+        name: it.name,
+        regions: it.regions,
+        own: it.own,
+        around: it.around,
+        flags: it.flags,
+        place: next(it.place)?,
+        begins: false,
+        at: it.at,
+    };
+    made.put(forked(alloc, &behind, inside, to)?)?;
     Ok(made)
 }
 
-/// The states of a superstate of this name, so many regions and these transitions, over what is inside it.
+/// The states of a superstate, over what is inside it.
 pub(crate) fn superstate_over(
     alloc: Global,
-    name: Name,
-    regions: u16,
-    own: &[Transition],
-    around: &[Flags],
-    flags: Flags,
+    it: &Superstate<'_>,
     inside: Regions,
     to: &RegionPlaces,
-    place: u32,
-    begins: bool,
-    at: NextNumbers,
 ) -> Result<StatePieces, AllocError>
-    ensures { IfOk result (λ made. made
-        ≡ superstate_over name regions own.now around.now flags inside to.now place begins at) }
+    ensures { IfOk result (λ made. made ≡ superstate_over
+        it.now.name it.now.regions it.now.own.now it.now.around.now it.now.flags inside to.now
+        it.now.place it.now.begins it.now.at) }
 {
-    if stays(around, own) {
-        as_it_is(alloc, name, own, inside, to, begins, at)
+    if stays(it.around, it.own) {
+        as_it_is(alloc, it, inside, to)
     } else {
-        split(
-            alloc, name, regions, own, around, flags, inside, to, place, begins, at,
-        )
+        split(alloc, it, inside, to)
     }
 }

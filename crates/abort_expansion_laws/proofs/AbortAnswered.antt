@@ -13,7 +13,7 @@ use Rattle.chart_machine.specs.declared.standing.Standing.TheVariants as at
 use Rattle.chart_machine.specs.declared.standing.Configuration.{Configuration}
 use Rattle.chart_machine.specs.declared.table.Table.{Table}
 use Rattle.chart_machine.specs.Table.{state_at, region_at}
-use Rattle.chart_machine.specs.Turns.{standing_of, is_guarded, inside}
+use Rattle.chart_machine.specs.Turns.{standing_of, has_work, is_guarded, inside}
 use Rattle.chart_machine.specs.Steps.{moved, acts, access_of, access_of_trigger, step}
 use Rattle.chart_machine.specs.Machine.{machine}
 use Rattle.abort_expansion.specs.Transitions.{counting, place_of}
@@ -22,7 +22,7 @@ use Rattle.abort_expansion_laws.proofs.Supplying.{climbs_fewer, tests}
 use Rattle.abort_expansion_laws.proofs.Simulation.{Segment, segment_on}
 use Rattle.abort_expansion_laws.proofs.SilentSteps.{AtHome, climbs_home, silent_step}
 use Rattle.chart_machine_laws.proofs.LyingIn.{IsNested, LiesUnder, around, holder}
-use Rattle.abort_expansion_laws.proofs.TablesCorrespond.{IsThere}
+use Rattle.abort_expansion_laws.proofs.TablesCorrespond.{IsThere, contains_map}
 use Rattle.abort_expansion_laws.proofs.MoreValues.{same_verdict}
 use Rattle.abort_expansion_laws.proofs.FlagAccess.{number_access}
 use Rattle.abort_expansion.specs.Superstates.{stays}
@@ -30,9 +30,9 @@ use Rattle.tick_laws.proofs.Lists.{map_contains}
 use Rattle.chart_machine_laws.proofs.ChartTables.{around_there}
 use Rattle.abort_expansion_laws.specs.CoreRows.{own, IsState, Images, CoreRows, flags_around, pair}
 use Rattle.abort_expansion_laws.specs.Related.{Stands, outside, ended, left, trying, acting, entering, guarding, staying, within, behind, IsInside}
-use Rattle.abort_expansion_laws.specs.Related.{Stores, Related, Watches, waits, elsewhere}
+use Rattle.abort_expansion_laws.specs.Related.{Stores, Related, Watches, waits, looks, elsewhere}
 use Rattle.abort_expansion_laws.specs.Related.{guards as watch_guards}
-use Rattle.abort_expansion_laws.proofs.MayLeave.{is_forked}
+use Rattle.abort_expansion_laws.proofs.MayLeave.{is_forked, AreOuterOne}
 use Rattle.abort_expansion_laws.proofs.TerminationImage.{at_most_three}
 use Rattle.abort_expansion_laws.proofs.Unchanged.{get_other, get_same, unguarded}
 use Rattle.abort_expansion_laws.proofs.StageReached.{Stage, stage_of, holds_other}
@@ -44,7 +44,7 @@ use Rattle.abort_expansion_laws.proofs.Leaving.{drops, set_here, set_other, set_
 use Rattle.abort_expansion_laws.proofs.StandsInside.{only_inside, inside_not_over, inside_present, inside_not_acting}
 use Rattle.abort_expansion_laws.proofs.DropsOut.{DropsOut, dropped_out}
 use Rattle.abort_expansion_laws.proofs.DroppedInside as now
-use Rattle.abort_expansion_laws.proofs.StagesAfterDrop.{outer_stage, others_stay, reached_now}
+use Rattle.abort_expansion_laws.proofs.StagesAfterDrop.{outer_stage, outer_low, others_stay, reached_now}
 use Rattle.abort_expansion_laws.proofs.AbortNext.{AbortNext}
 use Rattle.abort_expansion_laws.proofs.AbortTaken as taken
 
@@ -111,6 +111,7 @@ module _ (k core : Table) (i : Images) (rows : CoreRows k core i) (more : Layere
   watch_plain : (u : ℕ) (w v : Standing) → Watches k core i u w v → is_forked v ≡ false
   watch_plain u _ _ (watch_guards some among) = refl
   watch_plain u _ _ (waits some ends among only) = refl
+  watch_plain u _ _ (looks first some ends among only) = refl
   watch_plain u _ _ (elsewhere w a b) = refl
 
   -- of whichever thread, no stage above 3 is reached
@@ -145,6 +146,19 @@ module _ (k core : Table) (i : Images) (rows : CoreRows k core i) (more : Layere
       (λ q q_there is in_o forked. never (subst (λ g. Contains (around core g) (i.main_of o)) (sym is) (in_fork q in_o))
       (subst (λ g. is_forked (standing_of d g) ≡ true) (sym is) forked))
 
+  -- of who holds a superstate around r no stage but 1 is reached, since r goes on
+  pub outer_one : AreOuterOne core (Stage k i.thread_of c1 d) (i.thread_of r)
+  outer_one v around_home =
+      let u = contains_map i.main_of (around k r) v (subst (λ zs. Contains zs v) (rows.encloses r) around_home) in
+      let home_is : i.thread_of (holder k u.0) ≡ holder core v = sym (rows.held u.0) ∙ ap (holder core) u.2 in
+      let under : LiesUnder k r (holder k u.0) = inl (u.0, u.1, refl) in (
+        λ n before.
+            outer_low k core i rows tree children c d related r o next.there next.held present next.works next.free Spared inside_low c1
+            (ap (stage_of k c1) here) gone same (ap (has_work k c1) here) (holder k u.0) under n
+            (subst (λ h. Stage k i.thread_of c1 d h n) (sym home_is) before),
+        subst (λ h. Stage k i.thread_of c1 d h 1) home_is (outer (holder k u.0) under).1.1,
+      )
+
   stage_now : (last : Configuration) (h s : ℕ) → AtHome (Stage k i.thread_of c1 d) (i.thread_of r) 0 h s → Stage k i.thread_of c1 last h s
   stage_now = reached_now k core i rows tree children c d related r o next.there next.held present next.works next.free Spared inside_low c1
       (ap (stage_of k c1) here) gone same
@@ -153,21 +167,21 @@ module _ (k core : Table) (i : Images) (rows : CoreRows k core i) (more : Layere
 
   abbrev IsAnswering : Configuration → Type 0
   IsAnswering = taken.IsAnswering k core i rows more tree core_tree deep core_children children counts written_at Told told c d related r o stage x t next
-      (Stage k i.thread_of c1 d) told_test outer stay forks_low
+      (Stage k i.thread_of c1 d) told_test outer stay forks_low outer_one
 
   abbrev pub first : Segment (machine core) corr Told d (Stage k i.thread_of c d) (λ last. AtHome (Stage k i.thread_of c1 d) (i.thread_of r) 0)
       (act_of (machine k) c r ∷ []) IsAnswering
   first = taken.answering_on k core i rows more tree core_tree deep core_children children counts written_at Told told c d related r o stage x t next
-      (Stage k i.thread_of c1 d) told_test outer stay forks_low
+      (Stage k i.thread_of c1 d) told_test outer stay forks_low outer_one
 
   abbrev raised_to : Value
   raised_to = taken.raised_to k core i rows more tree core_tree deep core_children children counts written_at Told told c d related r o stage x t next
       (Stage k i.thread_of c1 d)
 
   empty : taken.Emptied k core i rows more tree core_tree deep core_children children counts written_at Told told c d related r o stage x t next
-      (Stage k i.thread_of c1 d) told_test outer stay forks_low first.last
+      (Stage k i.thread_of c1 d) told_test outer stay forks_low outer_one first.last
   empty = taken.emptied k core i rows more tree core_tree deep core_children children counts written_at Told told c d related r o stage x t next
-      (Stage k i.thread_of c1 d) told_test outer stay forks_low
+      (Stage k i.thread_of c1 d) told_test outer stay forks_low outer_one
 
   -- ---- what is reached corresponds
 

@@ -13,15 +13,24 @@ use Rattle.chart_machine.specs.declared.standing.Configuration.{Configuration}
 use Rattle.chart_machine.specs.declared.table.Table.{Table}
 use Rattle.chart_machine.specs.Turns.{standing_of, has_work, is_guarded, inside}
 use Rattle.chart_machine.specs.Steps.{state_in, verdict, access_of, access_of_trigger}
-use Rattle.abort_expansion.specs.Transitions.{put, is_raised, go, answers}
+use Rattle.abort_expansion.specs.Transitions.{put, is_raised, go, answers, strong_checks}
 use Rattle.chart_machine_laws.specs.Tree.{IsNested, IsThere, around, holder}
-use Rattle.abort_expansion_laws.specs.CoreRows.{own, IsState, IsSuper, joins, Images, CoreRows, behind_transitions, pair}
+use Rattle.abort_expansion_laws.specs.CoreRows.{own, IsState, IsSuper, joins, Images, CoreRows, flags_around, behind_transitions, pair}
+use Rattle.abort_expansion_laws.specs.Stages.{ReadsFlag}
 use Rattle.abort_expansion_laws.specs.Related.{IsInside}
 use Rattle.abort_expansion_laws.specs.StageReached.{stage_of}
 use Rattle.abort_expansion_laws.proofs.MayLeave.{MayLeave}
 use Rattle.abort_expansion_laws.proofs.Answering.{AllFail}
 
 module _ (k core : Table) (i : Images) (rows : CoreRows k core i) (tree : IsNested k) (counts : ℕ → Bool) (written_at : ℕ → ℕ) where
+  -- y, a strong flag of a superstate s around region r, is not raised, and is another one than x
+  pub record IsDownAround (d : Configuration) (r x s y : ℕ) : Type 0 where
+    pub added : length k.variables ≤ y
+    pub differs : y ≢ x
+    pub low : slice_get d.variables y ≡ Some (value_is.Int (pos 0))
+    pub home_is : (pair k core i rows tree counts written_at).home y ≡ i.thread_of (holder k s)
+    pub reads : ReadsFlag (pair k core i rows tree counts written_at) (i.thread_of r) (Some ((pair k core i rows tree counts written_at).home y, 1)) y
+
   -- region r holds superstate o, whose abort t is tested at this stage, and raises flag x
   pub record AbortNext (c d : Configuration) (r o stage x : ℕ) (t : Transition) : Type 0 where
     pub there : IsThere k r
@@ -59,11 +68,14 @@ module _ (k core : Table) (i : Images) (rows : CoreRows k core i) (tree : IsNest
         ((g : ℕ) → g ≢ i.watcher_of o → standing_of first g ≡ standing_of d g) → standing_of first (i.watcher_of o) ≡ at.Ended → (g : ℕ) →
         Contains (around core g) (i.main_of o) →
         MayLeave core (pair k core i rows tree counts written_at) (i.thread_of r) (suc stage) (i.main_of o) first g (standing_of first g)
-    -- the continuation answers it, after tests that fail
+    -- the continuation looks at the strong flags around, and answers it, after tests that fail
+    pub around_down : (s y : ℕ) → Contains (around k r) s → (i.flags_of s).strong ≡ Some y → IsDownAround d r x s y
     pub earlier : List Transition
     pub aborts : List Transition
     pub behind_them : List Transition
     pub numbered : slice_get aborts number ≡ Some t
-    pub continues : at_once (behind_transitions k core i r o) ≡ earlier ++ at_once (answers (i.places_of r) (Some x) 1 aborts ++ behind_them)
+    pub continues : at_once (behind_transitions k core i r o) ≡
+        strong_checks true (i.places_of r).left (flags_around k core i r)
+        ++ (earlier ++ at_once (answers (i.places_of r) (Some x) 1 aborts ++ behind_them))
     pub earlier_fail : (values : List Value) → ((y : ℕ) → y ≢ x → slice_get values y ≡ slice_get d.variables y) →
         AllFail (pair k core i rows tree counts written_at) (i.thread_of r) values earlier

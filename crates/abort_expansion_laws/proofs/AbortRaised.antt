@@ -33,7 +33,7 @@ use Rattle.abort_expansion_laws.proofs.StrongNotTaken.{trigger_plain}
 use Rattle.abort_expansion_laws.proofs.CoreSteps.{takes, writes_last}
 use Rattle.abort_expansion_laws.proofs.AllLeave.{all_leave}
 use Rattle.abort_expansion_laws.proofs.OneLeaves.{Left, Staying}
-use Rattle.abort_expansion_laws.proofs.MayLeave.{is_forked}
+use Rattle.abort_expansion_laws.proofs.MayLeave.{is_forked, AreOuterOne}
 use Rattle.abort_expansion_laws.proofs.Leaving.{set_length}
 use Rattle.abort_expansion_laws.proofs.AbortNext.{AbortNext}
 
@@ -133,7 +133,8 @@ module _ (k core : Table) (i : Images) (rows : CoreRows k core i) (tree : IsNest
       (((u : ℕ) → Stage k i.thread_of c d (i.thread_of b) u → u ≤ 1) × Others (i.thread_of b) 1))
       (others_stay : (h s : ℕ) → h ≢ i.thread_of r → (Contains (around core h) (i.main_of o) → is_forked (standing_of d h) ≡ true → ⊥) →
       Stage k i.thread_of c d h s → Others h s)
-      (forks_low : (h s : ℕ) → Contains (around core h) (i.main_of o) → is_forked (standing_of d h) ≡ true → Stage k i.thread_of c d h s → s ≤ 3) where
+      (forks_low : (h s : ℕ) → Contains (around core h) (i.main_of o) → is_forked (standing_of d h) ≡ true → Stage k i.thread_of c d h s → s ≤ 3)
+      (outer_one : AreOuterOne core Others (i.thread_of r)) where
     -- until all has left, a thread inside that stands in a fork may have reached what it had
     abbrev Mid : ℕ → ℕ → Type 0
     Mid = Staying core core_tree deep corr Told told Others (i.thread_of r) (suc stage) (i.main_of o) d2 quiet2
@@ -230,7 +231,7 @@ module _ (k core : Table) (i : Images) (rows : CoreRows k core i) (tree : IsNest
 
     leave_steps : Segment (machine core) corr Told d2 (AtHome Mid (i.thread_of r) (suc stage)) (λ last. AtHome Others (i.thread_of r) (suc stage)) [] AllLeft
     leave_steps =
-        all_leave core core_tree deep corr Told told Others (i.thread_of r) (suc stage) (i.main_of o) d2 quiet2 home_out
+        all_leave core core_tree deep corr Told told Others (i.thread_of r) (suc stage) (i.main_of o) d2 quiet2 home_out outer_one
         (next.leaves d2 raised other_value other2 here2)
 
     -- the test, the raising and the leaving

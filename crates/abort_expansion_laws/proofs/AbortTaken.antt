@@ -1,8 +1,9 @@
 -- An abort is taken: its monitor makes the test, raises the flag and ends, everything inside leaves, the fork is joined, and the tests of the
 -- continuation before the one that answers the flag fail.
-use Rattle.std.proofs.Common.{◌≡◌, ◌≢◌, ℕ, suc, ◌<◌, ◌≤◌, ◌⊎◌, inl, inr, ⊎_elim, Bool, true, false, not, ◌&&◌, ◌||◌, pos, Option, Some, None, List, []}
-use Rattle.std.proofs.Common.{◌∷◌, ◌++◌, map, length, slice_get, slice_set, Contains, refl, sym, ap, subst, ◌∙◌, arith}
+use Rattle.std.proofs.Common.{◌≡◌, ◌≢◌, ℕ, suc, ◌<◌, ◌≤◌, ◌⊎◌, inl, inr, ⊎_elim, Bool, true, false, not, ◌||◌, pos, Option, Some, None, List, [], ◌∷◌}
+use Rattle.std.proofs.Common.{◌++◌, map, length, slice_get, slice_set, Contains, refl, sym, ap, subst, ◌∙◌, arith}
 use Rattle.std.specs.List.{list_all}
+use Rattle.std.specs.Prelude.{reverse}
 use Rattle.std.proofs.lemmas.List.{append_assoc}
 use Rattle.sc_values.specs.declared.value.Value.{Value}
 use Rattle.sc_values.specs.declared.value.Value.TheVariants as value_is
@@ -20,13 +21,12 @@ use Rattle.chart_machine.specs.Steps.{to, moved, access_of, access_of_trigger, s
 use Rattle.chart_machine.specs.Machine.{machine}
 use Rattle.abort_expansion.specs.Flags.{aborts_around}
 use Rattle.abort_expansion.specs.Transitions.{is_number, led_by, answers}
-use Rattle.abort_expansion.specs.Superstates.{stays}
-use Rattle.tick_laws.proofs.Lists.{same_or_not, contained}
+use Rattle.tick_laws.proofs.Lists.{same_or_not, contained, map_contains}
 use Rattle.abort_expansion_laws.specs.Stages.{Entry, Watched, Silent, Correspondence, IsSilent}
 use Rattle.abort_expansion_laws.proofs.Supplying.{silent_idle, tests}
 use Rattle.abort_expansion_laws.proofs.Simulation.{Segment, segment_on}
 use Rattle.abort_expansion_laws.proofs.SilentSteps.{AtHome, climbs_home, silent_step}
-use Rattle.chart_machine_laws.proofs.LyingIn.{IsNested, LiesUnder, around, holder, none_in, head_or_tail, head_in, around_around}
+use Rattle.chart_machine_laws.proofs.LyingIn.{IsNested, LiesUnder, around, holder, none_in, head_or_tail, head_in, tail_in, around_around}
 use Rattle.abort_expansion_laws.proofs.TablesCorrespond.{contains_map}
 use Rattle.abort_expansion_laws.specs.CoreRows.{own, joins, Images, CoreRows, WatcherImage, SplitImage, flags_around, watchers, behind_transitions}
 use Rattle.abort_expansion_laws.specs.Related.{is_behind, IsInside, Related}
@@ -37,9 +37,11 @@ use Rattle.abort_expansion_laws.proofs.KnownVariables.{in_either, present_there}
 use Rattle.abort_expansion_laws.proofs.InsideLeaves.{LayeredRows, there_too}
 use Rattle.abort_expansion_laws.proofs.InsideAround.{all_from, inside_around}
 use Rattle.abort_expansion_laws.proofs.OneLeaves.{Left}
-use Rattle.abort_expansion_laws.proofs.MayLeave.{is_forked}
+use Rattle.abort_expansion_laws.proofs.MayLeave.{is_forked, AreOuterOne}
 use Rattle.abort_expansion_laws.proofs.Leaving.{drops, set_here, set_other, set_length, drops_in, drops_out, drops_length, joined}
 use Rattle.abort_expansion_laws.proofs.AbortNext.{AbortNext}
+use Rattle.abort_expansion_laws.proofs.JoinsFork.{in_reverse}
+use Rattle.abort_expansion_laws.proofs.FailedChecks.{IsDown, AllDown, checks_fail}
 use Rattle.abort_expansion_laws.proofs.Answering.{fails_on, Passed, tests_fail, Answered, answered}
 use Rattle.chart_machine_laws.proofs.ChartTables.{around_there}
 use Rattle.abort_expansion_laws.proofs.AbortRaised as raised
@@ -91,19 +93,20 @@ module _ (k core : Table) (i : Images) (rows : CoreRows k core i) (more : Layere
       (((u : ℕ) → Stage k i.thread_of c d (i.thread_of b) u → u ≤ 1) × Others (i.thread_of b) 1))
       (others_stay : (h s : ℕ) → h ≢ i.thread_of r → (Contains (around core h) (i.main_of o) → is_forked (standing_of d h) ≡ true → ⊥) →
       Stage k i.thread_of c d h s → Others h s)
-      (forks_low : (h s : ℕ) → Contains (around core h) (i.main_of o) → is_forked (standing_of d h) ≡ true → Stage k i.thread_of c d h s → s ≤ 3) where
+      (forks_low : (h s : ℕ) → Contains (around core h) (i.main_of o) → is_forked (standing_of d h) ≡ true → Stage k i.thread_of c d h s → s ≤ 3)
+      (outer_one : AreOuterOne core Others (i.thread_of r)) where
     abbrev AllLeft : Configuration → Type 0
     AllLeft = raised.AllLeft k core i rows tree core_tree deep counts written_at Told told c d related r o stage x t next Others told_test outer_stage
-        others_stay forks_low
+        others_stay forks_low outer_one
 
     abbrev aborted : Segment (machine core) corr Told d (Stage k i.thread_of c d) (λ last. AtHome Others (i.thread_of r) (suc stage))
         (act_of (machine k) c r ∷ []) AllLeft
     aborted = raised.aborted k core i rows tree core_tree deep counts written_at Told told c d related r o stage x t next Others told_test outer_stage
-        others_stay forks_low
+        others_stay forks_low outer_one
 
     abbrev size2 : length d2.regions ≡ length d.regions
     size2 = raised.size2 k core i rows tree core_tree deep counts written_at Told told c d related r o stage x t next Others told_test outer_stage
-        others_stay forks_low
+        others_stay forks_low outer_one
 
     -- ---- the fork is over, and joined
     left3 : Left core core_tree deep corr Told told Others (i.thread_of r) (suc stage) (i.main_of o) d2 quiet2 0 aborted.last
@@ -132,12 +135,7 @@ module _ (k core : Table) (i : Images) (rows : CoreRows k core i) (more : Layere
     regions_are = ap (λ z. z.regions) split.row ∙ ap (λ zs. map i.thread_of (state_at k o).regions ++ zs) monitors_one
 
     not_behind : is_behind k core i c o ≡ false
-    not_behind = by_case (stays (flags_around k core i (holder k o)) (own k o)) (has_aborts (own k o)) _ next.has
-      where
-        by_case : (a b : Bool) (z : Bool) → b ≡ true → not a && (not b && z) ≡ false
-        by_case true b z e = refl
-        by_case false true z e = refl
-        by_case false false z e = absurd cc
+    not_behind = rw (next.has) refl
 
     inside_o : IsInside k core i o (standing_of c (holder k o))
     inside_o = subst (λ q. IsInside k core i o (standing_of c q)) (sym next.held) next.was_inside
@@ -172,13 +170,16 @@ module _ (k core : Table) (i : Images) (rows : CoreRows k core i) (more : Layere
             ⊎_elim (λ same. let wrong : at.Ended ≡ at.Outside = sym here2 ∙ (ap (standing_of d2) same ∙ e) in absurd cc) (λ none. none_in q none)
             (head_or_tail (i.watcher_of o) q [] m)
 
+    abbrev HasGone : ℕ → Type 0
+    HasGone q =
+        (standing_of aborted.last q ≡ at.Ended) ⊎ ((standing_of aborted.last q ≡ at.Outside) × ((standing_of d2 q ≡ at.Outside) ⊎
+        ((s : ℕ) × Contains (around core q) s × (0 ≤ holder core s) × Contains (around core (holder core s)) (i.main_of o))))
+
     direct_ended : (q : ℕ) → Contains (state_at core (i.main_of o)).regions q → standing_of aborted.last q ≡ at.Ended
     direct_ended q h = by_gone (left3.gone q (subst (λ zs. Contains zs (i.main_of o)) (sym (direct_in q h))
         (head_in (i.main_of o) (around core (i.thread_of r)))) (omega arith))
       where
-        by_gone : (standing_of aborted.last q ≡ at.Ended)
-            ⊎ ((standing_of aborted.last q ≡ at.Outside) × ((standing_of d2 q ≡ at.Outside) ⊎
-            ((s : ℕ) × Contains (around core q) s × (0 ≤ holder core s) × Contains (around core (holder core s)) (i.main_of o)))) →
+        by_gone : HasGone q →
             standing_of aborted.last q ≡ at.Ended
         by_gone (inl is) = is
         by_gone (inr (out, inl was)) = absurd (present2 q h was)
@@ -193,9 +194,7 @@ module _ (k core : Table) (i : Images) (rows : CoreRows k core i) (more : Layere
         idle : (q : ℕ) → Contains (inside core (i.main_of o)) q → not (has_work core aborted.last (standing_of aborted.last q)) ≡ true
         idle q h = by_gone (left3.gone q (inside_around core (i.main_of o) q h) (omega arith))
           where
-            by_gone : (standing_of aborted.last q ≡ at.Ended)
-                ⊎ ((standing_of aborted.last q ≡ at.Outside) × ((standing_of d2 q ≡ at.Outside) ⊎
-                ((s : ℕ) × Contains (around core q) s × (0 ≤ holder core s) × Contains (around core (holder core s)) (i.main_of o)))) →
+            by_gone : HasGone q →
                 not (has_work core aborted.last (standing_of aborted.last q)) ≡ true
             by_gone (inl is) = ap (λ z. not (has_work core aborted.last z)) is
             by_gone (inr w) = ap (λ z. not (has_work core aborted.last z)) w.0
@@ -205,9 +204,7 @@ module _ (k core : Table) (i : Images) (rows : CoreRows k core i) (more : Layere
         ⊎_elim (λ inner. by_gone (left3.gone q inner (omega arith))) (λ outer. ap guards (left3.others q outer) ∙ quiet2 q)
         (contained (around core q) (i.main_of o))
       where
-        by_gone : (standing_of aborted.last q ≡ at.Ended)
-            ⊎ ((standing_of aborted.last q ≡ at.Outside) × ((standing_of d2 q ≡ at.Outside) ⊎
-            ((s : ℕ) × Contains (around core q) s × (0 ≤ holder core s) × Contains (around core (holder core s)) (i.main_of o)))) →
+        by_gone : HasGone q →
             guards (standing_of aborted.last q) ≡ false
         by_gone (inl is) = ap guards is
         by_gone (inr w) = ap guards w.0
@@ -269,32 +266,80 @@ module _ (k core : Table) (i : Images) (rows : CoreRows k core i) (more : Layere
         let size = set_length (moved (drops (inside core (i.main_of o))) aborted.last.regions) (i.thread_of r) (at.Trying (i.behind_of o) all_tests) in
         omega (lt, size, arith)
 
-    -- ---- the tests of the continuation, up to the one that answers
-    pub answers_it : Answered corr (i.thread_of r) (i.places_of r) d4.variables x sees_own t (suc next.number)
+    -- ---- the continuation looks at the strong flags around, which are down
+    abbrev at_start : ℕ → ℕ → Type 0
+    at_start = AtHome Others (i.thread_of r) 0
+
+    abbrev own_tests : List Transition
+    own_tests = next.earlier ++ at_once (answers (i.places_of r) (Some x) 1 next.aborts ++ next.behind_them)
+
+    values4 : d4.variables ≡ slice_set d.variables x raised_to
+    values4 = left3.variables
+
+    strong_down : (s y : ℕ) → Contains (around k r) s → (i.flags_of s).strong ≡ Some y →
+        IsDown core corr Told told (i.thread_of r) (i.behind_of o) (i.places_of r).left at_start d4 y
+    strong_down s y around_it flag =
+        let down = next.around_down s y around_it flag in
+        let in_core : Contains (around core (i.thread_of r)) (i.main_of s) =
+        subst (λ zs. Contains zs (i.main_of s)) (sym (rows.encloses r)) (map_contains i.main_of (around k r) s around_it) in
+        let home_is : holder core (i.main_of s) ≡ corr.home y = rows.held s ∙ sym down.home_is in
+        let other : corr.home y ≢ i.thread_of r = λ same. holds_other core core_tree (i.thread_of r) (i.main_of s) in_core (home_is ∙ same) in
+        let one = outer_one (i.main_of s) in_core in
+        record {
+          flag = down.added;
+          low = ap (λ vs. slice_get vs y) values4 ∙ (other_value y down.differs ∙ down.low);
+          reads = down.reads;
+          reached = λ n before. one.0 n (subst (λ h. Others h n) (sym home_is) (before.0 other));
+          reaches = ((λ ne. subst (λ h. Others h 1) home_is one.1), λ same. absurd (other same));
+        }
+
+    all_down : (zs : List ℕ) → ((s : ℕ) → Contains zs s → Contains (around k r) s) →
+        AllDown core corr Told told (i.thread_of r) (i.behind_of o) (i.places_of r).left at_start d4 (map i.flags_of zs)
+    all_down [] within = tt
+    all_down (s ∷ zs) within = ((λ y flag. strong_down s y (within s (head_in s zs)) flag), all_down zs (λ v h. within v (tail_in s v zs h)))
+
+    -- nothing changed but the tests that are left
+    abbrev HasLooked : Configuration → Type 0
+    HasLooked w = (w.variables ≡ d4.variables) × ((standing_of w (i.thread_of r) ≡ at.Trying (i.behind_of o) own_tests)
+        × (((g : ℕ) → g ≢ i.thread_of r → standing_of w g ≡ standing_of d4 g) × (length w.regions ≡ length d4.regions)))
+
+    pub look_steps : Segment (machine core) corr Told d4 at_start (λ last. at_start) [] HasLooked
+    look_steps =
+        checks_fail core corr Told told (i.thread_of r) (i.behind_of o) (i.places_of r).left at_start (flags_around k core i r) own_tests d4 quiet4 home_in4
+        (all_down (reverse (around k r)) (λ s h. in_reverse (around k r) s h)) (home4 ∙ ap (at.Trying (i.behind_of o)) next.continues)
+
+    quiet5 : (q : ℕ) → guards (standing_of look_steps.last q) ≡ false
+    quiet5 q =
+        ⊎_elim (λ e. ap (λ p. guards (standing_of look_steps.last p)) e ∙ ap guards look_steps.reaches.1.0)
+        (λ ne. ap guards (look_steps.reaches.1.1.0 q ne) ∙ quiet4 q) (same_or_not q (i.thread_of r))
+
+    values5 : look_steps.last.variables ≡ slice_set d.variables x raised_to
+    values5 = look_steps.reaches.0 ∙ values4
+
+    -- ---- its other tests, up to the one that answers
+    pub answers_it : Answered corr (i.thread_of r) (i.places_of r) look_steps.last.variables x sees_own t (suc next.number)
         (at_once (answers (i.places_of r) (Some x) 1 next.aborts ++ next.behind_them))
     answers_it =
-        answered corr (i.thread_of r) (i.places_of r) d4.variables x sees_own t (suc next.number) (ap (λ vs. slice_get vs x) left3.variables ∙ flag_is)
+        answered corr (i.thread_of r) (i.places_of r) look_steps.last.variables x sees_own t (suc next.number) (ap (λ vs. slice_get vs x) values5 ∙ flag_is)
         next.behind_them next.aborts 1 next.number next.numbered (omega arith)
 
     -- the answer, and what is tested behind it
     abbrev pub answer : Transition
     answer = led_by (i.places_of r) (Some (is_number x (suc next.number))) t
 
-    tests_are : all_tests ≡ (next.earlier ++ answers_it.before) ++ (answer ∷ answers_it.later)
-    tests_are = next.continues ∙ (ap (λ zs. next.earlier ++ zs) answers_it.are ∙ sym (append_assoc next.earlier answers_it.before (answer ∷ answers_it.later)))
-
-    values4 : d4.variables ≡ slice_set d.variables x raised_to
-    values4 = left3.variables
+    tests_are : own_tests ≡ (next.earlier ++ answers_it.before) ++ (answer ∷ answers_it.later)
+    tests_are = ap (λ zs. next.earlier ++ zs) answers_it.are ∙ sym (append_assoc next.earlier answers_it.before (answer ∷ answers_it.later))
 
     abbrev pub IsAnswering : Configuration → Type 0
-    IsAnswering z = Passed core corr Told told Others (i.thread_of r) (i.behind_of o) d4 (answer ∷ answers_it.later) z
+    IsAnswering z = Passed core corr Told told Others (i.thread_of r) (i.behind_of o) look_steps.last (answer ∷ answers_it.later) z
 
-    answer_steps : Segment (machine core) corr Told d4 (AtHome Others (i.thread_of r) 0) (λ last. AtHome Others (i.thread_of r) 0) [] IsAnswering
+    answer_steps : Segment (machine core) corr Told look_steps.last at_start (λ last. at_start) [] IsAnswering
     answer_steps =
-        tests_fail core corr Told told Others (i.thread_of r) (i.behind_of o) (next.earlier ++ answers_it.before) (answer ∷ answers_it.later) d4
-        (fails_on corr (i.thread_of r) d4.variables next.earlier answers_it.before
-        (next.earlier_fail d4.variables (λ y ne. ap (λ vs. slice_get vs y) values4 ∙ other_value y ne)) answers_it.fail)
-        (home4 ∙ ap (at.Trying (i.behind_of o)) tests_are) quiet4 home_in4
+        tests_fail core corr Told told Others (i.thread_of r) (i.behind_of o) (next.earlier ++ answers_it.before) (answer ∷ answers_it.later) look_steps.last
+        (fails_on corr (i.thread_of r) look_steps.last.variables next.earlier answers_it.before
+        (next.earlier_fail look_steps.last.variables (λ y ne. ap (λ vs. slice_get vs y) values5 ∙ other_value y ne)) answers_it.fail)
+        (look_steps.reaches.1.0 ∙ ap (at.Trying (i.behind_of o)) tests_are) quiet5
+        (let lt = home_in4 in let size = look_steps.reaches.1.1.1 in omega (lt, size, arith))
 
     -- from the abort's test to the answer
     pub answering_on : Segment (machine core) corr Told d (Stage k i.thread_of c d) (λ last. AtHome Others (i.thread_of r) 0) (act_of (machine k) c r ∷ [])
@@ -306,7 +351,8 @@ module _ (k core : Table) (i : Images) (rows : CoreRows k core i) (more : Layere
         (segment_on (machine core) corr Told aborted.last (AtHome Others (i.thread_of r) (suc stage)) (λ last. AtHome Others (i.thread_of r) 0)
         (λ last. AtHome Others (i.thread_of r) 0) [] [] (λ z. z ≡ d4) IsAnswering join_step
         (subst (λ z. Segment (machine core) corr Told z (AtHome Others (i.thread_of r) 0) (λ last. AtHome Others (i.thread_of r) 0) [] IsAnswering)
-        (sym join_step.reaches) answer_steps))
+        (sym join_step.reaches)
+        (segment_on (machine core) corr Told d4 at_start (λ last. at_start) (λ last. at_start) [] [] HasLooked IsAnswering look_steps answer_steps)))
 
     -- ---- what is reached
     abbrev pub z : Configuration
@@ -321,29 +367,30 @@ module _ (k core : Table) (i : Images) (rows : CoreRows k core i) (more : Layere
       pub outside : (q : ℕ) → q ≢ i.thread_of r → ¬ Contains (around core q) (i.main_of o) → standing_of w q ≡ standing_of d q
       pub quiet : (q : ℕ) → guards (standing_of w q) ≡ false
 
-    passed_now : Passed core corr Told told Others (i.thread_of r) (i.behind_of o) d4 (answer ∷ answers_it.later) answering_on.last
+    passed_now : Passed core corr Told told Others (i.thread_of r) (i.behind_of o) look_steps.last (answer ∷ answers_it.later) answering_on.last
     passed_now = answering_on.reaches
 
     pub emptied : Emptied answering_on.last
     emptied =
         record {
-          variables = passed_now.variables ∙ values4;
+          variables = passed_now.variables ∙ values5;
           size =
               let a = passed_now.size in
+              let look = look_steps.reaches.1.1.1 in
               let b = set_length (moved (drops (inside core (i.main_of o))) aborted.last.regions) (i.thread_of r) (at.Trying (i.behind_of o) all_tests) in
               let f = drops_length (inside core (i.main_of o)) aborted.last.regions in
               let g = left3.size in
-              let h = size2 in omega (a, b, f, g, h, arith);
+              let h = size2 in omega (a, look, b, f, g, h, arith);
           here = (answers_it.later, passed_now.here);
           inside = λ q h.
               let ne : q ≢ i.thread_of r = λ same. home_out (subst (λ p. Contains (around core p) (i.main_of o)) same h) in
-              passed_now.others q ne ∙ dropped4 q ne (inside_in core (i.main_of o) q (around_there core q (i.main_of o) h) h);
+              passed_now.others q ne ∙ (look_steps.reaches.1.1.0 q ne ∙ dropped4 q ne (inside_in core (i.main_of o) q (around_there core q (i.main_of o) h) h));
           outside = λ q ne out_q.
-              passed_now.others q ne
+              (passed_now.others q ne ∙ look_steps.reaches.1.1.0 q ne)
               ∙ (same4 q ne (λ h. out_q (inside_around core (i.main_of o) q h))
               ∙ (left3.others q out_q ∙ other2 q (λ same. out_q (subst (λ p. Contains (around core p) (i.main_of o)) (sym same)
               (subst (λ zs. Contains zs (i.main_of o)) (sym image.encloses) (head_in (i.main_of o) (around core (i.thread_of (holder k o)))))))));
           quiet = λ q.
               ⊎_elim (λ e. ap (λ p. guards (standing_of answering_on.last p)) e ∙ ap guards passed_now.here)
-              (λ ne. ap guards (passed_now.others q ne) ∙ quiet4 q) (same_or_not q (i.thread_of r));
+              (λ ne. ap guards (passed_now.others q ne) ∙ quiet5 q) (same_or_not q (i.thread_of r));
         }

@@ -1,8 +1,6 @@
 -- What waits still does after the fork of a prepared superstate was entered, and its region is settled.
-use Rattle.std.proofs.Common.{◌≡◌, ◌≢◌, ℕ, suc, pos, ◌<◌, ◌≤◌, ◌⊎◌, inl, inr, ⊎_elim, Bool, true, false, Option, Some, None, List, []}
-use Rattle.std.proofs.Common.{◌∷◌, ◌++◌, length, slice_set, Contains, refl, sym, ap, subst, ◌∙◌, arith}
-use Rattle.sc_values.specs.declared.value.Value.{Value}
-use Rattle.sc_values.specs.declared.value.Value.TheVariants as value_is
+use Rattle.std.proofs.Common.{◌≡◌, ◌≢◌, ℕ, suc, ◌<◌, ◌≤◌, ◌⊎◌, inl, inr, ⊎_elim, Bool, true, false, Option, Some, None, List, []}
+use Rattle.std.proofs.Common.{◌∷◌, length, slice_set, Contains, refl, sym, ap, subst, ◌∙◌, arith}
 use Rattle.sc_values.specs.Access.{Access}
 use Rattle.core_charts.specs.declared.region.Transition.{Transition}
 use Rattle.core_charts.specs.Aborts.{has_aborts}
@@ -22,24 +20,17 @@ use Rattle.chart_machine_laws.proofs.LyingIn.{IsNested, around, holder, none_in,
 use Rattle.abort_expansion_laws.proofs.TablesCorrespond.{IsThere}
 use Rattle.abort_expansion_laws.proofs.InsideAround.{inside_around, one_in_other}
 use Rattle.abort_expansion_laws.proofs.StageReached.{stage_of}
-use Rattle.abort_expansion_laws.proofs.StartingRegions.{set_behind}
+use Rattle.abort_expansion_laws.proofs.MonitorsOpened.{still_unseen}
 use Rattle.abort_expansion_laws.proofs.Pending.{Sound, IsOpening, IsStarting, IsJoining, Over, Waits, settled, opening, starting, joining, ending}
-use Rattle.abort_expansion_laws.proofs.Pending.{hidden, Covered, goes_in, still_going, Flagged, IsEmpty, Pending, IsBusy, starts, opens, joins_then}
+use Rattle.abort_expansion_laws.proofs.Pending.{hidden, Covered, goes_in, still_going, Flagged, IsFresh, IsEmpty, Pending, IsBusy, starts, opens, joins_then}
 use Rattle.abort_expansion_laws.proofs.Pending.{Reached}
 use Rattle.abort_expansion_laws.proofs.SettledInOrder.{skips, there_in}
 use Rattle.abort_expansion_laws.proofs.Resets.{Every, set_all, set_all_other, set_all_size, one_of}
+use Rattle.abort_expansion_laws.proofs.OpenedKept.{set_all_behind}
 use Rattle.abort_expansion_laws.proofs.OpensFork.{OpeningRows, every_one, forked, image, list, strong_down, weak_down, counter_full}
 use Rattle.abort_expansion_laws.proofs.OpenedRows.{Opens, WithinIt, OpenedRows, ForkRows}
 use Rattle.abort_expansion_laws.proofs.StandsInside.{inside_present}
 use Rattle.abort_expansion_laws.proofs.OpenedKept as unmoved
-
-set_all_behind : (xs : List (ℕ × ℕ)) (vs more : List Value) → Every (λ (x : ℕ × ℕ). length vs ≤ x.0) xs →
-    (zs : List Value) × (set_all xs (vs ++ more) ≡ vs ++ zs)
-set_all_behind [] vs more high = (more, refl)
-set_all_behind (x ∷ xs) vs more high =
-    let one = set_behind vs more x.0 (value_is.Int (pos x.1)) high.0 in
-    let rest = set_all_behind xs vs one.0 high.1 in
-    (rest.0, ap (set_all xs) one.1 ∙ rest.1)
 
 module _ (k core : Table) (i : Images) (rows : CoreRows k core i) (tree : IsNested k) (core_tree : IsNested core) (counts : ℕ → Bool) (written_at : ℕ → ℕ)
     (Told : Configuration → Entry → Type 0) (told : (d : Configuration) (t : ℕ) (stage : Option (ℕ × ℕ)) (a : Access) → Told d (Silent t stage a))
@@ -295,6 +286,12 @@ module _ (k core : Table) (i : Images) (rows : CoreRows k core i) (tree : IsNest
       apart in_s = ⊎_elim (λ e. opening_not_here u a (ap (λ v. i.thread_of (holder k v)) (sym e))) (λ other. ⊎_elim preparing_here out other)
           (both_forks t u in_s inner)
 
+  ready_z : (u : ℕ) → IsOpening k core i c z u → IsFresh k core i c u × (IsEmpty k core i c z u × (is_guarded k c (around k (holder k u)) ≡ false))
+  ready_z u a =
+      ⊎_elim (λ inner. opened_rows.within c d1 z s opens_it u a inner)
+      (λ out. let before = p.ready u (opening_back u out a) in (before.0, (empty_z u a out before.1.0, before.1.1)))
+      (contained (around k (holder k u)) s)
+
   still_pending : Pending k core i c r z
   still_pending =
       let behind = set_all_behind resets_list c.variables p.more
@@ -317,6 +314,7 @@ module _ (k core : Table) (i : Images) (rows : CoreRows k core i) (tree : IsNest
             absurd (omega (up, its, lt, arith)))))
             (p.done q q_there lt);
         watchers = watchers_now;
+        unseen = still_unseen k core i rows opened_rows c d1 z s opens_it (λ u a. (ready_z u a).1.0) d p.unseen watcher_same free within_or_not;
         flags = flags_now;
         late = λ u a.
             ⊎_elim (λ inner. let up = deeper (holder k u) s inner in let its = held in omega (up, its, arith)) (λ out. p.late u (opening_back u out a))
@@ -324,10 +322,7 @@ module _ (k core : Table) (i : Images) (rows : CoreRows k core i) (tree : IsNest
         joinable = λ u a.
             ⊎_elim (λ inner. opened_rows.joinable c d1 z s opens_it u a inner) (λ out. over_z u a out (p.joinable u (joining_back u out a)))
             (contained (around k (holder k u)) s);
-        ready = λ u a.
-            ⊎_elim (λ inner. opened_rows.within c d1 z s opens_it u a inner)
-            (λ out. let before = p.ready u (opening_back u out a) in (before.0, (empty_z u a out before.1.0, before.1.1)))
-            (contained (around k (holder k u)) s);
+        ready = ready_z;
       }
     where
       added : (x : ℕ) → Which s x → length k.variables ≤ x

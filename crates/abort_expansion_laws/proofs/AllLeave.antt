@@ -23,14 +23,14 @@ use Rattle.abort_expansion_laws.specs.CoreRows.{joins}
 use Rattle.abort_expansion_laws.proofs.Leaving.{drops, set_here, set_other, set_length, drops_in, drops_out, drops_length, joined}
 use Rattle.abort_expansion_laws.proofs.Unchanged.{unguarded}
 use Rattle.abort_expansion_laws.proofs.InsideAround.{inside_around, all_from}
-use Rattle.abort_expansion_laws.proofs.MayLeave.{is_forked, LeavesBy, MayLeave, out, over, tries, forks}
+use Rattle.abort_expansion_laws.proofs.MayLeave.{is_forked, AreOuterOne, LeavesBy, MayLeave, out, over, tries, forks}
 use Rattle.abort_expansion_laws.proofs.OneLeaves as once
 
 module _ (core : Table) (tree : IsNested core) (deeper : (q s : ℕ) → Contains (around core q) s → holder core s < q)
     (corr : Correspondence) (Told : Configuration → Entry → Type 0) (told : (d : Configuration) (t : ℕ) (stage : Option (ℕ × ℕ)) (a : Access) →
     Told d (Silent t stage a))
     (Others : ℕ → ℕ → Type 0) (home stage f : ℕ) (first : Configuration) (free : (t : ℕ) → guards (standing_of first t) ≡ false)
-    (home_out : ¬ Contains (around core home) f)
+    (home_out : ¬ Contains (around core home) f) (outer_one : AreOuterOne core Others home)
     (may : (q : ℕ) → Contains (around core q) f → MayLeave core corr home stage f first q (standing_of first q)) where
   abbrev In : ℕ → Type 0
   In = once.In core tree deeper corr Told told Others home stage f first free
@@ -51,7 +51,7 @@ module _ (core : Table) (tree : IsNested core) (deeper : (q s : ℕ) → Contain
   Level = once.Level core tree deeper corr Told told Others home stage f first free
 
   abbrev Goes : ℕ → Configuration → (Configuration → Type 0) → Type 0
-  Goes = once.Goes core tree deeper corr Told told Others home stage f first free home_out
+  Goes = once.Goes core tree deeper corr Told told Others home stage f first free home_out outer_one
 
   abbrev Piece : Configuration → ℕ → Type 0
   Piece d n = Segment (machine core) corr Told d (AtHome (Level (suc n)) home stage) (λ last. AtHome (Level n) home stage) [] (Left n)
@@ -99,7 +99,7 @@ module _ (core : Table) (tree : IsNested core) (deeper : (q s : ℕ) → Contain
   by_trying n d s tests in_n left stands was alone leaves_by =
       let lt : n < length d.regions = once.in_range core tree deeper corr Told told Others home stage f first free d n (at.Trying s tests) stands
       (λ z. absurd (cc)) in
-      let g = once.tests_leave core tree deeper corr Told told Others home stage f first free home_out n s tests d alone leaves_by left.variables
+      let g = once.tests_leave core tree deeper corr Told told Others home stage f first free home_out outer_one n s tests d alone leaves_by left.variables
       (once.no_guards core tree deeper corr Told told Others home stage f first free (suc n) d left) lt stands in
       reached d n g (λ in_h forked. let wrong : true ≡ false = sym forked ∙ ap is_forked was in absurd cc)
       (once.left_after core tree deeper corr Told told Others home stage f first free n d g.last [] left (λ q h. absurd (none_in q h))
@@ -200,8 +200,8 @@ module _ (core : Table) (tree : IsNested core) (deeper : (q s : ℕ) → Contain
           (λ ne. ⊎_elim (λ h. ap guards (dropped1 t ne h)) (λ out_t. ap guards (same1 t ne out_t) ∙ none t) (contained (inside core s) t)) (same_or_not t n)
 
       left_it : Goes n e1 (HasLeft n e1)
-      left_it = once.tests_leave core tree deeper corr Told told Others home stage f first free home_out n b tests e1 alone leaves_by left.variables quiet1
-          lt2 here1
+      left_it = once.tests_leave core tree deeper corr Told told Others home stage f first free home_out outer_one n b tests e1 alone leaves_by
+          left.variables quiet1 lt2 here1
 
       left2 : Left n left_it.last
       left2 =

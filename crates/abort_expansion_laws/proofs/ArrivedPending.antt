@@ -1,18 +1,18 @@
 -- A region comes to where something begins: monitors and flags wait as they should too.
 use Rattle.std.proofs.Common.{◌≡◌, ℕ, suc, ◌⊎◌, inl, ⊎_elim, Bool, true, false, Some, List, [], ◌∷◌, ◌++◌, length, Contains, refl, sym, ap}
-use Rattle.std.proofs.Common.{subst, ◌∙◌, arith, if◌then◌else◌}
+use Rattle.std.proofs.Common.{subst, ◌∙◌, arith, if◌then◌else◌, inr}
 use Rattle.core_charts.specs.Aborts.{has_aborts}
 use Rattle.chart_machine.specs.declared.standing.Standing.TheVariants as at
 use Rattle.chart_machine.specs.declared.standing.Configuration.{Configuration}
 use Rattle.chart_machine.specs.declared.table.Table.{Table}
 use Rattle.chart_machine.specs.Table.{state_at}
-use Rattle.chart_machine.specs.Turns.{standing_of, has_ended, inside, is_guarded, LiesIn, itself, deeper}
+use Rattle.chart_machine.specs.Turns.{standing_of, has_ended, inside, is_guarded, LiesIn, itself, deeper, guards as has_to_guard}
 use Rattle.abort_expansion.specs.Flags.{has_join}
 use Rattle.abort_expansion.specs.Superstates.{is_prepared}
 use Rattle.chart_machine_laws.specs.Tree.{IsThere, around, holder}
 use Rattle.chart_machine_laws.proofs.LyingIn.{none_in, head_in, tail_in, head_or_tail, lies_in_outer}
 use Rattle.abort_expansion_laws.specs.CoreRows.{own, IsState, IsSuper, Images, flags_around}
-use Rattle.abort_expansion_laws.specs.Related.{Related, Watches, IsInside, FlagsAreDown, Stores, still_in}
+use Rattle.abort_expansion_laws.specs.Related.{Related, Watches, IsInside, FlagsAreDown, Stores, still_in, LooksFirst}
 use Rattle.chart_machine_laws.proofs.ChartTables.{around_there}
 use Rattle.abort_expansion_laws.proofs.SettledInOrder.{ended_back}
 use Rattle.abort_expansion_laws.proofs.JustEntered.{EntryRows, Reach}
@@ -23,6 +23,8 @@ use Rattle.abort_expansion_laws.proofs.Pending.{never_joined, never_settled}
 use Rattle.abort_expansion_laws.proofs.Arrives.{Arrives}
 use Rattle.abort_expansion_laws.proofs.ArrivedReached.{arrived_reached}
 use Rattle.abort_expansion_laws.proofs.ArrivedWaits.{lies_or_not, lies_back, core_same_at, ends_same, behind_same, arrived_waits}
+use Rattle.abort_expansion_laws.proofs.LooksFirst.{out_looks, still_looks, watch_gone}
+use Rattle.abort_expansion_laws.proofs.ArrivedSound.{guards_alone, none_guards}
 
 module _ (k core : Table) (i : Images) (more : EntryRows k core i) (holds_there : (s : ℕ) → IsState k s → IsThere k (holder k s))
     (alone : (v : ℕ) → (state_at core v).regions ≡ [] → inside core v ≡ [])
@@ -67,6 +69,26 @@ module _ (k core : Table) (i : Images) (more : EntryRows k core i) (holds_there 
       inl (subst (λ z. Watches k core i o z (standing_of core_next (i.watcher_of o))) (sym (same (holder k o) out))
       (subst (Watches k core i o (standing_of c (holder k o))) (sym (watch_same o here has out)) (related.watchers o here has))))
       (in_or_out (holder k o))
+
+  -- nobody is inside of what comes to guard, and nobody guards around the region
+  unseen_now : (o u : ℕ) → IsState k o → has_aborts (own k o) ≡ true → Contains (around k (holder k o)) u →
+      has_to_guard (standing_of next (holder k u)) ≡ true → LooksFirst k core i o (standing_of core_next (i.watcher_of o))
+  unseen_now o u here has inner guards =
+      ⊎_elim
+      (λ lies.
+      let gone : standing_of next (holder k o) ≡ at.Outside =
+      guards_alone k core i more holds_there alone c d related r next core_next arrives (holder k o) u lies inner guards in
+      out_looks k core i o (standing_of core_next (i.watcher_of o))
+      (⊎_elim (λ w. watch_gone k core i o (standing_of next (holder k o)) (standing_of core_next (i.watcher_of o)) w (inr gone)) (λ hides. hides.0)
+      (watched o here has)))
+      (λ out.
+      let before : has_to_guard (standing_of c (holder k u)) ≡ true = sym (ap has_to_guard (same (holder k u) out)) ∙ guards in
+      ⊎_elim
+      (λ lies_o. absurd (none_guards k core i more holds_there alone c d related r next core_next arrives (holder k o) u lies_o inner out before))
+      (λ out_o.
+      still_looks k core i o (standing_of d (i.watcher_of o)) (standing_of core_next (i.watcher_of o)) (watch_same o here has out_o)
+      (related.unseen o u here has inner before)) (in_or_out (holder k o)))
+      (in_or_out (holder k u))
 
   -- ---- flags
 
@@ -170,6 +192,7 @@ module _ (k core : Table) (i : Images) (more : EntryRows k core i) (holds_there 
         waits = λ q q_there. arrived_waits k core i more holds_there alone c d related r next core_next arrives q q_there;
         done = λ q q_there lt. absurd (omega (lt, arith));
         watchers = watched;
+        unseen = unseen_now;
         flags = flagged;
         late = λ u o. omega arith;
         joinable = joined;

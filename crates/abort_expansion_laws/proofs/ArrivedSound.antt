@@ -158,16 +158,25 @@ module _ (k core : Table) (i : Images) (more : EntryRows k core i) (holds_there 
       (⊎_elim (λ above. absurd (out (deeper y above its))) (λ below. subst (λ z. Contains (around k z) u) its below))
       (one_in_other k more.tree.nested (around k q) q u y refl inner in_y)
 
+  -- nobody is inside of what comes to guard
+  pub guards_alone : (q u : ℕ) → LiesIn k (holder k u) r → Contains (around k q) u → has_to_guard (standing_of next (holder k u)) ≡ true →
+      standing_of next q ≡ at.Outside
+  guards_alone q u lies inner guards = reached_guards k core i more f (holder k u) guards (chart_in (holder k u) lies) q u inner refl
+
+  -- nobody guards around the region
+  pub none_guards : (q u : ℕ) → LiesIn k q r → Contains (around k q) u → ¬ LiesIn k (holder k u) r → has_to_guard (standing_of c (holder k u)) ≡ true → ⊥
+  none_guards q u lies_q inner out before =
+      not_both (is_guarded k c (around k r))
+      (any_in (λ z. has_to_guard (standing_of c (holder k z))) (around k r) u (around_region q u lies_q inner out) before) arrives.free
+
   all_calm : (q u : ℕ) → IsThere k q → Contains (around k q) u → has_to_guard (standing_of next (holder k u)) ≡ true → IsCalm (standing_of next q)
   all_calm q u q_there inner guards =
       ⊎_elim
-      (λ lies. subst IsCalm (sym (reached_guards k core i more f (holder k u) guards (chart_in (holder k u) lies) q u inner refl)) calm_outside)
+      (λ lies. subst IsCalm (sym (guards_alone q u lies inner guards)) calm_outside)
       (λ out.
       let before : has_to_guard (standing_of c (holder k u)) ≡ true = sym (ap has_to_guard (same (holder k u) out)) ∙ guards in
       ⊎_elim
-      (λ lies_q.
-      absurd (not_both (is_guarded k c (around k r))
-      (any_in (λ z. has_to_guard (standing_of c (holder k z))) (around k r) u (around_region q u lies_q inner out) before) arrives.free))
+      (λ lies_q. absurd (none_guards q u lies_q inner out before))
       (λ out_q. subst IsCalm (sym (same q out_q)) (related.calm q u q_there inner before)) (in_or_out q))
       (in_or_out (holder k u))
 

@@ -220,10 +220,11 @@ module _ (c : Chart) (rules : IsChart features.Extended c) (core_rules : IsChart
     -- ---- weak tests
 
     pub weak_fails : (o : ℕ) (t : Transition) (tests : List Transition) → standing_of now r ≡ at.Within o (t ∷ tests) → Contains (own k o) t →
-        is_weak t.kind ≡ true → verdict now.variables t.trigger ≡ Some false → Followed now d r next
-    weak_fails o t tests stands own_one is_weak_one fails =
+        is_weak t.kind ≡ true → weak.MonitorWaits k core i o t tests (standing_of d (i.watcher_of o)) → verdict now.variables t.trigger ≡ Some false →
+        Followed now d r next
+    weak_fails o t tests stands own_one is_weak_one monitor fails =
         weak.not_taken_followed k core i rows (ticks.nested c rules core_rules) (ticks.counts c rules core_rules) (ticks.written_at c rules core_rules)
-        now d related r o (state_with_aborts k o has) has t is_weak_one tests stands Told (told_weak k core i d r (i.watcher_of o)
+        now d related r o (state_with_aborts k o has) has t is_weak_one tests stands monitor Told (told_weak k core i d r (i.watcher_of o)
         (access_of_trigger t.trigger)) next goes fails
       where
         has : has_aborts (own k o) ≡ true

@@ -34,6 +34,7 @@ use Rattle.abort_expansion_laws.proofs.Pending.{Flagged, Pending, IsBusy, starts
 use Rattle.abort_expansion_laws.proofs.SettledInOrder.{skips, Piece}
 use Rattle.abort_expansion_laws.proofs.StartingRegions.{Once, CounterRows, set_behind, opening_on, joining_on, starting_on, covered_on, waits_on}
 use Rattle.abort_expansion_laws.proofs.CalmPending.{all_calm}
+use Rattle.abort_expansion_laws.proofs.LooksFirst.{still_looks}
 
 module _ (k core : Table) (i : Images) (rows : CoreRows k core i) (tree : IsNested k) (counts : ℕ → Bool) (written_at : ℕ → ℕ)
     (Told : Configuration → Entry → Type 0)
@@ -259,6 +260,9 @@ module _ (k core : Table) (i : Images) (rows : CoreRows k core i) (tree : IsNest
             same m (i.watcher_of o) (λ e. (rows.watcher o o_there has).no_thread r (sym e)) in
             ⊎_elim (λ watching. inl (subst (Watches k core i o (standing_of c (holder k o))) (sym kept) watching))
             (λ hides. inr (kept ∙ hides.0, covered_on k core i rows c d next r (same m) st.over_in_chart o hides.1)) (p.watchers o o_there has);
+        unseen = λ o u o_there has inner guarded_by.
+            still_looks k core i o (standing_of d (i.watcher_of o)) (standing_of next (i.watcher_of o))
+            (same m (i.watcher_of o) (λ e. (rows.watcher o o_there has).no_thread r (sym e))) (p.unseen o u o_there has inner guarded_by);
         flags = λ u u_there inside_u.
             ⊎_elim (λ down. inl (flagged_now u down)) (λ covered. inr (covered_on k core i rows c d next r (same m) st.over_in_chart u covered))
             (p.flags u u_there inside_u);

@@ -1,6 +1,6 @@
 -- An abort is taken: all that is inside its superstate is dropped, in the chart and in the core. What corresponds still does.
-use Rattle.std.proofs.Common.{◌≡◌, ◌≢◌, ℕ, zero, suc, ◌<◌, ◌≤◌, ◌⊎◌, inl, inr, ⊎_elim, Bool, true, false, List, [], ◌∷◌, ◌++◌, map, length, slice_set}
-use Rattle.std.proofs.Common.{Contains, refl, sym, ap, subst, ◌∙◌, arith}
+use Rattle.std.proofs.Common.{◌≡◌, ◌≢◌, ℕ, zero, suc, ◌<◌, ⊎_elim, Bool, true, false, List, [], ◌∷◌, ◌++◌, map, length, slice_set, Contains, refl, sym, ap}
+use Rattle.std.proofs.Common.{subst, ◌∙◌, arith}
 use Rattle.std.specs.List.{list_all, list_any}
 use Rattle.std.proofs.lemmas.Bool.{cases_lt}
 use Rattle.sc_values.specs.declared.value.Value.{Value}
@@ -20,14 +20,15 @@ use Rattle.abort_expansion_laws.proofs.TablesCorrespond.{IsThere, contains_map}
 use Rattle.abort_expansion_laws.specs.CoreRows.{own, IsState, Images, CoreRows, WatcherImage}
 use Rattle.abort_expansion_laws.proofs.Unchanged.{none_among, both_ways}
 use Rattle.abort_expansion_laws.specs.Related.{IsCalm, calm_outside, front, held_back, is_behind, Stands, outside, ended, left, trying, acting, entering}
-use Rattle.abort_expansion_laws.specs.Related.{guarding, staying, within, behind, Watches, elsewhere, IsInside, guarded, open_inside, Stores, FlagsAreDown}
-use Rattle.abort_expansion_laws.specs.Related.{still_in, not_ended, Related}
+use Rattle.abort_expansion_laws.specs.Related.{Related, guarding, staying, within, behind, Watches, elsewhere, IsInside, guarded, open_inside, Stores}
+use Rattle.abort_expansion_laws.specs.Related.{FlagsAreDown, still_in, not_ended, LooksFirst}
 use Rattle.abort_expansion_laws.proofs.StageReached.{inside_in, holds_other}
 use Rattle.abort_expansion_laws.proofs.Leaving.{drops, at_number, set_here, set_other, set_length, drops_in, drops_out, drops_length}
 use Rattle.abort_expansion_laws.proofs.InsideAround.{inside_around}
 use Rattle.abort_expansion_laws.proofs.TestFails.{watch_other}
 use Rattle.chart_machine_laws.proofs.ChartTables.{nothing_around}
 use Rattle.abort_expansion_laws.proofs.StandsInside.{inside_present}
+use Rattle.abort_expansion_laws.proofs.LooksFirst.{out_looks, still_looks}
 
 pub all_alike : (p q : ℕ → Bool) (xs : List ℕ) → ((x : ℕ) → Contains xs x → p x ≡ q x) → list_all p xs ≡ list_all q xs
 all_alike p q [] h = refl
@@ -208,6 +209,12 @@ module _ (k core : Table) (i : Images) (rows : CoreRows k core i) (tree : IsNest
     within_o : (u : ℕ) → u ≢ o → (tests : List Transition) → standing_of c r ≢ at.Within u tests
     within_o u ne tests e = ne (go.only u (subst (IsInside k core i u) (sym e) (open_inside tests)))
 
+    gone_in : (q : ℕ) → In q → standing_of c' q ≡ at.Outside
+    gone_in zero h = absurd (none_in o h)
+    gone_in (suc j) h = ⊎_elim (λ lt. gone (suc j) (omega arith, lt) h)
+        (λ past. absurd (none_in o (subst (λ zs. Contains zs o) (nothing_around k j (omega (past, arith))) h)))
+        (cases_lt (suc j) (suc (length k.regions)))
+
     watchers_kept : (u : ℕ) → IsState k u → has_aborts (own k u) ≡ true → Watches k core i u (standing_of c' (holder k u)) (standing_of d' (i.watcher_of u))
     watchers_kept u there has = ⊎_elim its (λ ne. other ne) (same_or_not u o)
       where
@@ -245,23 +252,12 @@ module _ (k core : Table) (i : Images) (rows : CoreRows k core i) (tree : IsNest
         out_no_within : (v : ℕ) (tests : List Transition) → at.Outside ≢ at.Within v tests
         out_no_within v tests e = absurd cc
 
-        holder_in_out : In (holder k u) → standing_of c' (holder k u) ≡ at.Outside
-        holder_in_out h = ⊎_elim (λ there_q. gone (holder k u) there_q h) (λ none. absurd (none_in o (subst (λ zs. Contains zs o) none h)))
-            (there_or_bare (holder k u))
-          where
-            there_or_bare : (q : ℕ) → IsThere k q ⊎ (around k q ≡ [])
-            there_or_bare zero = inr refl
-            there_or_bare (suc j) = ⊎_elim (λ lt. inl (omega arith, lt)) (λ past. inr (bare_past j past)) (cases_lt (suc j) (suc (length k.regions)))
-              where
-                bare_past : (m : ℕ) → suc (length k.regions) ≤ suc m → around k (suc m) ≡ []
-                bare_past m past = nothing_around k m (omega (past, arith))
-
         inside_it : u ≢ o → In (holder k u) → Watches k core i u (standing_of c' (holder k u)) (standing_of d' (i.watcher_of u))
         inside_it ne h =
             subst (Watches k core i u (standing_of c' (holder k u)))
             (sym (go.dropped (i.watcher_of u) (subst (λ zs. Contains zs (i.main_of o)) (sym monitor.encloses)
             (tail_in (i.main_of u) (i.main_of o) (around core (i.thread_of (holder k u))) (in_core (holder k u) h)))))
-            (subst (λ w. Watches k core i u w at.Outside) (sym (holder_in_out h)) (elsewhere at.Outside (out_no_guard u) (out_no_within u)))
+            (subst (λ w. Watches k core i u w at.Outside) (sym (gone_in (holder k u) h)) (elsewhere at.Outside (out_no_guard u) (out_no_within u)))
 
         outside_it : u ≢ o → holder k u ≢ r → ¬ In (holder k u) → Watches k core i u (standing_of c' (holder k u)) (standing_of d' (i.watcher_of u))
         outside_it ne not_by out_h =
@@ -280,12 +276,6 @@ module _ (k core : Table) (i : Images) (rows : CoreRows k core i) (tree : IsNest
 
     present_there : (q : ℕ) → standing_of c' q ≢ at.Outside → In q → ⊥
     present_there q present h = present (gone_in q h)
-      where
-        gone_in : (q : ℕ) → In q → standing_of c' q ≡ at.Outside
-        gone_in zero h = absurd (none_in o h)
-        gone_in (suc j) h = ⊎_elim (λ lt. gone (suc j) (omega arith, lt) h)
-            (λ past. absurd (none_in o (subst (λ zs. Contains zs o) (nothing_around k j (omega (past, arith))) h)))
-            (cases_lt (suc j) (suc (length k.regions)))
 
     holds_before : (s : ℕ) → IsInside k core i s (standing_of c' (holder k s)) → Holds s
     holds_before s inner =
@@ -336,9 +326,6 @@ module _ (k core : Table) (i : Images) (rows : CoreRows k core i) (tree : IsNest
     not_zero : (n : ℕ) → 0 < n → 0 ≢ n
     not_zero n lt e = absurd (omega (lt, e, arith))
 
-    none_around : ¬ Contains (around core 0) (i.main_of o)
-    none_around h = none_in (i.main_of o) h
-
     calm_still : (q s : ℕ) → IsThere k q → Contains (around k q) s → guards (standing_of c' (holder k s)) ≡ true → IsCalm (standing_of c' q)
     calm_still q s q_there around_it guarded_by = ⊎_elim (λ e. absurd (own_step e)) (λ ne. ⊎_elim inner (outer ne) (contained (around k q) o)) (same_or_not q r)
       where
@@ -364,6 +351,28 @@ module _ (k core : Table) (i : Images) (rows : CoreRows k core i) (tree : IsNest
                 let kept : standing_of c' (holder k s) ≡ standing_of c (holder k s) = same (holder k s) far_from (outer_out q s out_q around_it) in
                 subst IsCalm (sym (same q ne out_q)) (related.calm q s q_there around_it (ap guards (sym kept) ∙ guarded_by))
 
+    -- monitors inside are gone, and the others stand as before
+    unseen_still : (u s : ℕ) → IsState k u → has_aborts (own k u) ≡ true → Contains (around k (holder k u)) s →
+        guards (standing_of c' (holder k s)) ≡ true → LooksFirst k core i u (standing_of d' (i.watcher_of u))
+    unseen_still u s u_there has around_it guarded_by =
+        ⊎_elim (λ inner. out_looks k core i u (standing_of d' (i.watcher_of u)) (go.dropped (i.watcher_of u) inner))
+        (λ out.
+        still_looks k core i u (standing_of d (i.watcher_of u)) (standing_of d' (i.watcher_of u))
+        (go.others (i.watcher_of u) (λ e. monitor.no_thread r (sym e)) out)
+        (related.unseen u s u_there has around_it (ap guards (sym (same (holder k s) not_by (outer_out (holder k u) s (out_h out) around_it))) ∙ guarded_by)))
+        (contained (around core (i.watcher_of u)) (i.main_of o))
+      where
+        monitor : WatcherImage k core i u
+        monitor = rows.watcher u u_there has
+
+        out_h : ¬ Contains (around core (i.watcher_of u)) (i.main_of o) → ¬ In (holder k u)
+        out_h out h =
+            out (subst (λ zs. Contains zs (i.main_of o)) (sym monitor.encloses)
+            (tail_in (i.main_of u) (i.main_of o) (around core (i.thread_of (holder k u))) (in_core (holder k u) h)))
+
+        not_by : holder k s ≢ r
+        not_by e = both_ways (guards y) (ap guards (sym here) ∙ (ap (λ p. guards (standing_of c' p)) (sym e) ∙ guarded_by)) go.no_guard
+
     pub dropped_out : Related k core i c' d'
     dropped_out =
         record {
@@ -375,7 +384,7 @@ module _ (k core : Table) (i : Images) (rows : CoreRows k core i) (tree : IsNest
           core_regions = go.size ∙ related.core_regions;
           values = go.values;
           no_chart = same 0 (not_zero r go.there.0) (λ h. none_in o h) ∙ related.no_chart;
-          no_core = go.others 0 (not_zero (i.thread_of r) (rows.region r go.there).there.0) none_around ∙ related.no_core;
+          no_core = go.others 0 (not_zero (i.thread_of r) (rows.region r go.there).there.0) (λ h. none_in (i.main_of o) h) ∙ related.no_core;
           regions = regions_kept;
           watchers = watchers_kept;
           flags = λ s there inner. let holds : Holds s = holds_before s inner in down_still s holds.not_o holds.out_h (related.flags s there holds.was);
@@ -385,4 +394,5 @@ module _ (k core : Table) (i : Images) (rows : CoreRows k core i) (tree : IsNest
               let holds : Holds s = holds_before s (subst (IsInside k core i s) (sym is) (open_inside tests)) in
               related.closes_last s tests (sym (same (holder k s) holds.not_by holds.out_h) ∙ is);
           calm = calm_still;
+          unseen = unseen_still;
         }

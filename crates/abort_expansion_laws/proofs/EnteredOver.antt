@@ -24,8 +24,9 @@ use Rattle.abort_expansion_laws.proofs.BeginningSorts.{Sort, sort_ends, sort_cou
 use Rattle.abort_expansion_laws.proofs.JustEntered.{EntryRows, Reach, live, behind_preparation, nowhere}
 use Rattle.abort_expansion_laws.proofs.EnteredMonitors.{entered_watched}
 use Rattle.abort_expansion_laws.proofs.OpenForks.{all_over}
-use Rattle.abort_expansion_laws.proofs.ForkOver.{watch_gone, Gone, CoreGone, fork_over}
+use Rattle.abort_expansion_laws.proofs.ForkOver.{Gone, CoreGone, fork_over}
 use Rattle.abort_expansion_laws.proofs.InsideAround.{one_in_other}
+use Rattle.abort_expansion_laws.proofs.LooksFirst.{watch_gone}
 
 module _ (k core : Table) (i : Images) (more : EntryRows k core i) (c e : Configuration)
     (counter_joins : (s x : ℕ) → (i.flags_of s).counter ≡ Some x → has_join (own k s) ≡ true)

@@ -24,10 +24,11 @@ use Rattle.abort_expansion_laws.proofs.JustEntered.{EntryRows}
 use Rattle.abort_expansion_laws.proofs.TargetEntered.{thread_out}
 use Rattle.abort_expansion_laws.proofs.Unchanged.{there_or_not}
 use Rattle.abort_expansion_laws.proofs.OpenForks.{all_over}
-use Rattle.abort_expansion_laws.proofs.ForkOver.{watch_gone, Gone, CoreGone, fork_over}
+use Rattle.abort_expansion_laws.proofs.ForkOver.{Gone, CoreGone, fork_over}
 use Rattle.abort_expansion_laws.proofs.Pending.{Sound, IsJoining, Over, never_joined}
 use Rattle.abort_expansion_laws.proofs.FinalTarget as target
 use Rattle.abort_expansion_laws.proofs.FinalTargetWaits.{over_or_not, was_not, final_watched}
+use Rattle.abort_expansion_laws.proofs.LooksFirst.{watch_gone}
 
 module _ (k core : Table) (i : Images) (more : EntryRows k core i) (holds_there : (s : ℕ) → IsState k s → IsThere k (holder k s))
     (c d : Configuration) (related : Related k core i c d) (r s p : ℕ) (e : Effect)

@@ -7,7 +7,7 @@ use Rattle.chart_machine.specs.declared.standing.Standing.TheVariants as at
 use Rattle.chart_machine.specs.declared.standing.Configuration.{Configuration}
 use Rattle.chart_machine.specs.declared.table.Table.{Table}
 use Rattle.chart_machine.specs.Table.{state_at}
-use Rattle.chart_machine.specs.Turns.{standing_of, has_ended, has_work, is_guarded}
+use Rattle.chart_machine.specs.Turns.{standing_of, has_ended, has_work, is_guarded, guards as has_to_guard}
 use Rattle.chart_machine.specs.Steps.{state_in}
 use Rattle.tick_laws.proofs.Lists.{same_or_not}
 use Rattle.chart_machine_laws.specs.Tree.{IsThere, around, holder}
@@ -26,8 +26,9 @@ use Rattle.abort_expansion_laws.proofs.Pending.{IsOpening, IsStarting, Flagged, 
 use Rattle.abort_expansion_laws.proofs.Pending.{goes_in, still_going, is_trying, quiet, never_settled}
 use Rattle.abort_expansion_laws.proofs.FinalTarget as target
 use Rattle.abort_expansion_laws.proofs.FinalTargetValues as values_now
-use Rattle.abort_expansion_laws.proofs.FinalTargetWaits.{final_waits, final_watched}
+use Rattle.abort_expansion_laws.proofs.FinalTargetWaits.{watcher_apart, final_waits, final_watched}
 use Rattle.abort_expansion_laws.proofs.FinalTargetOver.{child, final_over}
+use Rattle.abort_expansion_laws.proofs.LooksFirst.{still_looks}
 
 module _ (k core : Table) (i : Images) (more : EntryRows k core i) (holds_there : (s : ℕ) → IsState k s → IsThere k (holder k s))
     (counts : ℕ → Bool) (written_at : ℕ → ℕ) (counters : CounterRows k core i more.rows counts written_at)
@@ -105,6 +106,9 @@ module _ (k core : Table) (i : Images) (more : EntryRows k core i) (holds_there 
       other : holder k u ≢ r
       other its = let wrong : at.Within u a.tests ≡ at.Ended = sym a.open_in_chart ∙ (ap (standing_of next) its ∙ here) in absurd cc
 
+  no_guard : (u : ℕ) → has_to_guard (standing_of next (holder k u)) ≡ true → holder k u ≢ r
+  no_guard u guarded_by its = let wrong : true ≡ false = sym guarded_by ∙ (ap (λ q. has_to_guard (standing_of next q)) its ∙ ap has_to_guard here) in absurd cc
+
   pub final_pending : Pending k core i next 0 core_next
   final_pending =
       let added = values_now.added k core i more counts written_at counters c d related r s p e stands values final counted in
@@ -120,6 +124,10 @@ module _ (k core : Table) (i : Images) (more : EntryRows k core i) (holds_there 
         waits = λ q there. final_waits k core i more holds_there c d related r s p e stands free values final q there;
         done = λ q there lt. absurd (omega (lt, arith));
         watchers = λ o is has. inl (final_watched k core i more holds_there c d related r s p e stands free values final o is has);
+        unseen = λ o u is has inner guarded_by.
+            still_looks k core i o (standing_of d (i.watcher_of o)) (standing_of core_next (i.watcher_of o))
+            (watcher_apart k core i more holds_there c d related r s p e stands free values final o is has)
+            (related.unseen o u is has inner (sym (ap has_to_guard (same (holder k u) (no_guard u guarded_by))) ∙ guarded_by));
         flags = λ u is inner. inl (flagged u is inner);
         late = λ u a. omega arith;
         joinable = λ u a. final_over k core i more holds_there c d related r s p e stands free values final u a;

@@ -1,6 +1,6 @@
 -- What the first tick enters waits as it should, and the chart stands as it should.
 use Rattle.std.proofs.Common.{◌≡◌, ◌≢◌, ℕ, Bool, true, false, Some, List, [], ◌∷◌, ◌++◌, map}
-use Rattle.std.proofs.Common.{Contains, refl, sym, ap, subst, ◌∙◌, arith}
+use Rattle.std.proofs.Common.{Contains, refl, sym, ap, subst, ◌∙◌, arith, ⊎_elim, inr}
 use Rattle.std.specs.Prelude.{filter}
 use Rattle.std.proofs.lemmas.List.{length-map, map-append}
 use Rattle.sc_values.specs.declared.value.Value.{Value}
@@ -24,7 +24,7 @@ use Rattle.chart_machine_laws.specs.Tree.{IsThere, around, holder}
 use Rattle.chart_machine_laws.proofs.LyingIn.{head_in}
 use Rattle.chart_machine_laws.proofs.ChartTables.{around_there}
 use Rattle.abort_expansion_laws.specs.CoreRows.{own, IsState, IsSuper, Images, flags_around}
-use Rattle.abort_expansion_laws.specs.Related.{Each, IsInside, Closes, IsCalm, calm_outside}
+use Rattle.abort_expansion_laws.specs.Related.{Each, IsInside, Closes, IsCalm, calm_outside, LooksFirst}
 use Rattle.abort_expansion_laws.proofs.StartingRegions.{Once}
 use Rattle.abort_expansion_laws.proofs.WokenConfigurations.{IsLocal, variables_started, each_kept}
 use Rattle.abort_expansion_laws.proofs.Pending.{Sound, Pending}
@@ -38,6 +38,8 @@ use Rattle.abort_expansion_laws.proofs.EnteredMonitors.{Unflagged, entered_watch
 use Rattle.abort_expansion_laws.proofs.EnteredReady.{opened_later, over_now}
 use Rattle.abort_expansion_laws.proofs.FirstTick.{first_size, values_size, chart_reached, reached, no_region, no_thread, present_there, all_enclosed}
 use Rattle.abort_expansion_laws.proofs.StandsInside.{inside_present}
+use Rattle.abort_expansion_laws.proofs.LooksFirst.{out_looks, watch_gone}
+use Rattle.core_charts.specs.Aborts.{has_aborts}
 
 -- ---- of tests
 
@@ -147,6 +149,17 @@ module _ (k core : Table) (i : Images) (more : EntryRows k core i)
       variables_started inputs k.variables more.rows.added (first_values k.variables) (first_values more.rows.added)
       (length-map k.variables (λ x. initial_value x.kind)) (length-map more.rows.added (λ x. initial_value x.kind)) locals)
 
+  -- nobody is inside of what guards
+  first_unseen : (o s : ℕ) → IsState k o → has_aborts (own k o) ≡ true → Contains (around k (holder k o)) s →
+      has_to_guard (standing_of at_first (holder k s)) ≡ true → LooksFirst k core i o (standing_of core_at_first (i.watcher_of o))
+  first_unseen o s here has inner guards =
+      let holder_is = is_there (holder k s) (λ out. let wrong : true ≡ false = sym guards ∙ ap has_to_guard out in absurd cc) in
+      let gone : standing_of at_first (holder k o) ≡ at.Outside =
+      reached_guards k core i more f (holder k s) guards (chart_is (holder k s) holder_is) (holder k o) s inner refl in
+      out_looks k core i o (standing_of core_at_first (i.watcher_of o))
+      (⊎_elim (λ w. watch_gone k core i o (standing_of at_first (holder k o)) (standing_of core_at_first (i.watcher_of o)) w (inr gone)) (λ hides. hides.0)
+      (entered_watched k core i more at_first core_at_first o here has (both_are (holder k o) (holds_there o here))))
+
   pub first_pending : Pending k core i at_first 0 core_at_first
   first_pending =
       record {
@@ -159,6 +172,7 @@ module _ (k core : Table) (i : Images) (more : EntryRows k core i)
         done = λ r there lt. absurd (omega (lt, arith));
         watchers = λ o here has.
             entered_watched k core i more at_first core_at_first o here has (both_are (holder k o) (holds_there o here));
+        unseen = first_unseen;
         flags = λ s here inner.
             entered_flags k core i more at_first core_at_first unflagged s (standing_of at_first (holder k s)) refl inner
             (both_are (holder k s) (holds_there s here));

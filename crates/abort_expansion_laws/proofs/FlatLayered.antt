@@ -1,5 +1,6 @@
 -- Flat charts are layered.
-use Rattle.std.proofs.Common.{◌≡◌, ℕ, ◌≤◌, ⊎_elim, Bool, true, false, ◌||◌, Option, [], length, unwrap_or, sym, ap, ◌∙◌, arith}
+use Rattle.std.proofs.Common.{◌≡◌, ℕ, ◌≤◌, ⊎_elim, Bool, true, false, ◌||◌, Option, [], length, unwrap_or, refl, sym, ap, ◌∙◌, arith}
+use Rattle.std.proofs.lemmas.Bool.{or_parts}
 use Rattle.std.proofs.lemmas.Option.{slice_get_past}
 use Rattle.core_charts.specs.declared.features.Features.TheVariants as features
 use Rattle.core_charts.specs.Chart.{Chart}
@@ -34,15 +35,17 @@ module _ (c : Chart) (rules : IsChart features.Extended c) (flat : IsFlat c) whe
   some_strong true b e = sym e ∙ e
   some_strong false b e = absurd cc
 
-  no_weak : (a b : Bool) → (a || b) ≡ false → b ≡ false
-  no_weak true b e = absurd cc
-  no_weak false b e = e
+  some_weak : (a b : Bool) → b ≡ true → (a || b) ≡ true
+  some_weak true b e = refl
+  some_weak false b e = e
 
   pub is_layered : IsLayered c
   is_layered =
       record {
-        in_strong = λ o s h has. plain_inside o s h (some_strong (has_strong (own k o)) (has_weak (own k o)) has);
-        in_any = λ o s h has. no_weak (has_strong (own k s)) (has_weak (own k s)) (plain_inside o s h has);
+        strong_apart = λ o s h has.
+            (or_parts (has_strong (own k s)) (has_weak (own k s)) (plain_inside o s h (some_strong (has_strong (own k o)) (has_weak (own k o)) has))).0;
+        weak_apart = λ o s h has.
+            (or_parts (has_strong (own k s)) (has_weak (own k s)) (plain_inside o s h (some_weak (has_strong (own k o)) (has_weak (own k o)) has))).1;
       }
 
 pub flat_charts_are_layered : FlatChartsAreLayered

@@ -1,8 +1,7 @@
 -- A superstate that can only be left from outside, with nobody left inside: nobody is left inside of its fork either.
-use Rattle.std.proofs.Common.{◌≡◌, ℕ, ◌⊎◌, inl, inr, ⊎_elim, Bool, true, false, List, [], ◌∷◌, ◌++◌, map, Contains, refl, sym, ap, subst, ◌∙◌, if◌then◌else◌}
+use Rattle.std.proofs.Common.{◌≡◌, ℕ, ◌⊎◌, inl, inr, ⊎_elim, Bool, true, false, List, [], ◌∷◌, ◌++◌, map, Contains, sym, ap, subst, ◌∙◌, if◌then◌else◌}
 use Rattle.std.proofs.lemmas.List.{append-nil}
 use Rattle.core_charts.specs.Aborts.{has_aborts}
-use Rattle.chart_machine.specs.declared.standing.Standing.{Standing}
 use Rattle.chart_machine.specs.declared.standing.Standing.TheVariants as at
 use Rattle.chart_machine.specs.declared.standing.Configuration.{Configuration}
 use Rattle.chart_machine.specs.declared.table.Table.{Table}
@@ -12,18 +11,11 @@ use Rattle.chart_machine_laws.specs.Tree.{IsThere, around, holder}
 use Rattle.chart_machine_laws.proofs.LyingIn.{head_in, head_or_tail}
 use Rattle.chart_machine_laws.proofs.ChartTables.{around_there}
 use Rattle.abort_expansion_laws.specs.CoreRows.{own, IsState, Images}
-use Rattle.abort_expansion_laws.specs.Related.{Watches, guards, waits, elsewhere}
 use Rattle.abort_expansion_laws.proofs.InsideAround.{inside_around}
 use Rattle.abort_expansion_laws.proofs.TablesCorrespond.{contains_map}
 use Rattle.abort_expansion_laws.proofs.BeginningSorts.{not_both}
 use Rattle.abort_expansion_laws.proofs.JustEntered.{EntryRows}
 use Rattle.abort_expansion_laws.proofs.Pending.{IsJoining, Over, behind_parts}
-
--- the monitor of who is gone
-pub watch_gone : (k core : Table) (i : Images) (o : ℕ) (x y : Standing) → Watches k core i o x y → (x ≡ at.Ended) ⊎ (x ≡ at.Outside) → y ≡ at.Outside
-watch_gone k core i o _ _ (guards some among) gone = ⊎_elim (λ w. absurd cc) (λ w. absurd cc) gone
-watch_gone k core i o _ _ (waits some joins among ends) gone = ⊎_elim (λ w. absurd cc) (λ w. absurd cc) gone
-watch_gone k core i o _ _ (elsewhere x not_guarding not_within) gone = refl
 
 module _ (k core : Table) (i : Images) (more : EntryRows k core i) (c e : Configuration) (u : ℕ) (joining : IsJoining k core i c e u) where
   -- who lies in it is gone: its own regions have ended, and nobody is deeper inside

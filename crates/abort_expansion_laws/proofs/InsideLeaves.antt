@@ -1,5 +1,5 @@
--- What is inside of a superstate whose holder guards can leave: each thread there sees the raised flag first.
-use Rattle.std.proofs.Common.{◌≡◌, ◌≢◌, ℕ, zero, suc, ◌⊎◌, inl, inr, ⊎_elim, Bool, true, false, not, ◌||◌, Option, Some, None, List, [], ◌∷◌, ◌++◌, map}
+-- What is inside of a superstate whose flag was raised can leave, where each thread of its regions and the monitors inside can.
+use Rattle.std.proofs.Common.{◌≡◌, ◌≢◌, ℕ, zero, suc, ◌⊎◌, inl, inr, ⊎_elim, Bool, true, false, ◌||◌, Option, Some, None, List, [], ◌∷◌, ◌++◌, map}
 use Rattle.std.proofs.Common.{length, Contains, refl, sym, ap, subst, ◌∙◌, arith}
 use Rattle.std.specs.Prelude.{reverse, flat_map}
 use Rattle.std.proofs.lemmas.List.{reverse-append, append-nil}
@@ -7,33 +7,33 @@ use Rattle.std.proofs.lemmas.Grind.{flat_map-append}
 use Rattle.std.proofs.lemmas.List.Folds.{flat_map-map}
 use Rattle.std.proofs.lemmas.Bool.{or_parts}
 use Rattle.core_charts.specs.declared.region.Transition.{Transition}
-use Rattle.core_charts.specs.Tests.{at_once, strong_aborts, weak_aborts, terminations}
+use Rattle.core_charts.specs.Tests.{at_once}
 use Rattle.core_charts.specs.Aborts.{has_strong, has_weak, has_aborts}
 use Rattle.chart_machine.specs.declared.standing.Standing.{Standing}
 use Rattle.chart_machine.specs.declared.standing.Standing.TheVariants as at
 use Rattle.chart_machine.specs.declared.standing.Configuration.{Configuration}
 use Rattle.chart_machine.specs.declared.table.Table.{Table}
 use Rattle.chart_machine.specs.Table.{state_at}
-use Rattle.chart_machine.specs.Turns.{standing_of, guards, is_guarded, inside}
-use Rattle.chart_machine.specs.Steps.{to, state_in, verdict, access_of_trigger}
+use Rattle.chart_machine.specs.Turns.{standing_of, inside}
+use Rattle.chart_machine.specs.Steps.{to, state_in}
 use Rattle.abort_expansion.specs.declared.flags.Flags.{Flags}
 use Rattle.abort_expansion.specs.Flags.{aborts_around, is_there}
-use Rattle.abort_expansion.specs.Transitions.{is_raised, go, check, led, strong_checks, answers}
-use Rattle.abort_expansion.specs.Superstates.{stays, closing}
-use Rattle.abort_expansion_laws.specs.Stages.{Correspondence, IsSilent}
+use Rattle.abort_expansion.specs.Transitions.{check, strong_checks}
+use Rattle.abort_expansion.specs.Superstates.{stays}
+use Rattle.abort_expansion_laws.specs.Stages.{Correspondence}
 use Rattle.chart_machine_laws.proofs.LyingIn.{IsNested, around, holder, none_in, head_or_tail, head_in, tail_in}
-use Rattle.abort_expansion_laws.proofs.StageReached.{holds_other, any_in}
+use Rattle.abort_expansion_laws.proofs.StageReached.{holds_other}
 use Rattle.abort_expansion_laws.proofs.TablesCorrespond.{IsThere, contains_map}
 use Rattle.chart_machine_laws.proofs.ChartTables.{no_regions_past, within_or_past, nothing_around}
 use Rattle.abort_expansion_laws.proofs.KnownVariables.{present_there, in_either}
 use Rattle.abort_expansion_laws.specs.CoreRows.{own, IsState, IsSimple, IsSuper, joins, Images, CoreRows, SplitImage, flags_around, watchers}
 use Rattle.abort_expansion_laws.specs.CoreRows.{behind_transitions}
-use Rattle.abort_expansion_laws.specs.Related.{IsCalm, front, held_back, tests_of, is_behind, Stands}
+use Rattle.abort_expansion_laws.specs.Related.{is_behind, Stands}
 use Rattle.abort_expansion_laws.specs.Related.{outside, ended, left, trying, acting, entering, guarding, staying, within, behind, IsInside, open_inside}
-use Rattle.abort_expansion_laws.specs.Related.{Related, Watches, waits, elsewhere}
+use Rattle.abort_expansion_laws.specs.Related.{Related, Watches, waits, looks, elsewhere}
 use Rattle.abort_expansion_laws.specs.Related.{guards as watch_guards}
-use Rattle.abort_expansion_laws.proofs.MayLeave.{LeavesBy, leads_out, MayLeave, out, over, tries, forks}
-use Rattle.abort_expansion_laws.proofs.CalmStandings.{calm_acting, calm_entering, calm_guarding}
+use Rattle.abort_expansion_laws.proofs.MayLeave.{LeavesBy, MayLeave, over, forks}
+use Rattle.abort_expansion_laws.proofs.OneMonitor.{one_monitor}
 
 -- ---- one of the superstates around a region has aborts: then one check stands in front
 
@@ -67,9 +67,8 @@ module _ (k : Table) (tree : IsNested k) (c : ℕ → List Transition) where
 -- ---- what more is asked of the rows
 
 pub record LayeredRows (k core : Table) (i : Images) : Type 0 where
-  -- inside of a superstate with strong aborts none has aborts, and inside of one with aborts none has weak ones
-  pub in_strong : (o s : ℕ) → has_strong (own k o) ≡ true → Contains (around k (holder k s)) o → has_aborts (own k s) ≡ false
-  pub in_any : (o s : ℕ) → has_aborts (own k o) ≡ true → Contains (around k (holder k s)) o → has_weak (own k s) ≡ false
+  -- inside of a superstate with strong aborts none has strong ones
+  pub strong_apart : (o s : ℕ) → has_strong (own k o) ≡ true → Contains (around k (holder k s)) o → has_strong (own k s) ≡ false
   -- so of the superstates around a region one has strong aborts, at most, and one weak ones
   pub strong_once : (q o s : ℕ) → Contains (around k q) o → Contains (around k q) s → has_strong (own k o) ≡ true → has_strong (own k s) ≡ true → s ≡ o
   pub weak_once : (q o s : ℕ) → Contains (around k q) o → Contains (around k q) s → has_weak (own k o) ≡ true → has_weak (own k s) ≡ true → s ≡ o
@@ -77,6 +76,7 @@ pub record LayeredRows (k core : Table) (i : Images) : Type 0 where
   -- nothing is inside of what is no fork
   pub simple_alone : (s : ℕ) → IsSimple k s → inside core (i.main_of s) ≡ []
   pub behind_alone : (s : ℕ) → inside core (i.behind_of s) ≡ []
+  pub watching_alone : (s : ℕ) → IsState k s → has_aborts (own k s) ≡ true → inside core (i.watching_of s) ≡ []
 
 pub true_or_false : (b : Bool) → (b ≡ true) ⊎ (b ≡ false)
 true_or_false true = inl refl
@@ -91,7 +91,7 @@ none_there : (b : Bool) (place : ℕ) (o : Option ℕ) → is_there o ≡ false 
 none_there b place None e = refl
 none_there b place (Some x) e = absurd cc
 
-no_checks : (b : Bool) (place : ℕ) (fs : List Flags) → aborts_around fs ≡ false → strong_checks b place fs ≡ []
+pub no_checks : (b : Bool) (place : ℕ) (fs : List Flags) → aborts_around fs ≡ false → strong_checks b place fs ≡ []
 no_checks b place [] e = refl
 no_checks b place (f ∷ fs) e =
     let both = or_parts (is_there f.strong || is_there f.weak) (aborts_around fs) e in
@@ -120,11 +120,11 @@ module _ (k core : Table) (i : Images) (more : LayeredRows k core i) (tree : IsN
       ⊎_elim (λ e. absurd (differs (more.strong_once q o s in_o around_it has e))) (λ e. ap (check b place) (more.no_strong s e))
       (true_or_false (has_strong (own k s)))
 
-  pub checked_once : (q : ℕ) (b : Bool) → Contains (around k q) o →
-      strong_checks b (i.places_of q).left (flags_around k core i q) ≡ check b (i.places_of q).left (i.flags_of o).strong
-  checked_once q b in_o =
-      flat_map-map (λ f. check b (i.places_of q).left f.strong) i.flags_of (reverse (around k q))
-      ∙ one_checked k tree (λ s. check b (i.places_of q).left (i.flags_of s).strong) (around k q) q o refl in_o (others_none q in_o b (i.places_of q).left)
+  pub checked_once : (q : ℕ) (b : Bool) (place : ℕ) → Contains (around k q) o →
+      strong_checks b place (flags_around k core i q) ≡ check b place (i.flags_of o).strong
+  checked_once q b place in_o =
+      flat_map-map (λ f. check b place f.strong) i.flags_of (reverse (around k q))
+      ∙ one_checked k tree (λ s. check b place (i.flags_of s).strong) (around k q) q o refl in_o (others_none q in_o b place)
 
 -- ---- each thread inside, whatever it sees
 
@@ -136,6 +136,7 @@ monitor_there : (k core : Table) (i : Images) (o : ℕ) (x y : Standing) → Wat
     y ≢ at.Outside
 monitor_there k core i o _ _ (watch_guards some among) tests e away = absurd cc
 monitor_there k core i o _ _ (waits some ends among only) tests e away = absurd cc
+monitor_there k core i o _ _ (looks first some ends among only) tests e away = absurd cc
 monitor_there k core i o x _ (elsewhere z a b) tests e away = b tests e
 
 module _ (k core : Table) (i : Images) (rows : CoreRows k core i) (more : LayeredRows k core i) (tree : IsNested k)
@@ -150,10 +151,7 @@ module _ (k core : Table) (i : Images) (rows : CoreRows k core i) (more : Layere
   -- a monitor inside is another one
   other_monitor : (s : ℕ) → IsState k s → has_aborts (own k s) ≡ true → Contains (around k (holder k s)) o → i.watcher_of s ≢ i.watcher_of o
   other_monitor s s_there has_some in_o e =
-      let same_main : i.main_of s ≡ i.main_of o = heads (i.main_of s) (i.main_of o) (around core (i.thread_of (holder k s)))
-      (around core (i.thread_of (holder k o)))
-      (sym (rows.watcher s s_there has_some).encloses ∙ (ap (around core) e ∙ (rows.watcher o o_there has).encloses)) in
-      let is : s ≡ o = rows.main_once s o same_main in
+      let is : s ≡ o = one_monitor k core i rows s o s_there has_some o_there has e in
       holds_other k tree (holder k o) o (subst (λ v. Contains (around k (holder k v)) o) is in_o) refl
 
   pub same_monitor : (s : ℕ) → IsState k s → has_aborts (own k s) ≡ true → Contains (around k (holder k s)) o →
@@ -269,115 +267,3 @@ module _ (k core : Table) (i : Images) (rows : CoreRows k core i) (more : Layere
           MayLeave core corr home stage (i.main_of o) first t (standing_of first t)
       by_sort (inl r) = by_region r.0 r.1 r.2
       by_sort (inr s) = by_monitor s.0 s.1 s.2 s.3
-
--- ---- the holder guards: each thread inside sees the strong flag first
-
-module _ (k core : Table) (i : Images) (rows : CoreRows k core i) (more : LayeredRows k core i) (tree : IsNested k)
-    (core_children : (s r : ℕ) → Contains (state_at core s).regions r → around core r ≡ s ∷ around core (holder core s))
-    (children : (s r : ℕ) → Contains (state_at k s).regions r → around k r ≡ s ∷ around k (holder k s))
-    (o x : ℕ) (has : has_strong (own k o) ≡ true) (flag : (i.flags_of o).strong ≡ Some x) where
-  some_aborts : has_aborts (own k o) ≡ true
-  some_aborts = rw (has) refl
-
-  -- the one check in front
-  abbrev pub sees : Bool → ℕ → Transition
-  sees b q = go b (Some (is_raised x)) [] (i.places_of q).left
-
-  pub one_check : (q : ℕ) (b : Bool) → Contains (around k q) o → strong_checks b (i.places_of q).left (flags_around k core i q) ≡ sees b q ∷ []
-  one_check q b in_o = checked_once k core i more tree o has q b in_o ∙ ap (check b (i.places_of q).left) flag
-
-  pub aborts_here : (q : ℕ) → Contains (around k q) o → aborts_around (flags_around k core i q) ≡ true
-  aborts_here q in_o = ⊎_elim (λ e. e) (λ e. wrong e) (true_or_false (aborts_around (flags_around k core i q)))
-    where
-      wrong : aborts_around (flags_around k core i q) ≡ false → aborts_around (flags_around k core i q) ≡ true
-      wrong e = let none : sees true q ∷ [] ≡ [] = sym (one_check q true in_o) ∙ no_checks true (i.places_of q).left (flags_around k core i q) e in absurd cc
-
-  module _ (c d : Configuration) (related : Related k core i c d) (guarding_now : guards (standing_of c (holder k o)) ≡ true)
-      (calm : (q : ℕ) → Contains (around k q) o → IsCalm (standing_of c q))
-      (corr : Correspondence) (home stage : ℕ) (first : Configuration)
-      (silent : (q : ℕ) → Contains (around k q) o → IsSilent corr (i.thread_of q) (Some (home, stage)) (access_of_trigger (Some (is_raised x))))
-      (raised : verdict first.variables (Some (is_raised x)) ≡ Some true)
-      (same : (g : ℕ) → g ≢ i.watcher_of o → standing_of first g ≡ standing_of d g) (o_there : IsState k o) where
-    abbrev pub Leaves : ℕ → Standing → Type 0
-    Leaves t z = MayLeave core corr home stage (i.main_of o) first t z
-
-    guarded_here : (q : ℕ) → Contains (around k q) o → is_guarded k c (around k q) ≡ true
-    guarded_here q in_o = any_in (λ s. guards (standing_of c (holder k s))) (around k q) o in_o guarding_now
-
-    leaves_by : (q : ℕ) (b : Bool) (rest : List Transition) → IsThere k q → Contains (around k q) o →
-        LeavesBy core corr home stage (i.main_of o) first (i.thread_of q) (sees b q ∷ rest)
-    leaves_by q b rest there in_o =
-        leads_out (sees b q) rest raised refl ((rows.region q there).left (aborts_here q in_o)) (Some (home, stage)) (inr (inl refl)) (silent q in_o)
-
-    -- a simple state
-    by_trying : (q s : ℕ) (tests : List Transition) → IsThere k q → Contains (around k q) o → IsSimple k s →
-        Leaves (i.thread_of q) (at.Trying (i.main_of s) (tests_of k core i c q tests))
-    by_trying q s tests there in_o simple =
-        let fronts : front k core i false c q ≡ sees false q ∷ [] = rw (guarded_here q in_o) (one_check q false in_o) in
-        let all : tests_of k core i c q tests ≡ sees false q ∷ (map (led (i.places_of q)) tests ++ held_back k core i q) =
-        ap (λ zs. zs ++ map (led (i.places_of q)) tests ++ held_back k core i q) fronts in
-        subst (λ zs. Leaves (i.thread_of q) (at.Trying (i.main_of s) zs)) (sym all)
-        (tries (i.main_of s) (sees false q ∷ (map (led (i.places_of q)) tests ++ held_back k core i q)) (more.simple_alone s simple)
-        (leaves_by q false (map (led (i.places_of q)) tests ++ held_back k core i q) there in_o))
-
-    -- behind a fork that is over
-    by_behind : (q s : ℕ) → IsThere k q → Contains (around k q) o → Leaves (i.thread_of q)
-        (at.Trying (i.behind_of s) (front k core i true c q ++ held_back k core i q))
-    by_behind q s there in_o =
-        let fronts : front k core i true c q ≡ sees true q ∷ [] = rw (guarded_here q in_o) (one_check q true in_o) in
-        subst (λ zs. Leaves (i.thread_of q) (at.Trying (i.behind_of s) (zs ++ held_back k core i q))) (sym fronts)
-        (tries (i.behind_of s) (sees true q ∷ held_back k core i q) (more.behind_alone s) (leaves_by q true (held_back k core i q) there in_o))
-
-    -- the continuation of a superstate without aborts
-    abbrev behind_it : ℕ → ℕ → List Transition
-    behind_it q s =
-        at_once (answers (i.places_of q) (i.flags_of s).strong 1 (strong_aborts (own k s))
-        ++ answers (i.places_of q) (i.flags_of s).weak 1 (weak_aborts (own k s)) ++ closing (flags_around k core i q) (i.flags_of s) (i.places_of q)
-        (terminations (own k s)))
-
-    continues : (q s : ℕ) → Contains (around k q) o → at_once (behind_transitions k core i q s) ≡ sees true q ∷ behind_it q s
-    continues q s in_o =
-        ap (λ zs. at_once (zs ++ answers (i.places_of q) (i.flags_of s).strong 1 (strong_aborts (own k s))
-        ++ answers (i.places_of q) (i.flags_of s).weak 1 (weak_aborts (own k s)) ++ closing (flags_around k core i q) (i.flags_of s) (i.places_of q)
-        (terminations (own k s)))) (one_check q true in_o)
-
-    by_within : (q s join : ℕ) (tests : List Transition) → IsThere k q → Contains (around k q) o → standing_of c q ≡ at.Within s tests → IsSuper k s →
-        holder k s ≡ q →
-        stays (flags_around k core i q) (own k s) ≡ false → is_behind k core i c s ≡ false → state_in core (i.thread_of q) join ≡ i.behind_of s →
-        Leaves (i.thread_of q) (at.Within (i.main_of s) (joins join ∷ []))
-    by_within q s join tests there in_o stands super held not_staying open_still leads =
-        fork_leaves k core i rows more tree core_children children o some_aborts c d related corr home stage first same o_there q s join tests in_o stands
-        super held
-        not_staying open_still leads
-        (subst (LeavesBy core corr home stage (i.main_of o) first (i.thread_of q)) (sym (continues q s in_o)) (leaves_by q true (behind_it q s) there in_o))
-
-    never_stays : (q s : ℕ) → Contains (around k q) o → stays (flags_around k core i q) (own k s) ≡ true → ⊥
-    never_stays q s in_o e = by_aborts (has_aborts (own k s)) (aborts_around (flags_around k core i q)) (aborts_here q in_o) e
-      where
-        by_aborts : (a b : Bool) → b ≡ true → not (a || b) ≡ true → ⊥
-        by_aborts true b e f = absurd cc
-        by_aborts false true e f = absurd cc
-        by_aborts false false e f = absurd cc
-
-    by_stands : (q : ℕ) → IsThere k q → Contains (around k q) o → (z y : Standing) → Stands k core i c q z y → standing_of c q ≡ z → IsCalm z →
-        Leaves (i.thread_of q) y
-    by_stands q there in_o _ _ outside is quiet = out
-    by_stands q there in_o _ _ (ended inner) is quiet = over
-    by_stands q there in_o _ _ (left s ss e over_it) is quiet = out
-    by_stands q there in_o _ _ (trying s tests simple held) is quiet = by_trying q s tests there in_o simple
-    by_stands q there in_o _ _ (acting s u p g effects lt) is quiet = absurd (calm_acting (at.Acting s (g ∷ effects) p) quiet s p (g ∷ effects) refl)
-    by_stands q there in_o _ _ (entering s fork t tests super held leads) is quiet =
-        absurd (calm_entering (at.Entering s (t ∷ tests)) quiet s (t ∷ tests) refl)
-    by_stands q there in_o _ _ (guarding s join t tests has_some held leads) is quiet =
-        absurd (calm_guarding (at.Guarding s (t ∷ tests)) quiet s (t ∷ tests) refl)
-    by_stands q there in_o _ _ (staying s tests super held stay) is quiet = absurd (never_stays q s in_o stay)
-    by_stands q there in_o _ _ (within s join tests super held stay open_still leads) is quiet = by_within q s join
-        tests there in_o is super held stay open_still leads
-    by_stands q there in_o _ _ (behind s tests super held over_it) is quiet = by_behind q s there in_o
-
-    -- each thread of the fork can leave, where its monitor has ended
-    pub may_leave : standing_of first (i.watcher_of o) ≡ at.Ended → (t : ℕ) → Contains (around core t) (i.main_of o) → Leaves t (standing_of first t)
-    may_leave =
-        all_may_leave k core i rows more tree core_children children o some_aborts c d related corr home stage first same o_there
-        (λ u u_there some in_o. let wrong : true ≡ false = sym some ∙ more.in_strong o u has in_o in absurd cc)
-        (λ q there in_o. by_stands q there in_o (standing_of c q) (standing_of d (i.thread_of q)) (related.regions q there) refl (calm q in_o))

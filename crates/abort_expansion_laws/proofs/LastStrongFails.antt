@@ -1,9 +1,9 @@
 -- The last strong test of a superstate fails: its inside has its turn, and each thread there goes on behind its strong check.
-use Rattle.std.proofs.Common.{◌≡◌, ◌≢◌, ℕ, pos, ◌<◌, ◌⊎◌, inl, inr, ⊎_elim, Bool, true, false, not, ◌&&◌, Some}
-use Rattle.std.proofs.Common.{List, [], ◌∷◌, ◌++◌, map, length, slice_get, slice_set, Contains, refl, sym, ap, subst, ◌∙◌, arith}
+use Rattle.std.proofs.Common.{◌≡◌, ◌≢◌, ℕ, pos, ◌<◌, ◌⊎◌, inl, inr, ⊎_elim, Bool, true, false, Some, List, [], ◌∷◌, ◌++◌, map, length, slice_get}
+use Rattle.std.proofs.Common.{slice_set, Contains, refl, sym, ap, subst, ◌∙◌, arith}
 use Rattle.sc_values.specs.declared.value.Value.TheVariants as value_is
 use Rattle.core_charts.specs.declared.region.Transition.{Transition}
-use Rattle.core_charts.specs.Tests.{weak_aborts, terminations, closing_tests, is_weak, is_join}
+use Rattle.core_charts.specs.Tests.{weak_aborts, terminations, closing_tests, is_join}
 use Rattle.chart_machine.specs.declared.standing.Standing.{Standing}
 use Rattle.chart_machine.specs.declared.standing.Standing.TheVariants as at
 use Rattle.chart_machine.specs.declared.standing.Configuration.{Configuration}
@@ -19,24 +19,25 @@ use Rattle.chart_machine_laws.proofs.LyingIn.{head_in, tail_in}
 use Rattle.chart_machine_laws.proofs.ChartTables.{around_there}
 use Rattle.tick_laws.proofs.Lists.{same_or_not, contained}
 use Rattle.abort_expansion_laws.specs.CoreRows.{own, IsState, IsSuper, Images, CoreRows, flags_around}
-use Rattle.abort_expansion_laws.specs.Related.{monitor_last}
-use Rattle.abort_expansion_laws.specs.Related.{front, is_behind, Stands}
-use Rattle.abort_expansion_laws.specs.Related.{within, Watches, waits, elsewhere, raises, raise_each, still_in, Stores, IsInside, guarded, open_inside}
-use Rattle.abort_expansion_laws.specs.Related.{FlagsAreDown, Closes, Related, IsCalm, calm_within}
-use Rattle.abort_expansion_laws.specs.Related.{guards as watch_guards}
+use Rattle.abort_expansion_laws.specs.Related.{monitor_last, LooksFirst, front, is_behind, Stands, within, Watches, waits, looks, elsewhere, raises}
+use Rattle.abort_expansion_laws.specs.Related.{raise_each, still_in, Stores, IsInside, guarded, open_inside, FlagsAreDown, Closes, Related, IsCalm}
+use Rattle.abort_expansion_laws.specs.Related.{calm_within, guards as watch_guards}
 use Rattle.abort_expansion_laws.proofs.StageReached.{any_in, holds_other}
-use Rattle.abort_expansion_laws.proofs.Unchanged.{stands_same, stands_other, no_guards, never_guarded, none_among}
+use Rattle.abort_expansion_laws.proofs.Unchanged.{stands_same, stands_other, no_guards, never_guarded, none_among, none_are, both_ways}
 use Rattle.abort_expansion_laws.proofs.KnownVariables.{present_there}
 use Rattle.abort_expansion_laws.proofs.StrongNotTaken.{IsGuarding, guarding_back, MonitorGuards, guards_back, inside_guarding}
-use Rattle.abort_expansion_laws.proofs.InsideLeaves.{LayeredRows, one_check, strong_of}
+use Rattle.abort_expansion_laws.proofs.InsideLeaves.{LayeredRows, strong_of}
+use Rattle.abort_expansion_laws.proofs.StrongLeaves.{one_check}
 use Rattle.abort_expansion_laws.proofs.Leaving.{set_length}
 use Rattle.abort_expansion_laws.proofs.MoreValues.{verdict_over_more}
 use Rattle.abort_expansion_laws.proofs.TestFails.{fails}
-use Rattle.abort_expansion_laws.proofs.LaterTicks.{weak_no_join, each_more}
+use Rattle.abort_expansion_laws.proofs.LaterTicks.{closes_whole}
 use Rattle.abort_expansion_laws.proofs.WokenConfigurations.{numbered_from, numbered_are, all_among, raising_is, each_kept}
 use Rattle.abort_expansion_laws.proofs.FrontsChanged.{tail_of, HasFirst, stands_to, has_first, stands_dropped}
-use Rattle.abort_expansion_laws.proofs.CalmStandings.{calm_free}
+use Rattle.abort_expansion_laws.proofs.CalmStandings.{calm_free, calm_guarding}
 use Rattle.abort_expansion_laws.proofs.InsideAround.{one_in_other}
+use Rattle.abort_expansion_laws.proofs.LooksFirst.{still_looks}
+use Rattle.abort_expansion_laws.proofs.OneMonitor.{one_monitor}
 
 map_empty : (xs : List (ℕ × Transition)) → map (λ (x : ℕ × Transition). x.1) xs ≡ [] → xs ≡ []
 map_empty [] e = refl
@@ -134,10 +135,6 @@ module _ (k core : Table) (i : Images) (rows : CoreRows k core i) (layered : Lay
   is_guarded_before : (q : ℕ) → Contains (around k q) o → is_guarded k c (around k q) ≡ true
   is_guarded_before q inner = any_in (λ s. has_to_guard (standing_of c (holder k s))) (around k q) o inner guards_there
 
-  none_guards : (zs : List ℕ) → ((s : ℕ) → Contains zs s → has_to_guard (standing_of c' (holder k s)) ≡ false) → is_guarded k c' zs ≡ false
-  none_guards [] none = refl
-  none_guards (s ∷ zs) none = rw (none s (head_in s zs), none_guards zs (λ u h. none u (tail_in s u zs h))) refl
-
   same_guards : (zs : List ℕ) → ((s : ℕ) → Contains zs s → holder k s ≢ r) → is_guarded k c' zs ≡ is_guarded k c zs
   same_guards [] other = refl
   same_guards (s ∷ zs) other =
@@ -145,7 +142,9 @@ module _ (k core : Table) (i : Images) (rows : CoreRows k core i) (layered : Lay
 
   module _ (free : is_guarded k c (around k r) ≡ false) where
     free_now : (q : ℕ) → Contains (around k q) o → is_guarded k c' (around k q) ≡ false
-    free_now q inner = none_guards (around k q) (λ s h. by_holder s h (same_or_not (holder k s) r))
+    free_now q inner =
+        none_are (λ s. has_to_guard (standing_of c' (holder k s))) (around k q)
+        (λ s h on. both_ways (has_to_guard (standing_of c' (holder k s))) on (by_holder s h (same_or_not (holder k s) r)))
       where
         by_place : (s : ℕ) → (s ≡ o) ⊎ (Contains (around k (holder k s)) o ⊎ Contains (around k (holder k o)) s) → holder k s ≢ r →
             has_to_guard (standing_of c (holder k s)) ≡ false
@@ -198,9 +197,6 @@ module _ (k core : Table) (i : Images) (rows : CoreRows k core i) (layered : Lay
     module _ (e : Configuration) (variables : e.variables ≡ d1.variables) (size : length e.regions ≡ length d1.regions)
         (passed : (q : ℕ) → IsThere k q → Contains (around k q) o → standing_of e (i.thread_of q) ≡ tail_of (standing_of d1 (i.thread_of q)))
         (others : (g : ℕ) → ((q : ℕ) → IsThere k q → Contains (around k q) o → g ≢ i.thread_of q) → standing_of e g ≡ standing_of d1 g) where
-      core_size : length d1.regions ≡ length d.regions
-      core_size = set_length d.regions (i.watcher_of o) watching_now
-
       thread_kept : (q : ℕ) → (Contains (around k q) o → ⊥) → standing_of e (i.thread_of q) ≡ standing_of d (i.thread_of q)
       thread_kept q out =
           others (i.thread_of q) (λ p is inner f. out (subst (λ v. Contains (around k v) o) (sym (rows.region_once q p f)) inner)) ∙ thread_same q
@@ -208,13 +204,8 @@ module _ (k core : Table) (i : Images) (rows : CoreRows k core i) (layered : Lay
       watcher_kept : (u : ℕ) → IsState k u → has_aborts (own k u) ≡ true → standing_of e (i.watcher_of u) ≡ standing_of d1 (i.watcher_of u)
       watcher_kept u is has_too = others (i.watcher_of u) (λ q q_there inner f. (rows.watcher u is has_too).no_thread q (sym f))
 
-      heads : (a b : ℕ) (as_ bs : List ℕ) → a ∷ as_ ≡ b ∷ bs → a ≡ b
-      heads a b as_ bs f = cc
-
       monitors_differ : (u : ℕ) → IsState k u → has_aborts (own k u) ≡ true → i.watcher_of u ≡ i.watcher_of o → u ≡ o
-      monitors_differ u is has_too f =
-          rows.main_once u o
-          (heads (i.main_of u) (i.main_of o) _ _ (sym (rows.watcher u is has_too).encloses ∙ (ap (around core) f ∙ (rows.watcher o o_there has).encloses)))
+      monitors_differ u is has_too f = one_monitor k core i rows u o is has_too o_there has f
 
       regions_now : (q : ℕ) → IsThere k q → Stands k core i c' q (standing_of c' q) (standing_of e (i.thread_of q))
       regions_now q is = ⊎_elim own_region other_region (same_or_not q r)
@@ -223,12 +214,7 @@ module _ (k core : Table) (i : Images) (rows : CoreRows k core i) (layered : Lay
           apart = rw (has) refl
 
           still : is_behind k core i c' o ≡ false
-          still = not_behind (stays (flags_around k core i (holder k o)) (own k o)) (has_aborts (own k o)) _ has
-            where
-              not_behind : (a b rest : Bool) → b ≡ true → (not a && (not b && rest)) ≡ false
-              not_behind true b rest f = refl
-              not_behind false true rest f = refl
-              not_behind false false rest f = absurd cc
+          still = rw (has) refl
 
           own_region : q ≡ r → Stands k core i c' q (standing_of c' q) (standing_of e (i.thread_of q))
           own_region f =
@@ -264,6 +250,7 @@ module _ (k core : Table) (i : Images) (rows : CoreRows k core i) (layered : Lay
       not_watched : (u : ℕ) → u ≢ o → (a b : Standing) → Watches k core i u a b → a ≡ at.Guarding o (t ∷ []) → Watches k core i u opened_now b
       not_watched u ne _ _ (watch_guards some among) f = let same : u ≡ o = cc in absurd (ne same)
       not_watched u ne _ _ (waits some ends among only) f = absurd cc
+      not_watched u ne _ _ (looks first some ends among only) f = absurd cc
       not_watched u ne a _ (elsewhere z one two) f =
           elsewhere opened_now (λ tests g. absurd cc) (λ tests g. let same : o ≡ u = cc in ne (sym same))
 
@@ -342,13 +329,7 @@ module _ (k core : Table) (i : Images) (rows : CoreRows k core i) (layered : Lay
               let both : opened_now ≡ at.Within s tests = sym here ∙ (ap (standing_of c') (sym g) ∙ f) in
               let one : o ≡ s = cc in
               let are : closing_tests (own k o) ≡ tests = cc in
-              record {
-                some = weak_aborts (own k s);
-                no_join =
-                    each_more (λ z. is_weak z.kind) (λ z. is_join z.kind) true false (weak_aborts (own k s)) (λ z weak. weak_no_join z.kind weak)
-                    (each_kept (λ z. is_weak z.kind) (own k s));
-                are = sym are ∙ ap (λ v. closing_tests (own k v)) one;
-              }
+              subst (Closes k core i s) (ap (λ v. closing_tests (own k v)) (sym one) ∙ are) (closes_whole k core i s)
 
           other : holder k s ≢ r → Closes k core i s tests
           other ne = related.closes_last s tests (sym (elsewhere_in_chart (holder k s) ne) ∙ f)
@@ -365,6 +346,25 @@ module _ (k core : Table) (i : Images) (rows : CoreRows k core i) (layered : Lay
               (λ other_region. subst IsCalm (sym (elsewhere_in_chart q other_region))
               (related.calm q s is inner (ap has_to_guard (sym (elsewhere_in_chart (holder k s) ne)) ∙ guard))) (same_or_not q r)
 
+      -- the monitors inside stand as before
+      unseen_now : (u s : ℕ) → IsState k u → has_aborts (own k u) ≡ true → Contains (around k (holder k u)) s →
+          has_to_guard (standing_of c' (holder k s)) ≡ true → LooksFirst k core i u (standing_of e (i.watcher_of u))
+      unseen_now u s is has_too inner guard =
+          ⊎_elim
+          (λ f. let wrong : false ≡ true = sym (ap has_to_guard (ap (standing_of c') f ∙ here)) ∙ guard in absurd cc)
+          (λ ne.
+          let was : has_to_guard (standing_of c (holder k s)) ≡ true = ap has_to_guard (sym (elsewhere_in_chart (holder k s) ne)) ∙ guard in
+          ⊎_elim
+          (λ f.
+          let around_r : Contains (around k r) s = subst (λ q. Contains (around k q) s) (ap (holder k) f ∙ region.held) inner in
+          absurd (calm_guarding (standing_of c r) (related.calm r s there around_r was) o (t ∷ []) stands))
+          (λ differ.
+          still_looks k core i u (standing_of d (i.watcher_of u)) (standing_of e (i.watcher_of u))
+          (watcher_kept u is has_too ∙ core_elsewhere (i.watcher_of u) (λ f. differ (monitors_differ u is has_too f)))
+          (related.unseen u s is has_too inner was))
+          (same_or_not u o))
+          (same_or_not (holder k s) r)
+
       not_zero : (n : ℕ) → 0 < n → 0 ≢ n
       not_zero n lt f = absurd (omega (lt, f, arith))
 
@@ -375,7 +375,7 @@ module _ (k core : Table) (i : Images) (rows : CoreRows k core i) (layered : Lay
             variables = variables ∙ related.variables;
             flag_count = ap length variables ∙ related.flag_count;
             chart_regions = set_length c.regions r opened_now ∙ related.chart_regions;
-            core_regions = size ∙ (core_size ∙ related.core_regions);
+            core_regions = size ∙ (set_length d.regions (i.watcher_of o) watching_now ∙ related.core_regions);
             values = related.values;
             no_chart = elsewhere_in_chart 0 (not_zero r there.0) ∙ related.no_chart;
             no_core =
@@ -396,4 +396,5 @@ module _ (k core : Table) (i : Images) (rows : CoreRows k core i) (layered : Lay
             opened = λ s q is h child. present_after q (related.opened s q is (was_inside s h) child);
             closes_last = closes_now;
             calm = calm_now;
+            unseen = unseen_now;
           }

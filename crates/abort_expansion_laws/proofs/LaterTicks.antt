@@ -17,7 +17,7 @@ use Rattle.chart_machine.specs.declared.table.Table.{Table}
 use Rattle.chart_machine.specs.Table.{state_at}
 use Rattle.chart_machine.specs.Turns.{standing_of, has_ended, guards as has_to_guard}
 use Rattle.chart_machine.specs.Machine.{woken, guarded_first}
-use Rattle.core_charts.specs.Aborts.{has_strong, has_weak, has_aborts}
+use Rattle.core_charts.specs.Aborts.{has_strong}
 use Rattle.chart_machine_laws.specs.Tree.{IsNested, IsThere, around, holder}
 use Rattle.abort_expansion_laws.specs.CoreRows.{own, IsState, Images, CoreRows}
 use Rattle.abort_expansion_laws.specs.Related.{Each, Watches, still_in, Stores, IsInside, guarded}
@@ -29,7 +29,8 @@ use Rattle.abort_expansion_laws.proofs.WokenConfigurations.{each_kept, variables
 use Rattle.abort_expansion_laws.proofs.WokenConfigurations.{woken_ended, present_before, present_after, open_then}
 use Rattle.abort_expansion_laws.proofs.TickStarts.{StartRows, kept_none, neither}
 use Rattle.abort_expansion_laws.proofs.TickStarts as starts
-use Rattle.abort_expansion_laws.proofs.WokenMonitors.{monitor_woken}
+use Rattle.abort_expansion_laws.proofs.WokenMonitors.{monitor_woken, woken_looks}
+use Rattle.abort_expansion_laws.proofs.LooksFirst.{still_looks}
 
 pub weak_no_join : (t : TransitionKind) → is_weak t ≡ true → is_join t ≡ false
 weak_no_join kind.Go e = refl
@@ -41,6 +42,17 @@ pub each_more : (P Q : Transition → Bool) (p q : Bool) (ts : List Transition) 
     Each (λ t. Q t ≡ q) ts
 each_more P Q p q [] h all = tt
 each_more P Q p q (t ∷ ts) h all = (h t all.0, each_more P Q p q ts h all.1)
+
+-- all that a superstate tests when nobody inside can step ends with its termination
+pub closes_whole : (k core : Table) (i : Images) (s : ℕ) → Closes k core i s (closing_tests (own k s))
+closes_whole k core i s =
+    record {
+      some = weak_aborts (own k s);
+      no_join =
+          each_more (λ t. is_weak t.kind) (λ t. is_join t.kind) true false (weak_aborts (own k s)) (λ t weak. weak_no_join t.kind weak)
+          (each_kept (λ t. is_weak t.kind) (own k s));
+      are = refl;
+    }
 
 module _ (k core : Table) (i : Images) (rows : CoreRows k core i) (layered : LayeredRows k core i) (tree : IsNested k) (more_rows : StartRows k core i rows)
     (before core_before : Configuration) (rests : Resting k core i before core_before) (inputs : Inputs) where
@@ -168,24 +180,18 @@ module _ (k core : Table) (i : Images) (rows : CoreRows k core i) (layered : Lay
       from [] e =
           let same : u ≡ s = cc in
           let are : closing_tests (own k u) ≡ tests = cc in
-          record {
-            some = weak_aborts (own k s);
-            no_join =
-                each_more (λ t. is_weak t.kind) (λ t. is_join t.kind) true false (weak_aborts (own k s)) (λ t weak. weak_no_join t.kind weak)
-                (each_kept (λ t. is_weak t.kind) (own k s));
-            are = sym are ∙ ap (λ z. closing_tests (own k z)) same;
-          }
+          subst (Closes k core i s) (ap (λ z. closing_tests (own k z)) (sym same) ∙ are) (closes_whole k core i s)
       from (t ∷ strong) e = absurd cc
 
   -- ---- who is inside of what guards
 
-  plain_strong : (u : ℕ) → has_aborts (own k u) ≡ false → strong_aborts (own k u) ≡ []
-  plain_strong u plain = kept_none (λ t. is_strong t.kind) (own k u) (neither (has_strong (own k u)) (has_weak (own k u)) plain).0
+  plain_strong : (u : ℕ) → has_strong (own k u) ≡ false → strong_aborts (own k u) ≡ []
+  plain_strong u plain = kept_none (λ t. is_strong t.kind) (own k u) plain
 
   calm_open : (r s u : ℕ) (tests : List Transition) → Contains (around k r) s → has_strong (own k s) ≡ true → holder k u ≡ r →
       IsCalm (woken k (at.Within u tests))
   calm_open r s u tests inner has held =
-      let plain : has_aborts (own k u) ≡ false = layered.in_strong s u has (subst (λ q. Contains (around k q) s) (sym held) inner) in
+      let plain : has_strong (own k u) ≡ false = layered.strong_apart s u has (subst (λ q. Contains (around k q) s) (sym held) inner) in
       subst IsCalm (sym (open_then k u tests (plain_strong u plain))) (calm_within u (closing_tests (own k u)))
 
   no_guards_inside : (r s : ℕ) → IsThere k r → Contains (around k r) s → has_strong (own k s) ≡ true → (x y : Standing) → RestsIn k core i before r x y →
@@ -295,6 +301,11 @@ module _ (k core : Table) (i : Images) (rows : CoreRows k core i) (layered : Lay
         opened = λ s r here h own_region. present_now r (rests.opened s r here (was_inside s h) own_region);
         closes_last = λ s tests e. closes s (standing_of before (holder k s)) (never (holder k s)) tests (sym (at_c (holder k s)) ∙ e);
         calm = calm_now;
+        unseen = λ o s here has inner guarded_by.
+            still_looks k core i o (woken core (standing_of core_before (i.watcher_of o))) (standing_of d (i.watcher_of o))
+            (starts.at_d k core i rows layered tree more_rows before core_before rests inputs (i.watcher_of o))
+            (woken_looks k core i rows layered tree more_rows o here has (standing_of before (holder k o)) (standing_of core_before (i.watcher_of o))
+            (rests.watchers o here has));
       }
 
 -- ---- neither takes the tick for the first

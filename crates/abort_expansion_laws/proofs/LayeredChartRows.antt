@@ -1,14 +1,13 @@
 -- What the table of each expanded layered chart has, where aborts are around something.
 use Rattle.std.proofs.Common.{◌≡◌, ℕ, ◌+◌, inl, inr, Bool, true, false, Some, []}
-use Rattle.std.proofs.Common.{Contains, refl, sym, ap, subst, ◌∙◌}
+use Rattle.std.proofs.Common.{refl, sym, ap, subst, ◌∙◌}
 use Rattle.core_charts.specs.declared.features.Features.TheVariants as features
 use Rattle.core_charts.specs.Chart.{Chart}
 use Rattle.core_charts.specs.Rules.{IsChart}
 use Rattle.chart_machine.specs.declared.table.Table.{Table}
 use Rattle.chart_machine.specs.Table.{table}
-use Rattle.chart_machine_laws.specs.Tree.{around, holder}
 use Rattle.abort_expansion.specs.Flags.{given, one}
-use Rattle.core_charts.specs.Aborts.{has_strong, has_weak, has_aborts}
+use Rattle.core_charts.specs.Aborts.{has_strong, has_weak}
 use Rattle.abort_expansion.specs.Expansion.{expanded}
 use Rattle.abort_expansion_laws.specs.Layered.{IsLayered}
 use Rattle.abort_expansion_laws.specs.CoreRows.{own, Images}
@@ -17,7 +16,7 @@ use Rattle.abort_expansion_laws.proofs.Walked.{World, FlagsFit}
 use Rattle.abort_expansion_laws.proofs.WalkedWhole.{world}
 use Rattle.abort_expansion_laws.proofs.KindsApart as kinds
 use Rattle.abort_expansion_laws.proofs.RowsOfCharts as whole
-use Rattle.abort_expansion_laws.proofs.MoreRows.{simple_alone, behind_alone, no_strong}
+use Rattle.abort_expansion_laws.proofs.MoreRows.{alone, simple_alone, behind_alone, no_strong}
 use Rattle.abort_expansion_laws.proofs.OpenedRows.{ForkRows}
 use Rattle.abort_expansion_laws.proofs.OpenedInside.{opened_elsewhere}
 use Rattle.abort_expansion_laws.proofs.TickStarts.{StartRows}
@@ -52,22 +51,17 @@ module _ (c : Chart) (rules : IsChart features.Extended c) (core_rules : IsChart
   abbrev i : Images
   i = whole.i c rules core_rules
 
-  in_strong : (o s : ℕ) → has_strong (own k o) ≡ true → Contains (around k (holder k s)) o → has_aborts (own k s) ≡ false
-  in_strong o s has h = layered.in_strong o s h has
-
-  in_any : (o s : ℕ) → has_aborts (own k o) ≡ true → Contains (around k (holder k s)) o → has_weak (own k s) ≡ false
-  in_any o s has h = layered.in_any o s h has
-
   pub layered_rows : LayeredRows k core i
   layered_rows =
       record {
-        in_strong = in_strong;
-        in_any = in_any;
+        strong_apart = λ o s has h. layered.strong_apart o s h has;
         strong_once = kinds.strong_once k (kinds.layered_apart c layered) (whole.tree c rules core_rules).nested;
         weak_once = kinds.weak_once k (kinds.layered_apart c layered) (whole.tree c rules core_rules).nested;
         no_strong = no_strong c rules core_rules;
         simple_alone = simple_alone c rules core_rules;
         behind_alone = behind_alone c rules core_rules;
+        watching_alone = λ s here has.
+            alone c rules core_rules (i.watching_of s) (ap (λ z. z.regions) ((whole.rows_of_chart c rules core_rules).watcher s here has).row);
       }
 
   pub fork_rows : ForkRows k core i

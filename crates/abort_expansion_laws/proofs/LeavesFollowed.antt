@@ -43,7 +43,7 @@ use Rattle.abort_expansion_laws.proofs.StrongTaken.{strong_followed, strong_ente
 use Rattle.abort_expansion_laws.proofs.TestTargets.{ends_untested}
 use Rattle.abort_expansion_laws.proofs.TickFollowed as ticks
 use Rattle.abort_expansion_laws.proofs.ToldSteps.{told_silent, told_weak}
-use Rattle.abort_expansion_laws.proofs.WeakNotTaken.{within_back}
+use Rattle.abort_expansion_laws.proofs.WeakNotTaken.{within_back, MonitorWaits}
 use Rattle.abort_expansion_laws.proofs.WeakTaken.{weak_followed, weak_entered}
 
 -- ---- a superstate with a termination: its fork is as it was, or split
@@ -175,7 +175,8 @@ module _ (c : Chart) (rules : IsChart features.Extended c) (core_rules : IsChart
     -- ---- a weak abort
 
     module _ (o : ℕ) (t : Transition) (tests : List Transition) (stands : standing_of now r ≡ at.Within o (t ∷ tests))
-        (holds : verdict now.variables t.trigger ≡ Some true) (own_one : Contains (own k o) t) (is_weak_one : is_weak t.kind ≡ true) where
+        (holds : verdict now.variables t.trigger ≡ Some true) (own_one : Contains (own k o) t) (is_weak_one : is_weak t.kind ≡ true)
+        (monitor : MonitorWaits k core i o t tests (standing_of d (i.watcher_of o))) where
       weak_has : has_aborts (own k o) ≡ true
       weak_has = other_true (has_strong (own k o)) (has_weak (own k o)) (has_from (λ z. is_weak z.kind) (own k o) t own_one is_weak_one)
 
@@ -199,16 +200,16 @@ module _ (c : Chart) (rules : IsChart features.Extended c) (core_rules : IsChart
               (whole.core_tree c rules core_rules).nested (whole.core_tree c rules core_rules).deeper (whole.core_tree c rules core_rules).children
               (whole.tree c rules core_rules).children (ticks.counts c rules core_rules) (ticks.written_at c rules core_rules)
               (counter_rows c rules core_rules) (opening_rows c rules core_rules) (start_rows c rules core_rules layered) (writes_low c rules core_rules)
-              (weak_at c rules core_rules) (alone c rules core_rules) now d related r o weak_here weak_has t is_weak_one tests stands holds parts.free
-              parts.done Told (told_silent k core i)
+              (strong_at c rules core_rules) (weak_at c rules core_rules) (alone c rules core_rules) now d related r o weak_here weak_has t is_weak_one tests
+              stands monitor holds parts.free parts.done Told (told_silent k core i)
               (told_weak k core i d r (i.watcher_of o) (access_of_trigger t.trigger)) e es some weak_target next goes
           by_effects [] none =
               weak_entered k core i rows (layered_rows c rules core_rules layered) (ticks.nested c rules core_rules)
               (whole.core_tree c rules core_rules).nested (whole.core_tree c rules core_rules).deeper (whole.core_tree c rules core_rules).children
               (whole.tree c rules core_rules).children (ticks.counts c rules core_rules) (ticks.written_at c rules core_rules)
               (counter_rows c rules core_rules) (opening_rows c rules core_rules) (start_rows c rules core_rules layered) (writes_low c rules core_rules)
-              (weak_at c rules core_rules) (alone c rules core_rules) now d related r o weak_here weak_has t is_weak_one tests stands holds parts.free
-              parts.done Told (told_silent k core i)
+              (strong_at c rules core_rules) (weak_at c rules core_rules) (alone c rules core_rules) now d related r o weak_here weak_has t is_weak_one tests
+              stands monitor holds parts.free parts.done Told (told_silent k core i)
               (told_weak k core i d r (i.watcher_of o) (access_of_trigger t.trigger)) none weak_target next goes
               (cases.law_of_entering c rules core_rules layered)
               (cases.chart_first c rules core_rules layered now d related owns r next goes t.target weak_target)

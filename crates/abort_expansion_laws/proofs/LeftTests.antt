@@ -25,7 +25,7 @@ use Rattle.chart_machine_laws.proofs.LyingIn.{head_in, tail_in}
 use Rattle.abort_expansion_laws.specs.Stages.{Entry, Silent, Correspondence}
 use Rattle.abort_expansion_laws.specs.CoreRows.{own, IsState, Images, CoreRows, flags_around, pair}
 use Rattle.abort_expansion_laws.specs.Related.{Each, front, held_back, Stands, outside, ended, left, trying, acting, entering, guarding, staying}
-use Rattle.abort_expansion_laws.specs.Related.{within, behind, Watches, waits, elsewhere, raise_each}
+use Rattle.abort_expansion_laws.specs.Related.{within, behind, Watches, waits, looks, elsewhere, raise_each}
 use Rattle.abort_expansion_laws.specs.Related.{still_in, not_ended, Stores, IsInside, guarded, open_inside}
 use Rattle.abort_expansion_laws.specs.Related.{Closes, Related, monitor_last}
 use Rattle.abort_expansion_laws.specs.Related.{guards as watch_guards}
@@ -278,6 +278,10 @@ module _ (k core : Table) (i : Images) (rows : CoreRows k core i) (layered : Lay
       subst (λ zs. EndsAt (i.watcher_of o) (at.Trying (i.watching_of o) (zs ++ monitor_last k core i o)))
       (sym (none_raised (λ t. t.immediate) (i.flags_of o).weak)) (count_left o is has ends e)
   watcher_ends o is has _ _ e (waits (z ∷ some) ends among only) =
+      let weak : is_weak z.1.kind ≡ true = kept_is (λ t. is_weak t.kind) (own k o) z.0 z.1 among.0 in
+      let no_join : is_join z.1.kind ≡ false = weak_no_join z.1.kind weak in
+      absurd (works_not (holder k o) (at.Within o (z.1 ∷ (map (λ w. w.1) some ++ ends))) e (rw (no_join) refl))
+  watcher_ends o is has _ _ e (looks z some ends among only) =
       let weak : is_weak z.1.kind ≡ true = kept_is (λ t. is_weak t.kind) (own k o) z.0 z.1 among.0 in
       let no_join : is_join z.1.kind ≡ false = weak_no_join z.1.kind weak in
       absurd (works_not (holder k o) (at.Within o (z.1 ∷ (map (λ w. w.1) some ++ ends))) e (rw (no_join) refl))

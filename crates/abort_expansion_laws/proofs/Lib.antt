@@ -30,6 +30,7 @@ pub mod DropsOut
 pub mod MonitorsApart
 pub mod StrongTestsQuiet
 pub mod InsideLeaves
+pub mod StrongLeaves
 pub mod FlagAccess
 pub mod CoreSteps
 pub mod Answering
@@ -81,6 +82,7 @@ pub mod WaitsAfterJoin
 pub mod ForkJoined
 pub mod OpenedRows
 pub mod OpenedKept
+pub mod MonitorsOpened
 pub mod AfterOpening
 pub mod ForkOpened
 pub mod EnteredSettles
@@ -92,6 +94,8 @@ pub mod Walked
 pub mod Walks
 pub mod WalkSide
 pub mod LocalImages
+pub mod LooksFirst
+pub mod OneMonitor
 pub mod WalkSimple
 pub mod RowsOfForks
 pub mod FlagOwners
@@ -144,7 +148,6 @@ pub mod OpenForks
 pub mod ForkOver
 pub mod EnteredOver
 pub mod MonitorEntered
-pub mod MonitorFront
 pub mod MonitorLooks
 pub mod EnteredReady
 pub mod OpenedRowsHold
@@ -182,6 +185,7 @@ pub mod DelayedBefore
 pub mod OwnTests
 pub mod TestTargets
 pub mod QuietBegins
+pub mod SeesFirst
 pub mod QuietAtStart
 pub mod TickFollowed
 pub mod PreemptionFollows
@@ -190,6 +194,9 @@ pub mod TestsSpared
 pub mod PreemptionKept
 pub mod CasesFollowed
 pub mod LeavesFollowed
+pub mod WeakTestReady
 pub mod StepsByCase
+pub mod MonitorsReady
+pub mod StepsReady
 pub mod ByEvaluation
 pub mod Proved

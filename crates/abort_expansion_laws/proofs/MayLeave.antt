@@ -1,5 +1,5 @@
 -- What each thread owes that is inside of a superstate whose flag was raised: its tests lead out, or its fork is over first.
-use Rattle.std.proofs.Common.{◌≡◌, ◌≢◌, ℕ, ◌<◌, ◌⊎◌, Bool, true, false, Option, Some, None, List, []}
+use Rattle.std.proofs.Common.{◌≡◌, ◌≢◌, ℕ, ◌<◌, ◌≤◌, ◌⊎◌, Bool, true, false, Option, Some, None, List, []}
 use Rattle.std.proofs.Common.{◌∷◌, Contains}
 use Rattle.core_charts.specs.declared.region.Transition.{Transition}
 use Rattle.chart_machine.specs.declared.standing.Standing.{Standing}
@@ -26,9 +26,21 @@ pub record IsOfInner (core : Table) (f : ℕ) (first : Configuration) (q : ℕ) 
   pub lies_in : Contains (around core inner) f
   pub forked : is_forked (standing_of first inner) ≡ true
 
--- no stage; a stage of this superstate's holder; or one of a superstate inside
+-- stage 1 of one that holds a superstate around home
+pub record IsOfOuter (core : Table) (home : ℕ) (staged : Option (ℕ × ℕ)) : Type 0 where
+  pub superstate : ℕ
+  pub around_home : Contains (around core home) superstate
+  pub is : staged ≡ Some (holder core superstate, 1)
+
+-- no stage; a stage of this superstate's holder; one of a superstate inside; or one of a superstate around
 abbrev pub IsStaged : (core : Table) (home stage f : ℕ) (first : Configuration) (q : ℕ) → Option (ℕ × ℕ) → Type 0
-IsStaged core home stage f first q staged = (staged ≡ None) ⊎ ((staged ≡ Some (home, stage)) ⊎ IsOfInner core f first q staged)
+IsStaged core home stage f first q staged =
+    (staged ≡ None) ⊎ ((staged ≡ Some (home, stage)) ⊎ (IsOfInner core f first q staged ⊎ IsOfOuter core home staged))
+
+-- of who holds a superstate around home no stage but 1 is reached
+abbrev pub AreOuterOne : (core : Table) (Others : ℕ → ℕ → Type 0) (home : ℕ) → Type 0
+AreOuterOne core Others home =
+    (s : ℕ) → Contains (around core home) s → ((n : ℕ) → Others (holder core s) n → n ≤ 1) × Others (holder core s) 1
 
 -- its tests fail up to one that leads to the end of its region
 pub data LeavesBy (core : Table) (corr : Correspondence) (home stage f : ℕ) (first : Configuration) (q : ℕ) : List Transition → Type 0 where

@@ -6,7 +6,8 @@ use Rattle.core_charts.specs.Aborts.{has_aborts}
 use Rattle.core_charts.specs.Tests.{at_once, strong_aborts, weak_aborts, terminations, first_closing_tests, is_join}
 use Rattle.chart_machine.specs.declared.standing.Standing.TheVariants as at
 use Rattle.chart_machine.specs.declared.table.Table.{Table}
-use Rattle.abort_expansion.specs.Transitions.{go, put, raising, weak_checks}
+use Rattle.abort_expansion.specs.Transitions.{go, put, check, raising, strong_checks, weak_checks}
+use Rattle.abort_expansion.specs.declared.flags.Flags.{Flags}
 use Rattle.abort_expansion.specs.Superstates.{all_ended, monitor_transitions}
 use Rattle.chart_machine_laws.specs.Tree.{IsNested, holder}
 use Rattle.abort_expansion_laws.specs.CoreRows.{own, IsState, Images, CoreRows, flags_around}
@@ -58,6 +59,15 @@ never_raised None some = refl
 never_raised (Some y) [] = refl
 never_raised (Some y) (x ∷ some) = never_raised (Some y) some
 
+-- the checks of strong flags are not made at once
+never_checked : (fs : List Flags) → at_once (strong_checks false 1 fs) ≡ []
+never_checked [] = refl
+never_checked (f ∷ fs) = by_flag f.strong (never_checked fs)
+  where
+    by_flag : (o : Option ℕ) → at_once (strong_checks false 1 fs) ≡ [] → at_once (check false 1 o ++ strong_checks false 1 fs) ≡ []
+    by_flag None rest = rest
+    by_flag (Some x) rest = rest
+
 once_count : (flag : Option ℕ) → at_once (all_ended flag) ≡ all_ended flag
 once_count None = refl
 once_count (Some x) = refl
@@ -76,13 +86,18 @@ module _ (k core : Table) (i : Images) (rows : CoreRows k core i) (layered : Lay
   abbrev row : List Transition
   row = monitor_transitions (flags_around k core i (holder k o)) (i.flags_of o) (own k o)
 
-  row_is : row ≡ raising (λ t. false) 1 (i.flags_of o).strong 1 (strong_aborts (own k o))
-      ++ (raising (λ t. t.immediate) 1 (i.flags_of o).weak 1 (weak_aborts (own k o)) ++ monitor_last k core i o)
+  row_is : row ≡ strong_checks false 1 (flags_around k core i (holder k o)) ++ (raising (λ t. false) 1 (i.flags_of o).strong 1 (strong_aborts (own k o))
+      ++ (raising (λ t. t.immediate) 1 (i.flags_of o).weak 1 (weak_aborts (own k o)) ++ monitor_last k core i o))
   row_is = sym (ap (λ z. z.transitions) (rows.watcher o here has).row) ∙ transitions_are k core i rows layered tree more_rows o here has
 
   once_row : at_once row ≡ raise_each (λ t. t.immediate) (i.flags_of o).weak (kept (λ t. t.immediate) some) ++ monitor_last k core i o
   once_row =
       ap at_once row_is ∙
+      (once_append (strong_checks false 1 (flags_around k core i (holder k o))) (raising (λ t. false) 1 (i.flags_of o).strong 1 (strong_aborts (own k o))
+      ++ (raising (λ t. t.immediate) 1 (i.flags_of o).weak 1 (weak_aborts (own k o)) ++ monitor_last k core i o)) ∙
+      (ap (λ zs. zs ++ at_once (raising (λ t. false) 1 (i.flags_of o).strong 1 (strong_aborts (own k o))
+      ++ (raising (λ t. t.immediate) 1 (i.flags_of o).weak 1 (weak_aborts (own k o)) ++ monitor_last k core i o)))
+      (never_checked (flags_around k core i (holder k o))) ∙
       (once_append (raising (λ t. false) 1 (i.flags_of o).strong 1 (strong_aborts (own k o)))
       (raising (λ t. t.immediate) 1 (i.flags_of o).weak 1 (weak_aborts (own k o)) ++ monitor_last k core i o) ∙
       (ap (λ zs. zs ++ at_once (raising (λ t. t.immediate) 1 (i.flags_of o).weak 1 (weak_aborts (own k o)) ++ monitor_last k core i o))
@@ -91,7 +106,7 @@ module _ (k core : Table) (i : Images) (rows : CoreRows k core i) (layered : Lay
       (once_append (raising (λ t. t.immediate) 1 (i.flags_of o).weak 1 (weak_aborts (own k o))) (monitor_last k core i o) ∙
       (ap (λ zs. zs ++ at_once (monitor_last k core i o))
       (ap at_once (raising_is (λ t. t.immediate) (i.flags_of o).weak 0 (weak_aborts (own k o))) ∙ once_raised (λ t. t.immediate) (i.flags_of o).weak some) ∙
-      ap (λ zs. raise_each (λ t. t.immediate) (i.flags_of o).weak (kept (λ t. t.immediate) some) ++ zs) (once_last k core i o)))))
+      ap (λ zs. raise_each (λ t. t.immediate) (i.flags_of o).weak (kept (λ t. t.immediate) some) ++ zs) (once_last k core i o)))))))
 
   tests_are : map (λ x. x.1) (kept (λ t. t.immediate) some) ++ terminations (own k o) ≡ first_closing_tests (own k o)
   tests_are = ap (λ zs. zs ++ terminations (own k o)) (kept_numbered (λ t. t.immediate) some ∙ ap at_once (numbered_are 0 (weak_aborts (own k o))))

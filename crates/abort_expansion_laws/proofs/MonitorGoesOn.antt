@@ -16,6 +16,8 @@ use Rattle.abort_expansion_laws.proofs.TablesCorrespond.{IsThere}
 use Rattle.abort_expansion_laws.specs.CoreRows.{own, IsState, Images, CoreRows, WatcherImage}
 use Rattle.abort_expansion_laws.specs.Related.{IsCalm, Closes, Stands, Watches, IsInside, Stores, FlagsAreDown, still_in, not_ended, Related}
 use Rattle.abort_expansion_laws.proofs.Unchanged.{none_among, both_ways, stands_same, stands_other, SameShape, stands_kept}
+use Rattle.abort_expansion_laws.proofs.LooksFirst.{still_looks}
+use Rattle.abort_expansion_laws.proofs.OneMonitor.{one_monitor}
 
 set_size : {A : Type 0} (xs : List A) (i : ℕ) (v : A) → length (slice_set xs i v) ≡ length xs
 set_size [] i v = refl
@@ -96,12 +98,8 @@ module _ (k core : Table) (i : Images) (rows : CoreRows k core i) where
             (subst (Stands k core i c' q (standing_of c q)) (sym (core_elsewhere (i.thread_of q) (monitor.no_thread q)))
             (stands_kept k core i c c' same_shape q (standing_of c q) (standing_of d (i.thread_of q)) (related.regions q there)))
 
-    heads : (x y : ℕ) (xs ys : List ℕ) → x ∷ xs ≡ y ∷ ys → x ≡ y
-    heads x y xs ys e = cc
-
     monitors_differ : (u : ℕ) → IsState k u → has_aborts (own k u) ≡ true → i.watcher_of u ≡ i.watcher_of o → u ≡ o
-    monitors_differ u there has e =
-        rows.main_once u o (heads (i.main_of u) (i.main_of o) _ _ (sym (rows.watcher u there has).encloses ∙ (ap (around core) e ∙ monitor.encloses)))
+    monitors_differ u there has e = one_monitor k core i rows u o there has go.state_there go.has e
 
     watchers_kept : (u : ℕ) → IsState k u → has_aborts (own k u) ≡ true → Watches k core i u (standing_of c' (holder k u)) (standing_of d' (i.watcher_of u))
     watchers_kept u there has = ⊎_elim its_own other (same_or_not u o)
@@ -198,4 +196,14 @@ module _ (k core : Table) (i : Images) (rows : CoreRows k core i) where
               (λ e. absurd (both_ways (guards (standing_of c (holder k s))) was
               (none_among (λ v. guards (standing_of c (holder k v))) (around k r) s go.free (subst (λ p. Contains (around k p) s) e around_it))))
               (λ ne. subst IsCalm (sym (elsewhere q ne)) (related.calm q s there around_it was)) (same_or_not q r);
+          unseen = λ u s there has around_it guarded_by.
+              let was : guards (standing_of c (holder k s)) ≡ true = sym (same_shape.guards_alike (holder k s)) ∙ guarded_by in
+              ⊎_elim
+              (λ e. absurd (both_ways (guards (standing_of c (holder k s))) was
+              (none_among (λ v. guards (standing_of c (holder k v))) (around k r) s go.free
+              (subst (λ p. Contains (around k p) s) (ap (holder k) e ∙ go.held) around_it))))
+              (λ differ.
+              still_looks k core i u (standing_of d (i.watcher_of u)) (standing_of d' (i.watcher_of u))
+              (core_elsewhere (i.watcher_of u) (λ e. differ (monitors_differ u there has e))) (related.unseen u s there has around_it was))
+              (same_or_not u o);
         }

@@ -34,7 +34,7 @@ use Rattle.abort_expansion_laws.proofs.LaterTicks.{weak_no_join}
 use Rattle.abort_expansion_laws.proofs.TickStarts.{some_kept}
 use Rattle.abort_expansion_laws.proofs.StageReached.{holds_other}
 use Rattle.abort_expansion_laws.specs.CoreRows.{WatcherImage}
-use Rattle.abort_expansion_laws.specs.Related.{Watches, waits, elsewhere, monitor_last, raise_each}
+use Rattle.abort_expansion_laws.specs.Related.{Watches, waits, looks, elsewhere, monitor_last, raise_each}
 use Rattle.abort_expansion_laws.specs.Related.{guards as watch_guards}
 use Rattle.abort_expansion_laws.proofs.WeakSeen as seen
 
@@ -44,6 +44,7 @@ module _ (k core : Table) (i : Images) (rows : CoreRows k core i) (layered : Lay
     (children : (s r : ℕ) → Contains (state_at k s).regions r → around k r ≡ s ∷ around k (holder k s))
     (counts : ℕ → Bool) (written_at : ℕ → ℕ) (counters : CounterRows k core i rows counts written_at) (opening : OpeningRows k core i rows)
     (start_rows : StartRows k core i rows) (written_low : (x : ℕ) → written_at x < 3)
+    (strong_at : (s x : ℕ) → (i.flags_of s).strong ≡ Some x → written_at x ≡ 0)
     (c d : Configuration) (related : Related k core i c d) (r o x : ℕ) (flag : (i.flags_of o).weak ≡ Some x) (held : holder k o ≡ r)
     (o_there : IsState k o) (open_tests : List Transition) (stands : standing_of c r ≡ at.Within o open_tests)
     (idle : (q : ℕ) → IsThere k q → Contains (around k q) o → has_work k c (standing_of c q) ≡ false)
@@ -51,50 +52,50 @@ module _ (k core : Table) (i : Images) (rows : CoreRows k core i) (layered : Lay
     (values : (y : ℕ) → y ≢ x → slice_get first.variables y ≡ slice_get d.variables y)
     (same : (g : ℕ) → g ≢ i.watcher_of o → standing_of first g ≡ standing_of d g) where
   abbrev corr : Correspondence
-  corr = seen.corr k core i rows layered tree deep alone core_children children counts written_at counters opening start_rows written_low c d related r o x
-      flag held
+  corr = seen.corr k core i rows layered tree deep alone core_children children counts written_at counters opening start_rows written_low strong_at c d
+      related r o x flag held
       o_there open_tests stands idle first raised values same
 
   abbrev Leaves : ℕ → Standing → Type 0
-  Leaves = seen.Leaves k core i rows layered tree deep alone core_children children counts written_at counters opening start_rows written_low c d related r o
-      x flag held
+  Leaves = seen.Leaves k core i rows layered tree deep alone core_children children counts written_at counters opening start_rows written_low strong_at c d
+      related r o x flag held
       o_there open_tests stands idle first raised values same
 
   abbrev LeavesAt : ℕ → List Transition → Type 0
-  LeavesAt = seen.LeavesAt k core i rows layered tree deep alone core_children children counts written_at counters opening start_rows written_low c d related
-      r o x flag held
+  LeavesAt = seen.LeavesAt k core i rows layered tree deep alone core_children children counts written_at counters opening start_rows written_low strong_at c
+      d related r o x flag held
       o_there open_tests stands idle first raised values same
 
   abbrev sees_at : ℕ → Transition
-  sees_at = seen.sees_at k core i rows layered tree deep alone core_children children counts written_at counters opening start_rows written_low c d related r
-      o x flag held
+  sees_at = seen.sees_at k core i rows layered tree deep alone core_children children counts written_at counters opening start_rows written_low strong_at c d
+      related r o x flag held
       o_there open_tests stands idle first raised values same
 
   abbrev one_weak : (q place : ℕ) → Contains (around k q) o → weak_checks true place (flags_around k core i q) ≡ sees_at place ∷ []
-  one_weak = seen.one_weak k core i rows layered tree deep alone core_children children counts written_at counters opening start_rows written_low c d related
-      r o x flag held
+  one_weak = seen.one_weak k core i rows layered tree deep alone core_children children counts written_at counters opening start_rows written_low strong_at c
+      d related r o x flag held
       o_there open_tests stands idle first raised values same
 
   abbrev in_fork : (q s : ℕ) → Contains (around k q) s → Contains (around core (i.thread_of q)) (i.main_of s)
-  in_fork = seen.in_fork k core i rows layered tree deep alone core_children children counts written_at counters opening start_rows written_low c d related r
-      o x flag held
+  in_fork = seen.in_fork k core i rows layered tree deep alone core_children children counts written_at counters opening start_rows written_low strong_at c d
+      related r o x flag held
       o_there open_tests stands idle first raised values same
 
   abbrev looks_from : (t y : ℕ) → Contains (around core t) (i.main_of o) → length k.variables ≤ y → rows.of_flag y ≡ o → counts y ≡ false →
       IsSilent corr t (Some (i.thread_of r, 3)) (access_of_trigger (Some (is_raised y)))
-  looks_from = seen.looks_from k core i rows layered tree deep alone core_children children counts written_at counters opening start_rows written_low c d
-      related r o x flag held
+  looks_from = seen.looks_from k core i rows layered tree deep alone core_children children counts written_at counters opening start_rows written_low
+      strong_at c d related r o x flag held
       o_there open_tests stands idle first raised values same
 
   abbrev in_its_fork : (s : ℕ) → IsState k s → has_aborts (own k s) ≡ true → IsThere k (holder k s) → (tests : List Transition) →
       standing_of c (holder k s) ≡ at.Within s tests → is_forked (standing_of first (i.thread_of (holder k s))) ≡ true
-  in_its_fork = seen.in_its_fork k core i rows layered tree deep alone core_children children counts written_at counters opening start_rows written_low c d
-      related r o x flag held
+  in_its_fork = seen.in_its_fork k core i rows layered tree deep alone core_children children counts written_at counters opening start_rows written_low
+      strong_at c d related r o x flag held
       o_there open_tests stands idle first raised values same
 
   abbrev works_not : (q : ℕ) → IsThere k q → Contains (around k q) o → (w : Standing) → standing_of c q ≡ w → has_work k c w ≡ true → ⊥
-  works_not = seen.works_not k core i rows layered tree deep alone core_children children counts written_at counters opening start_rows written_low c d
-      related r o x flag held
+  works_not = seen.works_not k core i rows layered tree deep alone core_children children counts written_at counters opening start_rows written_low strong_at
+      c d related r o x flag held
       o_there open_tests stands idle first raised values same
 
   -- ---- each monitor inside
@@ -129,13 +130,13 @@ module _ (k core : Table) (i : Images) (rows : CoreRows k core i) (layered : Lay
       count_leaves y counter =
           fails_before (go true (Some (is_number y 0)) [] 1) (weak_checks true 1 (flags_around k core i (holder k u)))
           (other_verdict y (not_ended k core i c u) 0 first.variables (values y differs ∙ stored) still) (Some (i.thread_of (holder k u), 3))
-          (inr (inr (record {
+          (inr (inr (inl (record {
             inner = i.thread_of (holder k u);
             is = refl;
             later = let up = deep (i.watcher_of u) (i.main_of u) g_in_u in let its = rows.held u in omega (up, its, arith);
             lies_in = in_fork (holder k u) o in_o;
             forked = in_its_fork u u_there some is tests stood;
-          })))
+          }))))
           (subst (IsSilent corr (i.watcher_of u) (Some (i.thread_of (holder k u), 3))) (sym (number_access y 0))
           (silent_test corr (i.watcher_of u) (Some (i.thread_of (holder k u), 3)) y (rows.counter_added u y counter)
           (inr (
@@ -186,6 +187,13 @@ module _ (k core : Table) (i : Images) (rows : CoreRows k core i) (layered : Lay
         (tries (i.watching_of u) (monitor_last k core i u) (alone (i.watching_of u) (ap (λ z. z.regions) image.row))
         (last_leaves (present_there k core i c d related (holder k u) (λ z. let wrong : at.Within u ends ≡ at.Outside = sym e ∙ z in absurd cc)) ends e))
     monitor_leaves _ _ e (waits (z ∷ among) ends all only) =
+        let weak : is_weak z.1.kind ≡ true = kept_is (λ t. is_weak t.kind) (own k u) z.0 z.1 all.0 in
+        let no_join : is_join z.1.kind ≡ false = weak_no_join z.1.kind weak in
+        absurd (works_not (holder k u)
+        (present_there k core i c d related (holder k u)
+        (λ w. let wrong : at.Within u (z.1 ∷ (map (λ v. v.1) among ++ ends)) ≡ at.Outside = sym e ∙ w in absurd cc)) in_o
+        (at.Within u (z.1 ∷ (map (λ v. v.1) among ++ ends))) e (rw (no_join) refl))
+    monitor_leaves _ _ e (looks z among ends all only) =
         let weak : is_weak z.1.kind ≡ true = kept_is (λ t. is_weak t.kind) (own k u) z.0 z.1 all.0 in
         let no_join : is_join z.1.kind ≡ false = weak_no_join z.1.kind weak in
         absurd (works_not (holder k u)

@@ -18,11 +18,12 @@ use Rattle.std.proofs.lemmas.Option.{same_Some}
 use Rattle.abort_expansion_laws.proofs.Supplying.{climbs_step}
 use Rattle.abort_expansion_laws.proofs.Simulation.{Segment, segment_on}
 use Rattle.abort_expansion_laws.proofs.SilentSteps.{AtHome, climbs_at, climbs_over, silent_step}
-use Rattle.chart_machine_laws.proofs.LyingIn.{IsNested, around, holder}
+use Rattle.chart_machine_laws.proofs.LyingIn.{IsNested, around, holder, around_around}
+use Rattle.abort_expansion_laws.proofs.StageReached.{holds_other}
 use Rattle.abort_expansion_laws.proofs.TestFails.{fails}
 use Rattle.abort_expansion_laws.proofs.Leaving.{set_here, set_other, set_length, leaves}
 use Rattle.abort_expansion_laws.proofs.Unchanged.{unguarded}
-use Rattle.abort_expansion_laws.proofs.MayLeave.{is_forked, IsOfInner, IsStaged, LeavesBy, leads_out, fails_before}
+use Rattle.abort_expansion_laws.proofs.MayLeave.{is_forked, IsOfInner, IsOfOuter, IsStaged, AreOuterOne, LeavesBy, leads_out, fails_before}
 
 module _ (core : Table) (tree : IsNested core) (deeper : (q s : ℕ) → Contains (around core q) s → holder core s < q)
     (corr : Correspondence) (Told : Configuration → Entry → Type 0) (told : (d : Configuration) (t : ℕ) (stage : Option (ℕ × ℕ)) (a : Access) →
@@ -143,7 +144,7 @@ module _ (core : Table) (tree : IsNested core) (deeper : (q s : ℕ) → Contain
     pub here : standing_of e n ≡ at.Ended
     pub elsewhere : (q : ℕ) → q ≢ n → standing_of e q ≡ standing_of d q
 
-  module _ (home_out : ¬ In home) where
+  module _ (home_out : ¬ In home) (outer_one : AreOuterOne core Others home) where
     abbrev pub Goes : ℕ → Configuration → (Configuration → Type 0) → Type 0
     Goes m d Reaches = Segment (machine core) corr Told d (AtHome (Level m) home stage) (λ last. AtHome (Level m) home stage) [] Reaches
 
@@ -170,6 +171,43 @@ module _ (core : Table) (tree : IsNested core) (deeper : (q s : ℕ) → Contain
               ),
             )
 
+    climbs_outer : (t : ℕ) (a : Access) (staged : Option (ℕ × ℕ)) → IsOfOuter core home staged → (rest : List Entry) →
+        Climbs corr (AtHome (Level t) home stage) rest → Climbs corr (AtHome (Level t) home stage) (Silent t staged a ∷ rest)
+    climbs_outer t a staged beyond rest climbs =
+        climbs_step corr (AtHome (Level t) home stage) (AtHome (Level t) home stage) (Silent t staged a) rest own (λ h n ne before. before) climbs
+      where
+        outer : ℕ
+        outer = holder core beyond.superstate
+
+        not_home : outer ≢ home
+        not_home = holds_other core tree home beyond.superstate beyond.around_home
+
+        outer_out : ¬ In (holder core beyond.superstate)
+        outer_out inside = home_out (around_around core tree (around core home) home beyond.superstate f refl beyond.around_home inside)
+
+        own : (h n : ℕ) → staged ≡ Some (h, n) → ((u : ℕ) → AtHome (Level t) home stage h u → u ≤ n) × AtHome (Level t) home stage h n
+        own h n e =
+            let pair : ◌≡◌ {A = ℕ × ℕ} (holder core beyond.superstate, 1) (h, n) =
+            same_Some (holder core beyond.superstate, 1) (h, n) (sym beyond.is ∙ e) in
+            let here : holder core beyond.superstate ≡ h = ap (λ z. z.0) pair in
+            let one : 1 ≡ n = ap (λ z. z.1) pair in
+            let none : ¬ In h = λ inside. outer_out (subst In (sym here) inside) in
+            let facts = outer_one beyond.superstate beyond.around_home in (
+              λ u before.
+                  let reached : Others h u = (before.0 (λ same. not_home (here ∙ same))).staying.beyond (λ in_h forked. none in_h) in
+                  let le = facts.0 u (subst (λ z. Others z u) (sym here) reached) in omega (le, one, arith),
+              (
+                λ ne. record {
+                  staying = record {
+                    within = λ in_h is. absurd (none in_h);
+                    beyond = λ never. subst (λ z. Others z n) here (subst (Others (holder core beyond.superstate)) one facts.1);
+                  };
+                  below = λ in_h is. absurd (none in_h);
+                },
+                λ same. absurd (not_home (here ∙ same)),
+              ),
+            )
+
     climbs_by : (t : ℕ) (a : Access) (staged : Option (ℕ × ℕ)) → IsStaged core home stage f first t staged → (rest : List Entry) →
         Climbs corr (AtHome (Level t) home stage) rest → Climbs corr (AtHome (Level t) home stage) (Silent t staged a ∷ rest)
     climbs_by t a staged (inl none) rest climbs =
@@ -177,7 +215,8 @@ module _ (core : Table) (tree : IsNested core) (deeper : (q s : ℕ) → Contain
     climbs_by t a staged (inr (inl some)) rest climbs =
         subst (λ z. Climbs corr (AtHome (Level t) home stage) (Silent t z a ∷ rest)) (sym some) (climbs_at corr (Level t) home stage stage t a rest
         (omega arith) climbs)
-    climbs_by t a staged (inr (inr inside)) rest climbs = climbs_inner t a staged inside rest climbs
+    climbs_by t a staged (inr (inr (inl inside))) rest climbs = climbs_inner t a staged inside rest climbs
+    climbs_by t a staged (inr (inr (inr outer))) rest climbs = climbs_outer t a staged outer rest climbs
 
     pub tests_leave : (n s : ℕ) (tests : List Transition) (d : Configuration) → inside core s ≡ [] → LeavesBy core corr home stage f first n tests →
         d.variables ≡ first.variables → ((t : ℕ) → guards (standing_of d t) ≡ false) → n < length d.regions → standing_of d n ≡ at.Trying s tests →

@@ -1,6 +1,6 @@
 -- Where a fork is opened, whoever is not in it stands as before: what was to be opened, started or joined is so still.
 use Rattle.std.proofs.Common.{◌≡◌, ◌≢◌, ℕ, ◌<◌, ⊎_elim, Bool, true, false, Option, None, List, []}
-use Rattle.std.proofs.Common.{◌∷◌, map, length, slice_set, Contains, sym, ap, subst, ◌∙◌, arith}
+use Rattle.std.proofs.Common.{◌∷◌, map, length, slice_set, Contains, sym, ap, subst, ◌∙◌, arith, ◌≤◌, pos, ◌++◌, refl}
 use Rattle.sc_values.specs.Access.{Access}
 use Rattle.core_charts.specs.declared.region.Transition.{Transition}
 use Rattle.chart_machine.specs.declared.standing.Standing.{Standing}
@@ -23,6 +23,18 @@ use Rattle.abort_expansion_laws.proofs.Pending.{IsEmpty, Pending}
 use Rattle.abort_expansion_laws.proofs.Pending.{behind_unprepared}
 use Rattle.abort_expansion_laws.proofs.OpensFork.{OpeningRows, forked, forks, image}
 use Rattle.abort_expansion_laws.proofs.OpenedRows.{Opens, ForkRows}
+use Rattle.sc_values.specs.declared.value.Value.{Value}
+use Rattle.sc_values.specs.declared.value.Value.TheVariants as value_is
+use Rattle.abort_expansion_laws.proofs.Resets.{Every, set_all}
+use Rattle.abort_expansion_laws.proofs.StartingRegions.{set_behind}
+
+pub set_all_behind : (xs : List (ℕ × ℕ)) (vs more : List Value) → Every (λ (x : ℕ × ℕ). length vs ≤ x.0) xs →
+    (zs : List Value) × (set_all xs (vs ++ more) ≡ vs ++ zs)
+set_all_behind [] vs more high = (more, refl)
+set_all_behind (x ∷ xs) vs more high =
+    let one = set_behind vs more x.0 (value_is.Int (pos x.1)) high.0 in
+    let rest = set_all_behind xs vs one.0 high.1 in
+    (rest.0, ap (set_all xs) one.1 ∙ rest.1)
 
 module _ (k core : Table) (i : Images) (rows : CoreRows k core i) (tree : IsNested k) (counts : ℕ → Bool) (written_at : ℕ → ℕ)
     (Told : Configuration → Entry → Type 0) (told : (d : Configuration) (t : ℕ) (stage : Option (ℕ × ℕ)) (a : Access) → Told d (Silent t stage a))

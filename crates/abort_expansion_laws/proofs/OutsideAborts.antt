@@ -1,20 +1,20 @@
--- No superstate around one with aborts has strong ones: the continuation of such a one makes no strong checks first.
+-- No superstate around one with strong aborts has such: the continuation of such a one makes no strong checks first.
 use Rattle.std.proofs.Common.{◌≡◌, ℕ, ⊎_elim, Bool, true, false, [], Contains, sym, ap, subst, ◌∙◌}
 use Rattle.std.specs.Prelude.{reverse}
 use Rattle.std.proofs.lemmas.List.Folds.{flat_map-map}
-use Rattle.core_charts.specs.Aborts.{has_strong, has_aborts}
+use Rattle.core_charts.specs.Aborts.{has_strong}
 use Rattle.chart_machine.specs.declared.table.Table.{Table}
 use Rattle.abort_expansion.specs.Transitions.{check, strong_checks}
 use Rattle.chart_machine_laws.proofs.LyingIn.{IsNested, around, holder}
 use Rattle.abort_expansion_laws.specs.CoreRows.{own, Images, flags_around}
 use Rattle.abort_expansion_laws.proofs.InsideLeaves.{LayeredRows, true_or_false, none_checked}
 
-module _ (k core : Table) (i : Images) (more : LayeredRows k core i) (tree : IsNested k) (r o : ℕ) (has : has_aborts (own k o) ≡ true)
+module _ (k core : Table) (i : Images) (more : LayeredRows k core i) (tree : IsNested k) (r o : ℕ) (has : has_strong (own k o) ≡ true)
     (held : holder k o ≡ r) where
   pub plain_around : (s : ℕ) → Contains (around k r) s → has_strong (own k s) ≡ false
   plain_around s h =
       ⊎_elim
-      (λ e. let none : has_aborts (own k o) ≡ false = more.in_strong s o e (subst (λ p. Contains (around k p) s) (sym held) h) in
+      (λ e. let none : has_strong (own k o) ≡ false = more.strong_apart s o e (subst (λ p. Contains (around k p) s) (sym held) h) in
       let wrong : true ≡ false = sym has ∙ none in absurd cc)
       (λ e. e) (true_or_false (has_strong (own k s)))
 

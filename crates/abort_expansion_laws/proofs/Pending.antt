@@ -21,6 +21,7 @@ use Rattle.chart_machine_laws.proofs.LyingIn.{around, holder}
 use Rattle.abort_expansion_laws.proofs.TablesCorrespond.{IsThere}
 use Rattle.abort_expansion_laws.specs.CoreRows.{own, IsState, IsSuper, joins, Images, flags_around}
 use Rattle.abort_expansion_laws.specs.Related.{IsCalm, is_behind, Stands, outside, ended, left, trying, acting, entering, guarding, staying, within, behind}
+use Rattle.abort_expansion_laws.specs.Related.{LooksFirst}
 use Rattle.abort_expansion_laws.specs.Related.{Watches, IsInside, Stores, Closes}
 use Rattle.abort_expansion_laws.proofs.StageReached.{Stage}
 
@@ -136,6 +137,8 @@ module _ (k core : Table) (i : Images) (c : Configuration) where
     pub done : (r : ℕ) → IsThere k r → r < n → Stands k core i c r (standing_of c r) (standing_of d (i.thread_of r))
     pub watchers : (o : ℕ) → IsState k o → has_aborts (own k o) ≡ true →
         Watches k core i o (standing_of c (holder k o)) (standing_of d (i.watcher_of o)) ⊎ ((standing_of d (i.watcher_of o) ≡ at.Outside) × Covered d o)
+    pub unseen : (o s : ℕ) → IsState k o → has_aborts (own k o) ≡ true → Contains (around k (holder k o)) s →
+        has_to_guard (standing_of c (holder k s)) ≡ true → LooksFirst k core i o (standing_of d (i.watcher_of o))
     pub flags : (s : ℕ) → IsState k s → IsInside k core i s (standing_of c (holder k s)) → Flagged d s ⊎ Covered d s
     pub late : (s : ℕ) → IsOpening d s → n ≤ holder k s
     pub joinable : (s : ℕ) → IsJoining d s → Over d s

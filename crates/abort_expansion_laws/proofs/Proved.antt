@@ -23,7 +23,7 @@ pub use Rattle.abort_expansion_laws.proofs.StrongNotTaken.{not_taken_followed}
 pub use Rattle.abort_expansion_laws.proofs.SimpleRows.{simple_local}
 pub use Rattle.abort_expansion_laws.proofs.DropsOut.{dropped_out}
 pub use Rattle.abort_expansion_laws.proofs.StrongTestsQuiet.{quiet_kept, spares}
-pub use Rattle.abort_expansion_laws.proofs.InsideLeaves.{may_leave}
+pub use Rattle.abort_expansion_laws.proofs.StrongLeaves.{may_leave}
 pub use Rattle.abort_expansion_laws.proofs.FlagAccess.{put_access, raised_access, number_access}
 pub use Rattle.abort_expansion_laws.proofs.CoreSteps.{takes, writes_last}
 pub use Rattle.abort_expansion_laws.proofs.AbortNext.{AbortNext}
@@ -74,9 +74,8 @@ pub use Rattle.abort_expansion_laws.proofs.RowsOfCharts.{rows_of_chart}
 pub use Rattle.abort_expansion_laws.proofs.MoreRows.{map_of_chart, opening_rows, counter_rows}
 pub use Rattle.abort_expansion_laws.proofs.FlatStates.{flat_inside}
 pub use Rattle.abort_expansion_laws.proofs.FlatLayered.{flat_charts_are_layered}
-pub use Rattle.abort_expansion_laws.proofs.KindsApart.{layered_apart, two_deep}
-pub use Rattle.abort_expansion_laws.proofs.MonitorFront.{front_row, one_look, front_leaves}
-pub use Rattle.abort_expansion_laws.proofs.MonitorLooks.{front_passed}
+pub use Rattle.abort_expansion_laws.proofs.KindsApart.{layered_apart}
+pub use Rattle.abort_expansion_laws.proofs.MonitorLooks.{looked_before}
 pub use Rattle.abort_expansion_laws.proofs.OpenedInside.{opened_elsewhere}
 pub use Rattle.abort_expansion_laws.proofs.LaterTicks.{woken_related}
 pub use Rattle.abort_expansion_laws.proofs.LocalVariables.{added_are_local}
@@ -138,6 +137,7 @@ pub use Rattle.abort_expansion_laws.proofs.TestsSpared.{tests_are_spared}
 pub use Rattle.abort_expansion_laws.proofs.PreemptionFollows.{preemption_follows}
 pub use Rattle.abort_expansion_laws.proofs.PreemptionKept.{preemption_kept}
 pub use Rattle.abort_expansion_laws.proofs.StepsByCase.{steps_followed, preemption_holds}
+pub use Rattle.abort_expansion_laws.proofs.StepsReady.{steps_ready, ticks_ready}
 
 pub checked : ◌≡◌ {A = ℕ} 0 0
 checked = refl

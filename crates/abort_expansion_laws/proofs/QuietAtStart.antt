@@ -1,6 +1,6 @@
 -- As a tick starts, whatever lies in a superstate that is guarded resumes at its check of the strong flag, and is so below
 -- the nodes of the monitor that raise it.
-use Rattle.std.proofs.Common.{◌≡◌, ◌≢◌, ℕ, zero, suc, ◌<◌, ◌≤◌, ◌⊎◌, inl, inr, ⊎_elim, Bool, true, false, not, ◌||◌, Some, List, [], ◌∷◌, ◌++◌, map}
+use Rattle.std.proofs.Common.{◌≡◌, ◌≢◌, ℕ, zero, suc, ◌<◌, ◌≤◌, ◌⊎◌, inl, inr, ⊎_elim, Bool, true, false, ◌||◌, Some, List, [], ◌∷◌, ◌++◌, map}
 use Rattle.std.proofs.Common.{length, Contains, refl, sym, ap, subst, ◌∙◌, arith, cond, unwrap_or}
 use Rattle.std.proofs.lemmas.Option.{same_Some, slice_get_past}
 use Rattle.std.proofs.lemmas.Bool.{cases_lt}
@@ -26,90 +26,31 @@ use Rattle.chart_machine.specs.declared.standing.Standing.TheVariants as at
 use Rattle.chart_machine.specs.declared.standing.Configuration.{Configuration}
 use Rattle.chart_machine.specs.declared.table.Table.{Table}
 use Rattle.chart_machine.specs.Table.{state_at}
-use Rattle.chart_machine.specs.Turns.{standing_of, guards, is_guarded}
+use Rattle.chart_machine.specs.Turns.{standing_of, guards}
 use Rattle.chart_machine.specs.Steps.{step, access_of_trigger}
-use Rattle.abort_expansion.specs.Transitions.{is_raised, led}
-use Rattle.abort_expansion.specs.Superstates.{stays}
+use Rattle.abort_expansion.specs.Transitions.{is_raised}
 use Rattle.chart_lowering_laws.specs.Stands.{Lowered}
 use Rattle.compiled_charts_laws.proofs.LateTests.{is_late}
 use Rattle.compiled_charts_laws.proofs.TickStarts.{ResumedAt, Wakes, before_tests, behind_fork}
 use Rattle.chart_machine_laws.proofs.LyingIn.{IsNested, around, holder, head_in, tail_in, swapped}
 use Rattle.chart_machine_laws.specs.Tree.{IsThere}
-use Rattle.abort_expansion_laws.specs.CoreRows.{own, IsState, joins, Images, CoreRows, WatcherImage, flags_around}
-use Rattle.abort_expansion_laws.specs.Related.{IsCalm, front, held_back, tests_of, Stands, outside}
+use Rattle.abort_expansion_laws.specs.CoreRows.{own, IsState, Images, CoreRows, WatcherImage}
+use Rattle.abort_expansion_laws.specs.Related.{Stands, outside}
 use Rattle.abort_expansion_laws.specs.Related.{ended, left}
-use Rattle.abort_expansion_laws.specs.Related.{trying, acting, entering, guarding, staying, within, behind, Watches, guards as watch_guards, waits, elsewhere}
+use Rattle.abort_expansion_laws.specs.Related.{trying, acting, entering, guarding, staying, within, behind, Watches, guards as watch_guards, waits, looks}
+use Rattle.abort_expansion_laws.specs.Related.{elsewhere}
 use Rattle.abort_expansion_laws.specs.Related.{IsInside, guarded, open_inside, Related}
 use Rattle.abort_expansion_laws.proofs.FlagAccess.{raised_access}
-use Rattle.abort_expansion_laws.proofs.InsideLeaves.{LayeredRows, sees, one_check, aborts_here, strong_of}
-use Rattle.abort_expansion_laws.proofs.MonitorsApart.{monitor_apart}
+use Rattle.abort_expansion_laws.proofs.InsideLeaves.{LayeredRows}
+use Rattle.abort_expansion_laws.proofs.SeesFirst.{SeesFirst, out, over, checks, forks, sees_first, monitor_sees}
+use Rattle.abort_expansion_laws.proofs.MonitorsApart.{monitor_apart, monitors_apart}
 use Rattle.chart_machine.specs.Turns.{ForkedApart}
-use Rattle.abort_expansion_laws.proofs.StageReached.{any_in}
+use Rattle.abort_expansion_laws.proofs.StageReached.{holds_other}
 use Rattle.abort_expansion_laws.proofs.StrongNotTaken.{inside_guarding}
 use Rattle.abort_expansion_laws.proofs.StrongTestsQuiet.{Resumes}
 use Rattle.abort_expansion_laws.proofs.LowPriorities.{Under}
 use Rattle.abort_expansion_laws.proofs.QuietBegins.{LoweredTests, IsRaising, Beside, StaysLow}
-use Rattle.abort_expansion_laws.proofs.CalmStandings.{calm_acting, calm_entering, calm_guarding}
-
--- ---- whoever lies in a guarded superstate, and is there, sees the flag first
-
-module _ (k core : Table) (i : Images) (rows : CoreRows k core i) (layered : LayeredRows k core i) (tree : IsNested k)
-    (core_children : (s r : ℕ) → Contains (state_at core s).regions r → around core r ≡ s ∷ around core (holder core s))
-    (children : (s r : ℕ) → Contains (state_at k s).regions r → around k r ≡ s ∷ around k (holder k s))
-    (c d : Configuration) (related : Related k core i c d)
-    (o x : ℕ) (has : has_aborts (own k o) ≡ true) (flag : (i.flags_of o).strong ≡ Some x) (guards_now : guards (standing_of c (holder k o)) ≡ true) where
-  pub data SeesFirst : Standing → Type 0 where
-    out : SeesFirst at.Outside
-    over : SeesFirst at.Ended
-    checks : (n : ℕ) (w : Transition) (rest : List Transition) → w.trigger ≡ Some (is_raised x) → SeesFirst (at.Trying n (w ∷ rest))
-    forks : (n : ℕ) (w : Transition) (rest : List Transition) → SeesFirst (at.Within n (w ∷ rest))
-
-  module _ (q : ℕ) (there : IsThere k q) (in_o : Contains (around k q) o) where
-    guarded_here : is_guarded k c (around k q) ≡ true
-    guarded_here = any_in (λ s. guards (standing_of c (holder k s))) (around k q) o in_o guards_now
-
-    by_trying : (s : ℕ) (tests : List Transition) → SeesFirst (at.Trying (i.main_of s) (tests_of k core i c q tests))
-    by_trying s tests =
-        let fronts : front k core i false c q ≡ sees k core i rows layered tree core_children children o x
-        (strong_of k core i layered o x flag) flag false q ∷ [] =
-        rw (guarded_here) (one_check k core i rows layered tree core_children children o x (strong_of k core i layered o x flag) flag q false in_o) in
-        subst (λ zs. SeesFirst (at.Trying (i.main_of s) (zs ++ map (led (i.places_of q)) tests ++ held_back k core i q))) (sym fronts)
-        (checks (i.main_of s) (sees k core i rows layered tree core_children children o x (strong_of k core i layered o x flag) flag false q)
-        (map (led (i.places_of q)) tests ++ held_back k core i q) refl)
-
-    by_behind : (s : ℕ) → SeesFirst (at.Trying (i.behind_of s) (front k core i true c q ++ held_back k core i q))
-    by_behind s =
-        let fronts : front k core i true c q ≡ sees k core i rows layered tree core_children children o x
-        (strong_of k core i layered o x flag) flag true q ∷ [] =
-        rw (guarded_here) (one_check k core i rows layered tree core_children children o x (strong_of k core i layered o x flag) flag q true in_o) in
-        subst (λ zs. SeesFirst (at.Trying (i.behind_of s) (zs ++ held_back k core i q))) (sym fronts)
-        (checks (i.behind_of s) (sees k core i rows layered tree core_children children o x (strong_of k core i layered o x flag) flag true q)
-        (held_back k core i q) refl)
-
-    never_stays : (s : ℕ) → stays (flags_around k core i q) (own k s) ≡ true → ⊥
-    never_stays s e =
-        by_aborts (has_aborts (own k s)) _ (aborts_here k core i rows layered tree core_children children o x
-        (strong_of k core i layered o x flag) flag q in_o) e
-      where
-        by_aborts : (a b : Bool) → b ≡ true → not (a || b) ≡ true → ⊥
-        by_aborts true b e f = absurd cc
-        by_aborts false true e f = absurd cc
-        by_aborts false false e f = absurd cc
-
-    by_stands : (z y : Standing) → Stands k core i c q z y → IsCalm z → SeesFirst y
-    by_stands _ _ outside calm = out
-    by_stands _ _ (ended inner) calm = over
-    by_stands _ _ (left s ss e over_it) calm = out
-    by_stands _ _ (trying s tests simple held) calm = by_trying s tests
-    by_stands _ _ (acting s u p g effects lt) calm = absurd (calm_acting (at.Acting s (g ∷ effects) p) calm s p (g ∷ effects) refl)
-    by_stands _ _ (entering s fork t tests super held leads) calm = absurd (calm_entering (at.Entering s (t ∷ tests)) calm s (t ∷ tests) refl)
-    by_stands _ _ (guarding s join t tests has_some held leads) calm = absurd (calm_guarding (at.Guarding s (t ∷ tests)) calm s (t ∷ tests) refl)
-    by_stands _ _ (staying s tests super held stay) calm = absurd (never_stays s stay)
-    by_stands _ _ (within s join tests super held stay open_still leads) calm = forks (i.main_of s) (joins join) []
-    by_stands _ _ (behind s tests super held over_it) calm = by_behind s
-
-    pub sees_first : SeesFirst (standing_of d (i.thread_of q))
-    sees_first = by_stands (standing_of c q) (standing_of d (i.thread_of q)) (related.regions q there) (related.calm q o there in_o guards_now)
+use Rattle.abort_expansion_laws.proofs.OneMonitor.{one_monitor}
 
 -- ---- where threads are, regions are
 
@@ -130,6 +71,7 @@ module _ (k core : Table) (i : Images) (c : Configuration) where
   monitor_present : (o : ℕ) (x y : Standing) → Watches k core i o x y → y ≢ at.Outside → IsInside k core i o x
   monitor_present o _ _ (watch_guards some among) present = guarded (map (λ (z : ℕ × Transition). z.1) some)
   monitor_present o _ _ (waits some ends among all) present = open_inside (map (λ (z : ℕ × Transition). z.1) some ++ ends)
+  monitor_present o _ _ (looks first some ends among all) present = open_inside (map (λ (z : ℕ × Transition). z.1) (first ∷ some) ++ ends)
   monitor_present o x _ (elsewhere _ a b) present = absurd (present refl)
 
   -- where a delayed test is to be made, the superstate is guarded, or open
@@ -137,6 +79,7 @@ module _ (k core : Table) (i : Images) (c : Configuration) where
       ((tests : List Transition) × (x ≡ at.Within o tests))
   monitor_late o _ _ (watch_guards some among) late = inl (map (λ (z : ℕ × Transition). z.1) some, refl)
   monitor_late o _ _ (waits some ends among all) late = inr (map (λ (z : ℕ × Transition). z.1) some ++ ends, refl)
+  monitor_late o _ _ (looks first some ends among all) late = inr (map (λ (z : ℕ × Transition). z.1) (first ∷ some) ++ ends, refl)
   monitor_late o x _ (elsewhere _ a b) late = absurd cc
 
 module _ (k core : Table) (i : Images) (rows : CoreRows k core i) (layered : LayeredRows k core i) (tree : IsNested k) (core_tree : IsNested core)
@@ -237,9 +180,9 @@ module _ (k core : Table) (i : Images) (rows : CoreRows k core i) (layered : Lay
         let s = lies_in (holder k o) u h_there up gens v there below in
         subst (Contains (around k v)) (is_o s.0 s.2 (related.enclosed v s.0 there present s.1)) s.1
 
-    -- no other monitor is there
+    -- so does another monitor
     by_monitor : (w u : ℕ) → IsState k w → has_aborts (own k w) ≡ true → standing_of d (i.watcher_of w) ≢ at.Outside → (gens : ℕ) →
-        parent_of p u ≡ Some (i.thread_of (holder k o)) → u ≢ i.watcher_of o → Descends p gens (i.watcher_of w) u → ⊥
+        parent_of p u ≡ Some (i.thread_of (holder k o)) → u ≢ i.watcher_of o → Descends p gens (i.watcher_of w) u → Contains (around k (holder k w)) o
     by_monitor w u there has_too present gens up differs below = by gens below
       where
         inside_w : IsInside k core i w (standing_of c (holder k w))
@@ -257,22 +200,32 @@ module _ (k core : Table) (i : Images) (rows : CoreRows k core i) (layered : Lay
             lowered.parent (i.watcher_of w) (i.main_of w) (around core (i.thread_of (holder k w))) (rows.watcher w there has_too).encloses
             ∙ ap Some (rows.held w)
 
-        by : (gens : ℕ) → Descends p gens (i.watcher_of w) u → ⊥
+        by : (gens : ℕ) → Descends p gens (i.watcher_of w) u → Contains (around k (holder k w)) o
         by zero same =
             let held : holder k w ≡ holder k o = rows.region_once (holder k w) (holder k o)
             (same_Some (i.thread_of (holder k w)) (i.thread_of (holder k o)) (sym parent ∙ (ap (parent_of p) same ∙ up))) in
-            differs (sym same ∙ ap i.watcher_of (is_o w held inside_w))
+            absurd (differs (sym same ∙ ap i.watcher_of (is_o w held inside_w)))
         by (suc gens) below =
-            let in_o : Contains (around k (holder k w)) o =
             by_region (holder k w) u (holds_there w there) holder_present gens up
-            (subst (λ z. Descends p gens z u) (same_Some below.0 (i.thread_of (holder k w)) (sym below.1 ∙ parent)) below.2) in
-            let none : has_aborts (own k w) ≡ false = layered.in_strong o w (strong_of k core i layered o raises_it.flag raises_it.is_flag) in_o in
-            let wrong : true ≡ false = sym has_too ∙ none in absurd cc
+            (subst (λ z. Descends p gens z u) (same_Some below.0 (i.thread_of (holder k w)) (sym below.1 ∙ parent)) below.2)
 
     region_apart : (v : ℕ) → Contains (around k v) o → ForkedApart core (i.thread_of v) (i.watcher_of o) (i.thread_of (holder k o))
     region_apart v in_o =
         monitor_apart k core i rows core_tree o (i.watcher_of o) image.encloses image.no_thread v
         (subst (λ zs. Contains zs (i.main_of o)) (sym (rows.encloses v)) (map_contains i.main_of (around k v) o in_o))
+
+    other_monitor : (w : ℕ) → IsState k w → has_aborts (own k w) ≡ true → Contains (around k (holder k w)) o → i.watcher_of w ≢ i.watcher_of o
+    other_monitor w there has_too in_o e =
+        let is : w ≡ o = one_monitor k core i rows w o there has_too o_there has e in
+        holds_other k tree (holder k o) o (subst (λ v. Contains (around k (holder k v)) o) is in_o) refl
+
+    monitor_beside : (w : ℕ) → IsState k w → has_aborts (own k w) ≡ true → Contains (around k (holder k w)) o →
+        ForkedApart core (i.watcher_of w) (i.watcher_of o) (i.thread_of (holder k o))
+    monitor_beside w there has_too in_o =
+        monitors_apart k core i rows core_tree o (i.watcher_of o) image.encloses image.no_thread w there has_too (other_monitor w there has_too in_o)
+        (subst (λ zs. Contains zs (i.main_of o)) (sym (rows.watcher w there has_too).encloses)
+        (tail_in (i.main_of w) (i.main_of o) (around core (i.thread_of (holder k w)))
+        (subst (λ zs. Contains zs (i.main_of o)) (sym (rows.encloses (holder k w))) (map_contains i.main_of (around k (holder k w)) o in_o))))
 
     -- the check of the flag is to come behind what raises it, whichever thread makes it
     module _ (t : ℕ) (apart : ForkedApart core t (i.watcher_of o) (i.thread_of (holder k o))) (node : ℕ) (owned : owner_of p node ≡ Some t)
@@ -303,23 +256,23 @@ module _ (k core : Table) (i : Images) (rows : CoreRows k core i) (layered : Lay
     abbrev Low : ℕ → Type 0
     Low t = (priority_of q (status_of m t) < priority q n) ⊎ Resumes p q (priority q n) (status_of m t)
 
-    -- a thread that resumes at its check
-    resumes_low : (v : ℕ) → Contains (around k v) o → ResumedAt p m (i.thread_of v) (access_of_trigger (Some (is_raised raises_it.flag))) →
-        Low (i.thread_of v)
-    resumes_low v in_o x = inr (x.depth, x.node, x.at, x.resumes, check_below (i.thread_of v) (region_apart v in_o) x.node x.owned x.does)
+    -- a thread that resumes at its check, be it that of a region or a monitor
+    module _ (t : ℕ) (apart : ForkedApart core t (i.watcher_of o) (i.thread_of (holder k o))) where
+      resumes_low : ResumedAt p m t (access_of_trigger (Some (is_raised raises_it.flag))) → Low t
+      resumes_low x = inr (x.depth, x.node, x.at, x.resumes, check_below t apart x.node x.owned x.does)
 
-    by_first : (v : ℕ) → Contains (around k v) o → (y : Standing) →
-        SeesFirst k core i rows layered tree core_children children c d related o raises_it.flag has raises_it.is_flag (ap guards guarding_now) y →
-        Wakes p m (i.thread_of v) y → Low (i.thread_of v)
-    by_first v in_o _ out (before_tests s ts is resumes) = absurd cc
-    by_first v in_o _ out (behind_fork s is) = absurd cc
-    by_first v in_o _ over (before_tests s ts is resumes) = absurd cc
-    by_first v in_o _ over (behind_fork s is) = absurd cc
-    by_first v in_o _ (checks z w rest triggered) (before_tests s ts is resumes) =
-        let are : ts ≡ w ∷ rest = cc in resumes_low v in_o (resumes w rest (is_raised raises_it.flag) are triggered)
-    by_first v in_o _ (checks z w rest triggered) (behind_fork s is) = absurd cc
-    by_first v in_o _ (forks z w rest) (before_tests s ts is resumes) = absurd cc
-    by_first v in_o _ (forks z w rest) (behind_fork s is) = absurd cc
+      by_first : (y : Standing) →
+          SeesFirst k core i rows layered tree core_children children c d related o raises_it.flag has raises_it.is_flag (ap guards guarding_now) y →
+          Wakes p m t y → Low t
+      by_first _ out (before_tests s ts is resumes) = absurd cc
+      by_first _ out (behind_fork s is) = absurd cc
+      by_first _ over (before_tests s ts is resumes) = absurd cc
+      by_first _ over (behind_fork s is) = absurd cc
+      by_first _ (checks z w rest triggered) (before_tests s ts is resumes) =
+          let are : ts ≡ w ∷ rest = cc in resumes_low (resumes w rest (is_raised raises_it.flag) are triggered)
+      by_first _ (checks z w rest triggered) (behind_fork s is) = absurd cc
+      by_first _ (forks z w rest) (before_tests s ts is resumes) = absurd cc
+      by_first _ (forks z w rest) (behind_fork s is) = absurd cc
 
     woken_there : (t : ℕ) (y : Standing) → Wakes p m t y → y ≢ at.Outside
     woken_there t y (before_tests s ts is resumes) e = let wrong : at.Trying s ts ≡ at.Outside = sym is ∙ e in absurd cc
@@ -342,7 +295,7 @@ module _ (k core : Table) (i : Images) (rows : CoreRows k core i) (layered : Lay
         of_region : (v : ℕ) → IsThere k v → t ≡ i.thread_of v → Low t
         of_region v there is =
             subst Low (sym is)
-            (by_first v in_o (standing_of d (i.thread_of v))
+            (by_first (i.thread_of v) (region_apart v in_o) (standing_of d (i.thread_of v))
             (sees_first k core i rows layered tree core_children children c d related o raises_it.flag has raises_it.is_flag (ap guards guarding_now) v there
             in_o) (subst (λ z. Wakes p m z (standing_of d z)) is woke))
           where
@@ -358,8 +311,13 @@ module _ (k core : Table) (i : Images) (rows : CoreRows k core i) (layered : Lay
 
         of_monitor : (w : ℕ) → IsState k w → has_aborts (own k w) ≡ true → t ≡ i.watcher_of w → Low t
         of_monitor w there has_too is =
-            absurd (by_monitor w under.0 there has_too (subst (λ z. standing_of d z ≢ at.Outside) is present) under.2.generations under.1.0 under.1.1
-            (subst (λ z. Descends p under.2.generations z under.0) is under.2.descends))
+            let in_o : Contains (around k (holder k w)) o =
+            by_monitor w under.0 there has_too (subst (λ z. standing_of d z ≢ at.Outside) is present) under.2.generations under.1.0 under.1.1
+            (subst (λ z. Descends p under.2.generations z under.0) is under.2.descends) in
+            subst Low (sym is)
+            (by_first (i.watcher_of w) (monitor_beside w there has_too in_o) (standing_of d (i.watcher_of w))
+            (monitor_sees k core i rows layered tree core_children children c d related o raises_it.flag has raises_it.is_flag (ap guards guarding_now) w there
+            has_too in_o) (subst (λ z. Wakes p m z (standing_of d z)) is woke))
 
         by_sort : ((r : ℕ) × IsThere k r × (t ≡ i.thread_of r)) ⊎ ((s : ℕ) × IsState k s × (has_aborts (own k s) ≡ true) × (t ≡ i.watcher_of s)) → Low t
         by_sort (inl r) = of_region r.0 r.1 r.2

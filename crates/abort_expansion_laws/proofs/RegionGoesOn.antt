@@ -16,8 +16,11 @@ use Rattle.chart_machine_laws.proofs.LyingIn.{around, holder, head_in, tail_in}
 use Rattle.abort_expansion_laws.proofs.TablesCorrespond.{IsThere}
 use Rattle.abort_expansion_laws.specs.CoreRows.{own, IsState, Images, CoreRows, RegionImage, WatcherImage}
 use Rattle.abort_expansion_laws.specs.Related.{IsCalm, calm_outside, Closes, Stands, outside, ended, left, trying, acting, entering, guarding, staying}
+use Rattle.abort_expansion_laws.specs.Related.{LooksFirst}
 use Rattle.abort_expansion_laws.specs.Related.{within, behind, Watches, IsInside, open_inside, Stores, FlagsAreDown, still_in, not_ended, Related}
 use Rattle.abort_expansion_laws.proofs.Unchanged.{none_among, both_ways, stands_same, stands_other, SameShape, stands_so, stands_kept, nobody_lies}
+use Rattle.abort_expansion_laws.proofs.LooksFirst.{out_looks, still_looks, watch_gone}
+use Rattle.chart_machine_laws.proofs.ChartTables.{around_there}
 
 set_size : {A : Type 0} (xs : List A) (i : ℕ) (v : A) → length (slice_set xs i v) ≡ length xs
 set_size [] i v = refl
@@ -80,6 +83,8 @@ module _ (k core : Table) (i : Images) (rows : CoreRows k core i) where
     inside_back : (s : ℕ) → holder k s ≡ r → IsInside k core i s y → IsInside k core i s (standing_of c r)
     closes : (s : ℕ) (tests : List Transition) → holder k s ≡ r → y ≡ at.Within s tests → Closes k core i s tests
     calm : (q s : ℕ) → IsThere k q → Contains (around k q) s → guards (standing_of c' (holder k s)) ≡ true → IsCalm (standing_of c' q)
+    unseen : (o s : ℕ) → IsState k o → has_aborts (own k o) ≡ true → Contains (around k (holder k o)) s → guards (standing_of c' (holder k s)) ≡ true →
+        LooksFirst k core i o (standing_of d (i.watcher_of o))
     more : List Value
     variables : d'.variables ≡ c'.variables ++ more
     flag_count : length d'.variables ≡ length core.variables
@@ -211,6 +216,9 @@ module _ (k core : Table) (i : Images) (rows : CoreRows k core i) where
               (λ ne. related.closes_last s tests (sym (elsewhere (holder k s) ne) ∙ is))
               (same_or_not (holder k s) r);
           calm = go.calm;
+          unseen = λ o s there has inner guarded_by.
+              still_looks k core i o (standing_of d (i.watcher_of o)) (standing_of d' (i.watcher_of o))
+              (core_elsewhere (i.watcher_of o) (λ e. (rows.watcher o there has).no_thread r (sym e))) (go.unseen o s there has inner guarded_by);
         }
 
   -- ---- nobody comes to guard
@@ -258,6 +266,8 @@ module _ (k core : Table) (i : Images) (rows : CoreRows k core i) where
           inside_back = go.inside_back;
           closes = go.closes;
           calm = still_calm;
+          unseen = λ o s there has inner guarded_by.
+              related.unseen o s there has inner (sym (same_shape.guards_alike (holder k s)) ∙ guarded_by);
           more = go.more;
           variables = go.variables;
           flag_count = go.flag_count;
@@ -331,6 +341,17 @@ module _ (k core : Table) (i : Images) (rows : CoreRows k core i) where
         (λ ne. subst IsCalm (sym (rests_so q ne)) (related.calm q s there around_it was)) (same_or_not q r))
         (same_or_not (holder k s) r)
 
+    unseen_then : (o s : ℕ) → IsState k o → has_aborts (own k o) ≡ true → Contains (around k (holder k o)) s → guards (standing_of c' (holder k s)) ≡ true →
+        LooksFirst k core i o (standing_of d (i.watcher_of o))
+    unseen_then o s there has inner guarded_by =
+        ⊎_elim
+        (λ held.
+        out_looks k core i o (standing_of d (i.watcher_of o))
+        (watch_gone k core i o (standing_of c (holder k o)) (standing_of d (i.watcher_of o)) (related.watchers o there has)
+        (inr (out_in (holder k o) s (around_there k (holder k o) s inner) inner held))))
+        (λ elsewhere. related.unseen o s there has inner (sym (ap guards (rests_so (holder k s) elsewhere)) ∙ guarded_by))
+        (same_or_not (holder k s) r)
+
     -- nobody guards it, as before
     pub bare_free : is_guarded k c' (around k r) ≡ false
     bare_free = ⊎_elim (λ h. absurd (not_around h.0 h.1 h.2)) (λ same. same ∙ go.free) (held_or_not (around k r))
@@ -352,6 +373,7 @@ module _ (k core : Table) (i : Images) (rows : CoreRows k core i) where
           inside_back = λ s held inner. absurd (go.bare_then s inner);
           closes = λ s tests held is. absurd (go.bare_then s (subst (IsInside k core i s) (sym is) (open_inside tests)));
           calm = calm_then;
+          unseen = unseen_then;
           more = go.more;
           variables = go.variables;
           flag_count = go.flag_count;

@@ -15,7 +15,7 @@ use Rattle.abort_expansion_laws.proofs.Simulation.{Segment}
 use Rattle.abort_expansion_laws.specs.Stages.{Entry, Silent, Correspondence}
 use Rattle.abort_expansion_laws.specs.CoreRows.{own, Images, CoreRows, pair}
 use Rattle.abort_expansion_laws.specs.Related.{Stands, outside, ended, left, trying, acting, entering, guarding, staying}
-use Rattle.abort_expansion_laws.specs.Related.{within, behind, Watches, waits, elsewhere, FlagsAreDown, Related}
+use Rattle.abort_expansion_laws.specs.Related.{within, behind, Watches, waits, looks, elsewhere, FlagsAreDown, Related}
 use Rattle.abort_expansion_laws.specs.Related.{guards as watch_guards}
 use Rattle.abort_expansion_laws.specs.StageReached.{Stage}
 use Rattle.abort_expansion_laws.proofs.InsideLeaves.{LayeredRows}
@@ -68,6 +68,11 @@ module _ (k core : Table) (i : Images) (rows : CoreRows k core i) (layered : Lay
   watcher_rests o _ _ e (watch_guards some among) = absurd (works_not (holder k o) (at.Guarding o (map (λ z. z.1) some)) e refl)
   watcher_rests o _ _ e (waits [] ends among only) = watch_within ends
   watcher_rests o _ _ e (waits (z ∷ some) ends among only) =
+      let weak : is_weak z.1.kind ≡ true =
+      left_tests.kept_is (λ t. is_weak t.kind) (own k o) z.0 z.1 among.0 in
+      let no_join : is_join z.1.kind ≡ false = weak_no_join z.1.kind weak in
+      absurd (works_not (holder k o) (at.Within o (z.1 ∷ (map (λ w. w.1) some ++ ends))) e (rw (no_join) refl))
+  watcher_rests o _ _ e (looks z some ends among only) =
       let weak : is_weak z.1.kind ≡ true =
       left_tests.kept_is (λ t. is_weak t.kind) (own k o) z.0 z.1 among.0 in
       let no_join : is_join z.1.kind ≡ false = weak_no_join z.1.kind weak in

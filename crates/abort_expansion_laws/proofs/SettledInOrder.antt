@@ -96,6 +96,7 @@ module _ (k core : Table) (i : Images) (rows : CoreRows k core i) (tree : IsNest
           opened = sound.opened;
           closes_last = sound.closes_last;
           calm = sound.calm;
+          unseen = p.unseen;
         }
 
   -- ---- who is settled already
@@ -117,6 +118,7 @@ module _ (k core : Table) (i : Images) (rows : CoreRows k core i) (tree : IsNest
             ⊎_elim (λ e. subst (λ q. Stands k core i c q (standing_of c q) (standing_of d (i.thread_of q))) (sym e) (own_one (subst (IsThere k) e there)))
             (λ ne. p.done r there (let gt : r ≢ n = ne in below r n lt gt)) (same_or_not r n);
         watchers = p.watchers;
+        unseen = p.unseen;
         flags = p.flags;
         joinable = p.joinable;
         ready = p.ready;

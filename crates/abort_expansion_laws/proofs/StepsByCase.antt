@@ -31,6 +31,7 @@ use Rattle.abort_expansion_laws.proofs.PreemptionKept.{ToldHere, preemption_kept
 use Rattle.abort_expansion_laws.proofs.RowsOfCharts as whole
 use Rattle.abort_expansion_laws.proofs.TestTargets.{ends_untested}
 use Rattle.abort_expansion_laws.proofs.TickFollowed as ticks
+use Rattle.abort_expansion_laws.proofs.WeakTestReady.{when_ready}
 
 module _ (c : Chart) (rules : IsChart features.Extended c) (core_rules : IsChart features.Core (expanded c)) (layered : IsLayered c) where
   abbrev k : Table
@@ -90,11 +91,13 @@ module _ (c : Chart) (rules : IsChart features.Extended c) (core_rules : IsChart
         verdict now.variables t.trigger ≡ o → Contains (own k s) t × ((is_weak t.kind ≡ true) ⊎ (is_join t.kind ≡ true)) → Followed now d r next
     by_within s t tests stands None e its = undone (ap (deed_of k now r) stands ∙ none_tested s t (to r (at.Within s tests) ∷ []) e)
     by_within s t tests stands (Some true) e (own_one, inl is) =
-        leave.weak_taken c rules core_rules layered now d related owns r next goes s t tests stands e own_one is
+        when_ready c rules core_rules layered now d related owns r next goes s t tests stands own_one is
+        (λ z at_test monitor. leave.weak_taken c rules core_rules layered now z at_test owns r next goes s t tests stands e own_one is monitor)
     by_within s t tests stands (Some true) e (own_one, inr is) =
         leave.terminated c rules core_rules layered now d related owns r next goes s t tests stands own_one is
     by_within s t tests stands (Some false) e (own_one, inl is) =
-        one.weak_fails c rules core_rules layered now d related owns r next goes s t tests stands own_one is e
+        when_ready c rules core_rules layered now d related owns r next goes s t tests stands own_one is
+        (λ z at_test monitor. one.weak_fails c rules core_rules layered now z at_test owns r next goes s t tests stands own_one is monitor e)
     by_within s t tests stands (Some false) e (own_one, inr is) =
         let plain = ends_untested features.Extended c rules s t own_one is in
         let wrong : Some true ≡ Some false = sym (ap (verdict now.variables) plain) ∙ e in absurd cc

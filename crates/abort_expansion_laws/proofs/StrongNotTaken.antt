@@ -24,7 +24,8 @@ use Rattle.abort_expansion_laws.proofs.MoreValues.{verdict_over_more}
 use Rattle.abort_expansion_laws.specs.CoreRows.{own, IsState, joins, Images, CoreRows}
 use Rattle.abort_expansion_laws.specs.Related.{monitor_last}
 use Rattle.abort_expansion_laws.specs.Related.{AreAmong, raises, raise_each, Stands, outside, ended, left, trying, acting, entering, guarding, staying}
-use Rattle.abort_expansion_laws.specs.Related.{within, behind, Watches, guards as watch_guards, waits, elsewhere, IsInside, guarded, open_inside, Related}
+use Rattle.abort_expansion_laws.specs.Related.{within, behind, Watches, guards as watch_guards, waits, looks, elsewhere, IsInside, guarded, open_inside}
+use Rattle.abort_expansion_laws.specs.Related.{Related}
 use Rattle.abort_expansion_laws.proofs.Unchanged.{never_guarded}
 use Rattle.abort_expansion_laws.proofs.StageReached.{Stage}
 use Rattle.abort_expansion_laws.proofs.ImageSteps.{pair}
@@ -100,6 +101,7 @@ module _ (k core : Table) (i : Images) (o : ℕ) where
   guards_back _ _ (watch_guards some among) t tests e =
       let same : map (λ (x : ℕ × Transition). x.1) some ≡ t ∷ tests = cc in from_some some among t tests same
   guards_back _ _ (waits some joins among ends) t tests e = absurd cc
+  guards_back _ _ (looks first some joins among ends) t tests e = absurd cc
   guards_back x _ (elsewhere z a b) t tests e = absurd (a (t ∷ tests) e)
 
   pub inside_guarding : (s : ℕ) (x : Standing) → IsInside k core i s x → (tests : List Transition) → x ≡ at.Guarding o tests → s ≡ o

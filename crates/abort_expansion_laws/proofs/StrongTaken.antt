@@ -1,5 +1,5 @@
 -- A strong abort is taken: the whole step is followed.
-use Rattle.std.proofs.Common.{◌≡◌, ◌≢◌, ℕ, ◌<◌, inl, inr, Bool, true, false, pos, Option, Some, List, [], ◌∷◌, ◌++◌, map, length, slice_get, Contains}
+use Rattle.std.proofs.Common.{◌≡◌, ◌≢◌, ℕ, ◌<◌, inl, inr, Bool, true, false, pos, Option, Some, None, List, [], ◌∷◌, ◌++◌, map, length, slice_get, Contains}
 use Rattle.std.proofs.Common.{refl, sym, ap, subst, ◌∙◌, arith}
 use Rattle.std.specs.Prelude.{option_map}
 use Rattle.std.proofs.lemmas.List.{append_assoc}
@@ -18,9 +18,8 @@ use Rattle.chart_machine.specs.Table.{state_at, region_at}
 use Rattle.chart_machine.specs.Turns.{standing_of, has_work, guards, is_guarded, inside}
 use Rattle.chart_machine.specs.Steps.{state_in, deed_of, guarding_on, verdict, access_of, access_of_trigger, step}
 use Rattle.chart_machine.specs.Machine.{machine}
-use Rattle.abort_expansion.specs.Transitions.{is_raised, raising, answers}
+use Rattle.abort_expansion.specs.Transitions.{is_raised, raising, answers, strong_checks}
 use Rattle.abort_expansion.specs.Superstates.{closing}
-use Rattle.tick_laws.proofs.Lists.{map_contains}
 use Rattle.abort_expansion_laws.specs.Stages.{Entry, Watched, Silent, Correspondence, IsSilent}
 use Rattle.abort_expansion_laws.proofs.Supplying.{silent_test}
 use Rattle.abort_expansion_laws.proofs.Simulation.{Segment}
@@ -34,14 +33,16 @@ use Rattle.abort_expansion_laws.proofs.StageReached.{Stage, stage_of}
 use Rattle.abort_expansion_laws.proofs.ImageSteps.{pair}
 use Rattle.abort_expansion_laws.proofs.KnownVariables.{present_there}
 use Rattle.abort_expansion_laws.proofs.StrongNotTaken.{IsGuarding, guarding_back, MonitorGuards, guards_back}
-use Rattle.abort_expansion_laws.proofs.InsideLeaves.{LayeredRows, may_leave, strong_of}
-use Rattle.abort_expansion_laws.proofs.OutsideAborts.{no_strong_checks}
+use Rattle.abort_expansion_laws.proofs.InsideLeaves.{LayeredRows, strong_of}
+use Rattle.abort_expansion_laws.proofs.StrongLeaves.{may_leave}
+use Rattle.abort_expansion_laws.proofs.OutsideAborts.{plain_around, no_strong_checks}
 use Rattle.abort_expansion_laws.proofs.AbortNext.{AbortNext}
 use Rattle.abort_expansion_laws.proofs.SuperstateLeft.{chart_takes}
 use Rattle.abort_expansion_laws.proofs.AbortFollowed.{with_effects, without_effects}
 use Rattle.abort_expansion_laws.proofs.StartingRegions.{CounterRows}
 use Rattle.abort_expansion_laws.proofs.EffectAhead.{BeginsAt}
 use Rattle.abort_expansion_laws.proofs.Owed.{Enters}
+use Rattle.core_charts.specs.Aborts.{has_strong}
 
 module _ (k core : Table) (i : Images) (rows : CoreRows k core i) (more : LayeredRows k core i) (tree : IsNested k) (core_tree : IsNested core)
     (deep : (q s : ℕ) → Contains (around core q) s → holder core s < q)
@@ -81,19 +82,14 @@ module _ (k core : Table) (i : Images) (rows : CoreRows k core i) (more : Layere
   home_of : holder core (i.main_of (rows.of_flag x)) ≡ i.thread_of r
   home_of = ap (λ s. holder core (i.main_of s)) of_flag ∙ (rows.held o ∙ ap i.thread_of region.held)
 
-  sees_flag : (q : ℕ) → Contains (around k q) o → IsSilent corr (i.thread_of q) (Some (i.thread_of r, 1)) (access_of_trigger (Some (is_raised x)))
-  sees_flag q in_o =
-      subst (IsSilent corr (i.thread_of q) (Some (i.thread_of r, 1))) (sym (raised_access x))
-      (silent_test corr (i.thread_of q) (Some (i.thread_of r, 1)) x (rows.strong_added o x flag)
-      (inr (inr (no_counter, within), (1, stage_is, omega (at_none, arith)))))
+  sees_flag : (t : ℕ) → Contains (around core t) (i.main_of o) → IsSilent corr t (Some (i.thread_of r, 1)) (access_of_trigger (Some (is_raised x)))
+  sees_flag t in_o =
+      subst (IsSilent corr t (Some (i.thread_of r, 1))) (sym (raised_access x))
+      (silent_test corr t (Some (i.thread_of r, 1)) x (rows.strong_added o x flag)
+      (inr (inr (no_counter, subst (λ s. Contains (around core t) (i.main_of s)) (sym of_flag) in_o), (1, stage_is, omega (at_none, arith)))))
     where
       stage_is : ◌≡◌ {A = Option (ℕ × ℕ)} (Some (i.thread_of r, 1)) (Some (holder core (i.main_of (rows.of_flag x)), 1))
       stage_is = ap (λ (h : ℕ). Some (h, 1)) (sym home_of)
-
-      within : Contains (around core (i.thread_of q)) (i.main_of (rows.of_flag x))
-      within =
-          subst (λ s. Contains (around core (i.thread_of q)) (i.main_of s)) (sym of_flag)
-          (subst (λ zs. Contains zs (i.main_of o)) (sym (rows.encloses q)) (map_contains i.main_of (around k q) o in_o))
 
   guards_now : guards (standing_of c (holder k o)) ≡ true
   guards_now = ap (λ q. guards (standing_of c q)) region.held ∙ ap guards stands
@@ -104,13 +100,21 @@ module _ (k core : Table) (i : Images) (rows : CoreRows k core i) (more : Layere
   abbrev closing_ones : List Transition
   closing_ones = closing (flags_around k core i r) (i.flags_of o) (i.places_of r) (terminations (own k o))
 
+  strong_here : has_strong (own k o) ≡ true
+  strong_here = strong_of k core i more o x flag
+
+  -- no superstate around has strong aborts
+  none_around : strong_checks true (i.places_of r).left (flags_around k core i r) ≡ []
+  none_around = no_strong_checks k core i more tree r o strong_here region.held true
+
   continues : at_once (behind_transitions k core i r o) ≡
-      at_once (answers (i.places_of r) (Some x) 1 (strong_aborts (own k o)) ++ (weak_answers ++ closing_ones))
+      strong_checks true (i.places_of r).left (flags_around k core i r)
+      ++ at_once (answers (i.places_of r) (Some x) 1 (strong_aborts (own k o)) ++ (weak_answers ++ closing_ones))
   continues =
-      ap (λ zs. at_once (((zs ++ answers (i.places_of r) (i.flags_of o).strong 1 (strong_aborts (own k o))) ++ weak_answers) ++ closing_ones))
-      (no_strong_checks k core i more tree r o region.has region.held true)
+      ap (λ zs. at_once (((zs ++ answers (i.places_of r) (i.flags_of o).strong 1 (strong_aborts (own k o))) ++ weak_answers) ++ closing_ones)) none_around
       ∙ (ap (λ f. at_once ((answers (i.places_of r) f 1 (strong_aborts (own k o)) ++ weak_answers) ++ closing_ones)) flag
-      ∙ ap at_once (append_assoc (answers (i.places_of r) (Some x) 1 (strong_aborts (own k o))) weak_answers closing_ones))
+      ∙ (ap at_once (append_assoc (answers (i.places_of r) (Some x) 1 (strong_aborts (own k o))) weak_answers closing_ones)
+      ∙ ap (λ zs. zs ++ at_once (answers (i.places_of r) (Some x) 1 (strong_aborts (own k o)) ++ (weak_answers ++ closing_ones))) (sym none_around)))
 
   strong_next : IsSuper k o → ((s : ℕ) → s ≢ o → ((i.flags_of s).strong ≢ Some x) × ((i.flags_of s).weak ≢ Some x) × ((i.flags_of s).counter ≢ Some x)) →
       is_guarded k c (around k r) ≡ false → AbortNext k core i rows tree counts written_at c d r o 0 x t
@@ -146,6 +150,9 @@ module _ (k core : Table) (i : Images) (rows : CoreRows k core i) (more : Layere
         leaves = λ first raised values same over.
             may_leave k core i rows more tree core_children children o x (strong_of k core i more o x flag) flag c d related guards_now calm corr
             (i.thread_of r) 1 first sees_flag raised same o_there over;
+        around_down = λ s y around_it strong.
+            let none : (i.flags_of s).strong ≡ None = more.no_strong s (plain_around k core i more tree r o strong_here region.held s around_it) in
+            let wrong : Some y ≡ None = sym strong ∙ none in absurd cc;
         earlier = [];
         aborts = strong_aborts (own k o);
         behind_them = weak_answers ++ closing_ones;

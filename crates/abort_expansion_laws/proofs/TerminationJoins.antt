@@ -27,7 +27,7 @@ use Rattle.abort_expansion_laws.proofs.MoreValues.{same_verdict}
 use Rattle.abort_expansion_laws.proofs.FlagAccess.{number_access}
 use Rattle.abort_expansion_laws.specs.CoreRows.{own, IsState, IsSuper, joins, Images, CoreRows, WatcherImage, SplitImage, flags_around, watchers}
 use Rattle.abort_expansion_laws.specs.CoreRows.{behind_transitions, pair}
-use Rattle.abort_expansion_laws.specs.Related.{raise_each, Watches, guards as watch_guards, waits, elsewhere, IsInside, open_inside, still_in}
+use Rattle.abort_expansion_laws.specs.Related.{raise_each, Watches, guards as watch_guards, waits, looks, elsewhere, IsInside, open_inside, still_in}
 use Rattle.abort_expansion_laws.specs.Related.{not_ended, Stores, Related, monitor_last}
 use Rattle.abort_expansion_laws.proofs.Unchanged.{no_guards, unguarded}
 use Rattle.abort_expansion_laws.proofs.StageReached.{Stage, holds_other, inside_in}
@@ -59,6 +59,10 @@ monitor_counts k core i s t rest join _ _ (waits [] ends among only) e =
     none_raised None = refl
     none_raised (Some x) = refl
 monitor_counts k core i s t rest join _ _ (waits (z ∷ some) ends among only) e =
+    let same : z.1 ≡ t = cc in
+    let weak : is_weak z.1.kind ≡ true = kept_is (λ u. is_weak u.kind) (own k s) z.0 z.1 among.0 in
+    let wrong : true ≡ false = sym join ∙ (ap (λ u. is_join u.kind) (sym same) ∙ weak_no_join z.1.kind weak) in absurd cc
+monitor_counts k core i s t rest join _ _ (looks z some ends among only) e =
     let same : z.1 ≡ t = cc in
     let weak : is_weak z.1.kind ≡ true = kept_is (λ u. is_weak u.kind) (own k s) z.0 z.1 among.0 in
     let wrong : true ≡ false = sym join ∙ (ap (λ u. is_join u.kind) (sym same) ∙ weak_no_join z.1.kind weak) in absurd cc

@@ -19,7 +19,7 @@ use Rattle.abort_expansion_laws.proofs.TablesCorrespond.{IsThere, contains_map}
 use Rattle.chart_machine_laws.proofs.ChartTables.{around_there}
 use Rattle.abort_expansion_laws.specs.CoreRows.{own, IsState, Images, CoreRows, flags_around}
 use Rattle.abort_expansion_laws.specs.Related.{Each, is_behind, Stands, outside, ended, left, trying, acting, entering, guarding, staying, within, behind}
-use Rattle.abort_expansion_laws.specs.Related.{Watches, guards as watch_guards, waits, elsewhere, IsInside, guarded, open_inside, Closes, Related}
+use Rattle.abort_expansion_laws.specs.Related.{Watches, guards as watch_guards, waits, looks, elsewhere, IsInside, guarded, open_inside, Closes, Related}
 use Rattle.abort_expansion_laws.proofs.KnownVariables.{both_true}
 use Rattle.abort_expansion_laws.proofs.StartingRegions.{Once, CounterRows}
 use Rattle.abort_expansion_laws.proofs.SettledInOrder.{ended_back}
@@ -147,6 +147,8 @@ module _ (k core : Table) (i : Images) (rows : CoreRows k core i) (tree : IsNest
   watcher_over u _ _ (watch_guards some among) (inr e) = absurd cc
   watcher_over u _ _ (waits some joins among ends) (inl e) = absurd cc
   watcher_over u _ _ (waits some joins among ends) (inr e) = absurd cc
+  watcher_over u _ _ (looks first some joins among ends) (inl e) = absurd cc
+  watcher_over u _ _ (looks first some joins among ends) (inr e) = absurd cc
   watcher_over u x _ (elsewhere z a b) over = inr refl
 
   -- a thread in the fork is over, or it is the monitor

@@ -16,7 +16,7 @@ use Rattle.abort_expansion_laws.proofs.TablesCorrespond.{IsThere}
 use Rattle.abort_expansion_laws.specs.CoreRows.{own, IsState, Images, CoreRows}
 use Rattle.abort_expansion_laws.specs.Related.{IsCalm, front, held_back, tests_of, is_behind, Stands}
 use Rattle.abort_expansion_laws.specs.Related.{outside, ended, left, trying, acting, entering, guarding, staying, within, behind, Watches}
-use Rattle.abort_expansion_laws.specs.Related.{guards as watch_guards, waits, elsewhere, IsInside, Related}
+use Rattle.abort_expansion_laws.specs.Related.{guards as watch_guards, waits, looks, elsewhere, IsInside, Related}
 
 -- ---- one region comes to stand elsewhere
 
@@ -134,6 +134,7 @@ module _ (k core : Table) (i : Images) (rows : CoreRows k core i) (c d : Configu
   not_watching : (o : ℕ) (x y : Standing) → Watches k core i o x y → guards y ≡ false
   not_watching o _ _ (watch_guards some among) = refl
   not_watching o _ _ (waits some joins among ends) = refl
+  not_watching o _ _ (looks first some joins among ends) = refl
   not_watching o x _ (elsewhere z a b) = refl
 
   past_or_there : (t : ℕ) → (t ≡ 0) ⊎ (IsThere core t ⊎ (suc (length core.regions) ≤ t))
@@ -177,7 +178,7 @@ none_among p [] y e h = absurd (none_in y h)
 none_among p (x ∷ xs) y e h =
     let both = or_parts (p x) (list_any p xs) e in ⊎_elim (λ same. ap p (sym same) ∙ both.0) (λ tail. none_among p xs y both.1 tail) (head_or_tail x y xs h)
 
-none_are : (p : ℕ → Bool) (xs : List ℕ) → ((x : ℕ) → Contains xs x → p x ≡ true → ⊥) → list_any p xs ≡ false
+pub none_are : (p : ℕ → Bool) (xs : List ℕ) → ((x : ℕ) → Contains xs x → p x ≡ true → ⊥) → list_any p xs ≡ false
 none_are p [] each = refl
 none_are p (x ∷ xs) each = rw (never (p x) (each x (head_in x xs)), none_are p xs (λ y tail. each y (tail_in x y xs tail))) refl
   where

@@ -13,15 +13,16 @@ use Rattle.abort_expansion_laws.specs.Stages.{Entry}
 use Rattle.chart_machine_laws.proofs.LyingIn.{IsNested, around, holder, none_in, head_in, tail_in, head_or_tail}
 use Rattle.abort_expansion_laws.proofs.TablesCorrespond.{IsThere}
 use Rattle.abort_expansion_laws.specs.CoreRows.{Images, CoreRows, joins}
-use Rattle.abort_expansion_laws.specs.Related.{held_back, Stores}
+use Rattle.abort_expansion_laws.specs.Related.{held_back, Stores, LooksFirst}
 use Rattle.abort_expansion_laws.proofs.Pending.{Sound, IsJoining, Over, Covered, Flagged, Pending, IsBusy, joins_then, Reached}
-use Rattle.abort_expansion_laws.specs.Related.{is_behind, front, Stands, outside, left, behind, Watches, guards as watch_guards, waits, elsewhere}
+use Rattle.abort_expansion_laws.specs.Related.{is_behind, front, Stands, outside, left, behind, Watches, guards as watch_guards, waits, looks, elsewhere}
 use Rattle.abort_expansion_laws.proofs.TablesCorrespond.{contains_map}
 use Rattle.abort_expansion_laws.proofs.InsideAround.{inside_around}
 use Rattle.abort_expansion_laws.proofs.StageReached.{inside_in}
 use Rattle.abort_expansion_laws.proofs.Pending.{is_trying, IsOpening, IsStarting, Waits, settled, opening, starting, joining, ending, hidden, goes_in}
 use Rattle.abort_expansion_laws.proofs.Pending.{still_going, starts, opens, behind_unprepared}
 use Rattle.abort_expansion_laws.proofs.SettledInOrder.{skips, there_in}
+use Rattle.abort_expansion_laws.proofs.LooksFirst.{still_looks, looks_not_ended}
 
 module _ (k core : Table) (i : Images) (rows : CoreRows k core i) (tree : IsNested k) (counts : ℕ → Bool) (written_at : ℕ → ℕ)
     (Told : Configuration → Entry → Type 0)
@@ -234,6 +235,7 @@ module _ (k core : Table) (i : Images) (rows : CoreRows k core i) (tree : IsNest
   watch_not_ended : (u : ℕ) (x y : Standing) → Watches k core i u x y → y ≢ at.Ended
   watch_not_ended u _ _ (watch_guards some among) e = absurd cc
   watch_not_ended u _ _ (waits some others among all) e = absurd cc
+  watch_not_ended u _ _ (looks first some others among all) e = absurd cc
   watch_not_ended u x _ (elsewhere w a b) e = absurd cc
 
   watcher_same : (t : ℕ) → t ≢ g → standing_of d t ≢ at.Ended → standing_of z t ≡ standing_of d t
@@ -315,6 +317,11 @@ module _ (k core : Table) (i : Images) (rows : CoreRows k core i) (tree : IsNest
                   hides.0,
               covered_z u hides.1,
             )) (p.watchers u u_there has);
+        unseen = λ u v u_there has inner guarded_by.
+            let before : LooksFirst k core i u (standing_of d (i.watcher_of u)) = p.unseen u v u_there has inner guarded_by in
+            still_looks k core i u (standing_of d (i.watcher_of u)) (standing_of z (i.watcher_of u))
+            (watcher_same (i.watcher_of u) (λ e. (rows.watcher u u_there has).no_thread r (sym e))
+            (looks_not_ended k core i u (standing_of d (i.watcher_of u)) before)) before;
         flags = λ u u_there inside_u. ⊎_elim (λ f. inl (flagged_z u f)) (λ covered. inr (covered_z u covered)) (p.flags u u_there inside_u);
         late = λ u a. p.late u (opening_back u a);
         joinable = λ u a. over_z u a (p.joinable u (joining_back u a));

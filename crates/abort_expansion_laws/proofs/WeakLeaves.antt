@@ -6,7 +6,7 @@ use Rattle.std.proofs.lemmas.List.{append-nil, append_assoc}
 use Rattle.sc_values.specs.declared.value.Value.TheVariants as value_is
 use Rattle.core_charts.specs.declared.region.Transition.{Transition}
 use Rattle.core_charts.specs.Tests.{at_once, strong_aborts, weak_aborts, terminations}
-use Rattle.core_charts.specs.Aborts.{has_weak, has_aborts}
+use Rattle.core_charts.specs.Aborts.{has_aborts}
 use Rattle.chart_machine.specs.declared.standing.Standing.{Standing}
 use Rattle.chart_machine.specs.declared.standing.Standing.TheVariants as at
 use Rattle.chart_machine.specs.declared.standing.Configuration.{Configuration}
@@ -36,8 +36,7 @@ use Rattle.abort_expansion_laws.proofs.MayLeave.{leads_out, fails_before, out, o
 use Rattle.abort_expansion_laws.proofs.InsideLeaves.{LayeredRows, fork_leaves, all_may_leave}
 use Rattle.abort_expansion_laws.proofs.SplitTests.{continuation_tests}
 use Rattle.abort_expansion_laws.proofs.InsideAround.{one_in_other}
-use Rattle.abort_expansion_laws.proofs.StageReached.{holds_other}
-use Rattle.abort_expansion_laws.proofs.StrongNotTaken.{IsGuarding, guarding_back}
+use Rattle.abort_expansion_laws.proofs.StageReached.{none_of, holds_other}
 use Rattle.abort_expansion_laws.proofs.WeakSeen as seen
 use Rattle.abort_expansion_laws.proofs.MonitorsLeave as monitors
 use Rattle.abort_expansion_laws.proofs.WeakSeen.{any_none, some_still_in}
@@ -48,77 +47,73 @@ module _ (k core : Table) (i : Images) (rows : CoreRows k core i) (layered : Lay
     (children : (s r : ℕ) → Contains (state_at k s).regions r → around k r ≡ s ∷ around k (holder k s))
     (counts : ℕ → Bool) (written_at : ℕ → ℕ) (counters : CounterRows k core i rows counts written_at) (opening : OpeningRows k core i rows)
     (start_rows : StartRows k core i rows) (written_low : (x : ℕ) → written_at x < 3)
+    (strong_at : (s x : ℕ) → (i.flags_of s).strong ≡ Some x → written_at x ≡ 0)
     (c d : Configuration) (related : Related k core i c d) (r o x : ℕ) (flag : (i.flags_of o).weak ≡ Some x) (held : holder k o ≡ r)
     (o_there : IsState k o) (open_tests : List Transition) (stands : standing_of c r ≡ at.Within o open_tests)
     (idle : (q : ℕ) → IsThere k q → Contains (around k q) o → has_work k c (standing_of c q) ≡ false)
     (first : Configuration) (raised : verdict first.variables (Some (is_raised x)) ≡ Some true)
     (values : (y : ℕ) → y ≢ x → slice_get first.variables y ≡ slice_get d.variables y)
-    (same : (g : ℕ) → g ≢ i.watcher_of o → standing_of first g ≡ standing_of d g) where
+    (same : (g : ℕ) → g ≢ i.watcher_of o → standing_of first g ≡ standing_of d g) (free : is_guarded k c (around k r) ≡ false) where
   abbrev corr : Correspondence
-  corr = seen.corr k core i rows layered tree deep alone core_children children counts written_at counters opening start_rows written_low c d related r o x
-      flag held
-      o_there open_tests stands idle first raised values same
-
-  abbrev has_some_weak : has_weak (own k o) ≡ true
-  has_some_weak = seen.has_some_weak k core i rows layered tree deep alone core_children children counts written_at counters opening start_rows written_low c
-      d related r o x flag held
+  corr = seen.corr k core i rows layered tree deep alone core_children children counts written_at counters opening start_rows written_low strong_at c d
+      related r o x flag held
       o_there open_tests stands idle first raised values same
 
   abbrev has : has_aborts (own k o) ≡ true
-  has = seen.has k core i rows layered tree deep alone core_children children counts written_at counters opening start_rows written_low c d related r o x flag
-      held
-      o_there open_tests stands idle first raised values same
-
-  abbrev Leaves : ℕ → Standing → Type 0
-  Leaves = seen.Leaves k core i rows layered tree deep alone core_children children counts written_at counters opening start_rows written_low c d related r o
-      x flag held
-      o_there open_tests stands idle first raised values same
-
-  abbrev LeavesTests : ℕ → List Transition → Type 0
-  LeavesTests = seen.LeavesTests k core i rows layered tree deep alone core_children children counts written_at counters opening start_rows written_low c d
-      related r o x flag held
-      o_there open_tests stands idle first raised values same
-
-  abbrev sees : ℕ → Transition
-  sees = seen.sees k core i rows layered tree deep alone core_children children counts written_at counters opening start_rows written_low c d related r o x
-      flag held
-      o_there open_tests stands idle first raised values same
-
-  abbrev one_held : (q : ℕ) → Contains (around k q) o → held_back k core i q ≡ sees q ∷ []
-  one_held = seen.one_held k core i rows layered tree deep alone core_children children counts written_at counters opening start_rows written_low c d related
+  has = seen.has k core i rows layered tree deep alone core_children children counts written_at counters opening start_rows written_low strong_at c d related
       r o x flag held
       o_there open_tests stands idle first raised values same
 
-  abbrev weak_here : (q : ℕ) → Contains (around k q) o → weak_around (flags_around k core i q) ≡ true
-  weak_here = seen.weak_here k core i rows layered tree deep alone core_children children counts written_at counters opening start_rows written_low c d
+  abbrev Leaves : ℕ → Standing → Type 0
+  Leaves = seen.Leaves k core i rows layered tree deep alone core_children children counts written_at counters opening start_rows written_low strong_at c d
       related r o x flag held
       o_there open_tests stands idle first raised values same
 
-  abbrev aborts_here : (q : ℕ) → Contains (around k q) o → aborts_around (flags_around k core i q) ≡ true
-  aborts_here = seen.aborts_here k core i rows layered tree deep alone core_children children counts written_at counters opening start_rows written_low c d
+  abbrev LeavesTests : ℕ → List Transition → Type 0
+  LeavesTests = seen.LeavesTests k core i rows layered tree deep alone core_children children counts written_at counters opening start_rows written_low
+      strong_at c d related r o x flag held
+      o_there open_tests stands idle first raised values same
+
+  abbrev sees : ℕ → Transition
+  sees = seen.sees k core i rows layered tree deep alone core_children children counts written_at counters opening start_rows written_low strong_at c d
       related r o x flag held
+      o_there open_tests stands idle first raised values same
+
+  abbrev one_held : (q : ℕ) → Contains (around k q) o → held_back k core i q ≡ sees q ∷ []
+  one_held = seen.one_held k core i rows layered tree deep alone core_children children counts written_at counters opening start_rows written_low strong_at c
+      d related r o x flag held
+      o_there open_tests stands idle first raised values same
+
+  abbrev weak_here : (q : ℕ) → Contains (around k q) o → weak_around (flags_around k core i q) ≡ true
+  weak_here = seen.weak_here k core i rows layered tree deep alone core_children children counts written_at counters opening start_rows written_low strong_at
+      c d related r o x flag held
+      o_there open_tests stands idle first raised values same
+
+  abbrev aborts_here : (q : ℕ) → Contains (around k q) o → aborts_around (flags_around k core i q) ≡ true
+  aborts_here = seen.aborts_here k core i rows layered tree deep alone core_children children counts written_at counters opening start_rows written_low
+      strong_at c d related r o x flag held
       o_there open_tests stands idle first raised values same
 
   abbrev ends_there : (q : ℕ) → IsThere k q → Contains (around k q) o →
       (state_at core (state_in core (i.thread_of q) (i.places_of q).left)).entered ≡ to (i.thread_of q) at.Ended ∷ []
-  ends_there = seen.ends_there k core i rows layered tree deep alone core_children children counts written_at counters opening start_rows written_low c d
-      related r o x flag held
+  ends_there = seen.ends_there k core i rows layered tree deep alone core_children children counts written_at counters opening start_rows written_low
+      strong_at c d related r o x flag held
       o_there open_tests stands idle first raised values same
 
   abbrev sees_it : (q : ℕ) → IsThere k q → Contains (around k q) o → LeavesTests q (sees q ∷ [])
-  sees_it = seen.sees_it k core i rows layered tree deep alone core_children children counts written_at counters opening start_rows written_low c d related r
-      o x flag held
+  sees_it = seen.sees_it k core i rows layered tree deep alone core_children children counts written_at counters opening start_rows written_low strong_at c d
+      related r o x flag held
       o_there open_tests stands idle first raised values same
 
   abbrev strong_fails : (q : ℕ) → IsThere k q → standing_of c q ≢ at.Outside → Contains (around k q) o → (rest : List Transition) → LeavesTests q rest →
       LeavesTests q (strong_checks true (i.places_of q).left (flags_around k core i q) ++ rest)
-  strong_fails = seen.strong_fails k core i rows layered tree deep alone core_children children counts written_at counters opening start_rows written_low c d
-      related r o x flag held
+  strong_fails = seen.strong_fails k core i rows layered tree deep alone core_children children counts written_at counters opening start_rows written_low
+      strong_at c d related r o x flag held
       o_there open_tests stands idle first raised values same
 
   abbrev works_not : (q : ℕ) → IsThere k q → Contains (around k q) o → (w : Standing) → standing_of c q ≡ w → has_work k c w ≡ true → ⊥
-  works_not = seen.works_not k core i rows layered tree deep alone core_children children counts written_at counters opening start_rows written_low c d
-      related r o x flag held
+  works_not = seen.works_not k core i rows layered tree deep alone core_children children counts written_at counters opening start_rows written_low strong_at
+      c d related r o x flag held
       o_there open_tests stands idle first raised values same
 
   -- ---- nobody guards
@@ -136,17 +131,16 @@ module _ (k core : Table) (i : Images) (rows : CoreRows k core i) (layered : Lay
           holder_is : IsThere k (holder k s)
           holder_is = present_there k core i c d related (holder k s) (λ e. let wrong : at.Guarding s tests ≡ at.Outside = sym is ∙ e in absurd cc)
 
-          image : IsGuarding k core i (holder k s) s (standing_of d (i.thread_of (holder k s)))
-          image = guarding_back k core i c (holder k s) (standing_of c (holder k s)) (standing_of d (i.thread_of (holder k s)))
-              (related.regions (holder k s) holder_is) s tests is
-
           by_place : (s ≡ o) ⊎ (Contains (around k (holder k s)) o ⊎ Contains (around k (holder k o)) s) → ⊥
           by_place (inl same_one) =
               let wrong : at.Guarding s tests ≡ at.Within o open_tests =
               sym is ∙ (ap (λ v. standing_of c (holder k v)) same_one ∙ (ap (standing_of c) held ∙ stands)) in
               absurd cc
           by_place (inr (inl deeper)) = let wrong : true ≡ false = sym (ap (has_work k c) is) ∙ idle (holder k s) holder_is deeper in absurd cc
-          by_place (inr (inr outer)) = let wrong : true ≡ false = sym has_some_weak ∙ layered.in_any s o image.has outer in absurd cc
+          by_place (inr (inr outer)) =
+              let wrong : true ≡ false =
+              sym (ap guards is) ∙ none_of (λ v. guards (standing_of c (holder k v))) (around k r) s free (subst (λ p. Contains (around k p) s) held outer) in
+              absurd cc
 
   -- ---- the continuation of a superstate inside
 
@@ -272,8 +266,8 @@ module _ (k core : Table) (i : Images) (rows : CoreRows k core i) (layered : Lay
   only_held : (q u : ℕ) (b : Bool) → IsThere k q → Contains (around k q) o → standing_of c q ≢ at.Outside → inside core u ≡ [] →
       Leaves (i.thread_of q) (at.Trying u (front k core i b c q ++ held_back k core i q))
   only_held q u b there in_o present alone =
-      let free : is_guarded k c (around k q) ≡ false = not_guarded q there in_o present in
-      let none : front k core i b c q ≡ [] = rw (free) refl in
+      let not_around : is_guarded k c (around k q) ≡ false = not_guarded q there in_o present in
+      let none : front k core i b c q ≡ [] = rw (not_around) refl in
       let all : front k core i b c q ++ held_back k core i q ≡ sees q ∷ [] = ap (λ zs. zs ++ held_back k core i q) none ∙ one_held q in_o in
       subst (λ zs. Leaves (i.thread_of q) (at.Trying u zs)) (sym all) (tries u (sees q ∷ []) alone (sees_it q there in_o))
 
@@ -302,7 +296,7 @@ module _ (k core : Table) (i : Images) (rows : CoreRows k core i) (layered : Lay
   idle_may_leave =
       all_may_leave k core i rows layered tree core_children children o has c d related corr (i.thread_of r) 3 first same o_there
       (λ u u_there some in_o. monitors.monitor_leaves k core i rows layered tree deep alone core_children children counts written_at counters opening
-      start_rows written_low c d related r o x flag held o_there open_tests stands idle first raised values same u u_there some in_o
+      start_rows written_low strong_at c d related r o x flag held o_there open_tests stands idle first raised values same u u_there some in_o
       (standing_of c (holder k u)) (standing_of d (i.watcher_of u)) refl
       (related.watchers u u_there some))
       (λ q there in_o. by_stands q there in_o (standing_of c q) (standing_of d (i.thread_of q)) (related.regions q there) refl)

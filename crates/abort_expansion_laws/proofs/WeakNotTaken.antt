@@ -27,7 +27,7 @@ use Rattle.abort_expansion_laws.proofs.MoreValues.{verdict_over_more}
 use Rattle.abort_expansion_laws.specs.CoreRows.{own, IsState, IsSuper, joins, Images, CoreRows, flags_around}
 use Rattle.abort_expansion_laws.specs.Related.{monitor_last}
 use Rattle.abort_expansion_laws.specs.Related.{Closes, Each, AreAmong, is_behind, raises, raise_each, Stands, outside, ended, left, trying, acting, entering}
-use Rattle.abort_expansion_laws.specs.Related.{guarding, staying, within, behind, Watches, guards as watch_guards, waits, elsewhere, IsInside, guarded}
+use Rattle.abort_expansion_laws.specs.Related.{guarding, staying, within, behind, Watches, waits, IsInside, guarded}
 use Rattle.abort_expansion_laws.specs.Related.{open_inside, Related}
 use Rattle.abort_expansion_laws.proofs.Unchanged.{SameShape, stands_same, stands_other, never_guarded}
 use Rattle.abort_expansion_laws.proofs.StageReached.{Stage, some_work, has_work_same, holds_other}
@@ -103,7 +103,7 @@ pub record MonitorWaits (k core : Table) (i : Images) (o : ℕ) (t : Transition)
   pub is : y ≡ at.Trying (i.watching_of o) (raise_each (λ z. z.immediate) (i.flags_of o).weak ((number, t) ∷ others) ++ monitor_last k core i o)
 
 module _ (k core : Table) (i : Images) (o : ℕ) where
-  from_waiting : (some : List (ℕ × Transition)) (joins_behind : List Transition) → AreAmong (weak_aborts (own k o)) some →
+  pub from_waiting : (some : List (ℕ × Transition)) (joins_behind : List Transition) → AreAmong (weak_aborts (own k o)) some →
       Each (λ z. is_join z.kind ≡ true) joins_behind → (t : Transition) (tests : List Transition) →
       is_join t.kind ≡ false → map (λ (x : ℕ × Transition). x.1) some ++ joins_behind ≡ t ∷ tests →
       MonitorWaits k core i o t tests (at.Trying (i.watching_of o) (raise_each (λ z. z.immediate) (i.flags_of o).weak some ++ monitor_last k core i o))
@@ -124,13 +124,6 @@ module _ (k core : Table) (i : Images) (o : ℕ) where
         tests_are = rest;
         is = ap (λ z. at.Trying (i.watching_of o) (raise_each (λ w. w.immediate) (i.flags_of o).weak ((n, z) ∷ some) ++ monitor_last k core i o)) same;
       }
-
-  pub waits_back : (x y : Standing) → Watches k core i o x y → (t : Transition) (tests : List Transition) → is_join t.kind ≡ false → x ≡ at.Within
-      o (t ∷ tests) → MonitorWaits k core i o t tests y
-  waits_back _ _ (watch_guards some among) t tests weak e = absurd cc
-  waits_back _ _ (waits some joins_behind among ends) t tests weak e =
-      let same : map (λ (x : ℕ × Transition). x.1) some ++ joins_behind ≡ t ∷ tests = cc in from_waiting some joins_behind among ends t tests weak same
-  waits_back x _ (elsewhere z a b) t tests weak e = absurd (b (t ∷ tests) e)
 
   pub inside_within : (s : ℕ) (x : Standing) → IsInside k core i s x → (tests : List Transition) → x ≡ at.Within o tests → s ≡ o
   inside_within s _ (guarded others) tests e = absurd cc
@@ -181,17 +174,12 @@ weak_no_join kind.Join e = absurd cc
 module _ (k core : Table) (i : Images) (rows : CoreRows k core i) (tree : IsNested k) (counts : ℕ → Bool) (written_at : ℕ → ℕ)
     (c d : Configuration) (related : Related k core i c d) (r o : ℕ) (o_there : IsState k o) (has : has_aborts (own k o) ≡ true) (t : Transition)
     (weak : is_weak t.kind ≡ true) (tests : List Transition)
-    (stands : standing_of c r ≡ at.Within o (t ∷ tests)) where
+    (stands : standing_of c r ≡ at.Within o (t ∷ tests)) (monitor : MonitorWaits k core i o t tests (standing_of d (i.watcher_of o))) where
   there : IsThere k r
   there = present_there k core i c d related r (λ e. let wrong : at.Within o (t ∷ tests) ≡ at.Outside = sym stands ∙ e in absurd cc)
 
   region : IsWithin k core i c r o (standing_of d (i.thread_of r))
   region = within_back k core i c r o has (standing_of c r) (standing_of d (i.thread_of r)) (related.regions r there) (t ∷ tests) stands
-
-  pub monitor : MonitorWaits k core i o t tests (standing_of d (i.watcher_of o))
-  monitor =
-      waits_back k core i o (standing_of c (holder k o)) (standing_of d (i.watcher_of o)) (related.watchers o o_there has) t tests (weak_no_join t.kind weak)
-      (ap (standing_of c) region.held ∙ stands)
 
   flag : (x : ℕ) × ((i.flags_of o).weak ≡ Some x)
   flag = rows.weak_there o monitor.number t o_there monitor.first

@@ -107,6 +107,7 @@ module _ (k core : Table) (i : Images) (rows : CoreRows k core i) (layered : Lay
     (children : (s r : ℕ) → Contains (state_at k s).regions r → around k r ≡ s ∷ around k (holder k s))
     (counts : ℕ → Bool) (written_at : ℕ → ℕ) (counters : CounterRows k core i rows counts written_at) (opening : OpeningRows k core i rows)
     (start_rows : StartRows k core i rows) (written_low : (x : ℕ) → written_at x < 3)
+    (strong_at : (s x : ℕ) → (i.flags_of s).strong ≡ Some x → written_at x ≡ 0)
     (c d : Configuration) (related : Related k core i c d) (r o x : ℕ) (flag : (i.flags_of o).weak ≡ Some x) (held : holder k o ≡ r)
     (o_there : IsState k o) (open_tests : List Transition) (stands : standing_of c r ≡ at.Within o open_tests)
     (idle : (q : ℕ) → IsThere k q → Contains (around k q) o → has_work k c (standing_of c q) ≡ false)
@@ -267,20 +268,37 @@ module _ (k core : Table) (i : Images) (rows : CoreRows k core i) (layered : Lay
           (inside_present k core i s (standing_of c (holder k s)) opened_s) in
           let found = opened_inside s holder_is deeper (standing_of c (holder k s)) refl opened_s in
           fails_before (go true (Some (is_raised y)) [] (i.places_of q).left) rest low (Some (i.thread_of (holder k s), 3))
-          (inr (inr (record {
+          (inr (inr (inl (record {
             inner = i.thread_of (holder k s);
             is = refl;
             later = let up = deep (i.thread_of q) (i.main_of s) (in_fork q s in_s) in let its = rows.held s in omega (up, its, arith);
             lies_in = in_fork (holder k s) o deeper;
             forked = in_its_fork s s_there some holder_is found.0 found.1;
-          })))
+          }))))
           (subst (IsSilent corr (i.thread_of q) (Some (i.thread_of (holder k s), 3))) (sym (raised_access y))
           (silent_test corr (i.thread_of q) (Some (i.thread_of (holder k s), 3)) y (rows.strong_added s y strong)
           (inr (
             inr (counters.strong_not s y strong, subst (λ v. Contains (around core (i.thread_of q)) (i.main_of v)) (sym owner_is) (in_fork q s in_s)),
             (3, ap (λ (h : ℕ). Some (h, 3)) (sym (ap (λ v. holder core (i.main_of v)) owner_is ∙ rows.held s)), written_low y),
           )))) then_leaves
-      by_place (inr (inr outer)) = let wrong : true ≡ false = sym has ∙ layered.in_strong s o has_it outer in absurd cc
+      -- of one further out, at stage 1: there is work inside of it, since o has its turn
+      by_place (inr (inr outer)) =
+          fails_before (go true (Some (is_raised y)) [] (i.places_of q).left) rest low (Some (i.thread_of (holder k s), 1))
+          (inr (inr (inr (record {
+            superstate = i.main_of s;
+            around_home = subst (λ p. Contains (around core (i.thread_of p)) (i.main_of s)) held (in_fork (holder k o) s outer);
+            is = ap (λ (h : ℕ). Some (h, 1)) (sym (rows.held s));
+          }))))
+          (subst (IsSilent corr (i.thread_of q) (Some (i.thread_of (holder k s), 1))) (sym (raised_access y))
+          (silent_test corr (i.thread_of q) (Some (i.thread_of (holder k s), 1)) y (rows.strong_added s y strong)
+          (inr (
+            inr (counters.strong_not s y strong, subst (λ v. Contains (around core (i.thread_of q)) (i.main_of v)) (sym owner_is) (in_fork q s in_s)),
+            (
+              1,
+              ap (λ (h : ℕ). Some (h, 1)) (sym (ap (λ v. holder core (i.main_of v)) owner_is ∙ rows.held s)),
+              (let zero_is = strong_at s y strong in omega (zero_is, arith)),
+            ),
+          )))) then_leaves
 
   pub strong_fails : (q : ℕ) → IsThere k q → standing_of c q ≢ at.Outside → Contains (around k q) o → (rest : List Transition) → LeavesTests q rest →
       LeavesTests q (strong_checks true (i.places_of q).left (flags_around k core i q) ++ rest)

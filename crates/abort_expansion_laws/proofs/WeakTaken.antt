@@ -18,7 +18,7 @@ use Rattle.chart_machine.specs.Table.{state_at, region_at}
 use Rattle.chart_machine.specs.Turns.{standing_of, has_work, is_guarded, inside, inside_is_done}
 use Rattle.chart_machine.specs.Steps.{to, state_in, deed_of, verdict, access_of, access_of_trigger, step}
 use Rattle.chart_machine.specs.Machine.{machine}
-use Rattle.abort_expansion.specs.Transitions.{answers}
+use Rattle.abort_expansion.specs.Transitions.{answers, strong_checks}
 use Rattle.abort_expansion.specs.Superstates.{closing}
 use Rattle.abort_expansion_laws.specs.Stages.{Entry, Watched, Silent, Correspondence}
 use Rattle.abort_expansion_laws.proofs.Supplying.{silent_test}
@@ -29,19 +29,20 @@ use Rattle.abort_expansion_laws.specs.CoreRows.{own, IsState, Images, CoreRows, 
 use Rattle.abort_expansion_laws.specs.Related.{monitor_last}
 use Rattle.abort_expansion_laws.specs.Related.{raises, raise_each, IsInside, open_inside, Stores, Related}
 use Rattle.abort_expansion_laws.specs.StageReached.{some_work}
-use Rattle.abort_expansion_laws.proofs.StageReached.{Stage, stage_of, inside_in}
+use Rattle.abort_expansion_laws.proofs.StageReached.{Stage, stage_of, inside_in, holds_other}
+use Rattle.tick_laws.proofs.Lists.{map_contains}
 use Rattle.abort_expansion_laws.proofs.KnownVariables.{both_true, not_so, present_there}
 use Rattle.abort_expansion_laws.proofs.StartingRegions.{CounterRows}
 use Rattle.abort_expansion_laws.proofs.Resets.{Apart}
 use Rattle.abort_expansion_laws.proofs.OpensFork.{OpeningRows}
 use Rattle.abort_expansion_laws.proofs.TickStarts.{StartRows}
 use Rattle.abort_expansion_laws.proofs.LaterTicks.{weak_no_join}
-use Rattle.abort_expansion_laws.proofs.WeakNotTaken.{IsWithin, within_back, MonitorWaits, waits_back}
+use Rattle.abort_expansion_laws.proofs.WeakNotTaken.{IsWithin, within_back, MonitorWaits}
 use Rattle.abort_expansion_laws.proofs.InsideLeaves.{LayeredRows}
-use Rattle.abort_expansion_laws.proofs.OutsideAborts.{no_strong_checks}
+use Rattle.abort_expansion_laws.proofs.SplitTests.{continuation_tests}
 use Rattle.abort_expansion_laws.proofs.WeakLeaves.{idle_may_leave}
 use Rattle.abort_expansion_laws.proofs.Answering.{AllFail, none_answered, answers_first}
-use Rattle.abort_expansion_laws.proofs.AbortNext.{AbortNext}
+use Rattle.abort_expansion_laws.proofs.AbortNext.{AbortNext, IsDownAround}
 use Rattle.abort_expansion_laws.proofs.SuperstateLeft.{chart_takes}
 use Rattle.abort_expansion_laws.proofs.AbortFollowed.{with_effects, without_effects}
 use Rattle.abort_expansion_laws.proofs.EffectAhead.{BeginsAt}
@@ -66,9 +67,11 @@ module _ (k core : Table) (i : Images) (rows : CoreRows k core i) (more : Layere
     (children : (s r : ℕ) → Contains (state_at k s).regions r → around k r ≡ s ∷ around k (holder k s))
     (counts : ℕ → Bool) (written_at : ℕ → ℕ) (counters : CounterRows k core i rows counts written_at) (opening : OpeningRows k core i rows)
     (start_rows : StartRows k core i rows) (written_low : (x : ℕ) → written_at x < 3)
+    (strong_at : (s x : ℕ) → (i.flags_of s).strong ≡ Some x → written_at x ≡ 0)
     (weak_at : (s x : ℕ) → (i.flags_of s).weak ≡ Some x → written_at x ≡ 2) (alone : (v : ℕ) → (state_at core v).regions ≡ [] → inside core v ≡ [])
     (c d : Configuration) (related : Related k core i c d) (r o : ℕ) (o_there : IsState k o) (has : has_aborts (own k o) ≡ true) (t : Transition)
     (weak : is_weak t.kind ≡ true) (others : List Transition) (stands : standing_of c r ≡ at.Within o (t ∷ others))
+    (monitor : MonitorWaits k core i o t others (standing_of d (i.watcher_of o)))
     (true_there : verdict c.variables t.trigger ≡ Some true)
     (free : is_guarded k c (around k r) ≡ false) (done : inside_is_done k c (standing_of c r) ≡ true) where
   abbrev corr : Correspondence
@@ -79,11 +82,6 @@ module _ (k core : Table) (i : Images) (rows : CoreRows k core i) (more : Layere
 
   region : IsWithin k core i c r o (standing_of d (i.thread_of r))
   region = within_back k core i c r o has (standing_of c r) (standing_of d (i.thread_of r)) (related.regions r there) (t ∷ others) stands
-
-  monitor : MonitorWaits k core i o t others (standing_of d (i.watcher_of o))
-  monitor =
-      waits_back k core i o (standing_of c (holder k o)) (standing_of d (i.watcher_of o)) (related.watchers o o_there has) t others (weak_no_join t.kind weak)
-      (ap (standing_of c) region.held ∙ stands)
 
   pub flag : (x : ℕ) × ((i.flags_of o).weak ≡ Some x)
   flag = rows.weak_there o monitor.number t o_there monitor.first
@@ -119,15 +117,45 @@ module _ (k core : Table) (i : Images) (rows : CoreRows k core i) (more : Layere
   abbrev closing_ones : List Transition
   closing_ones = closing (flags_around k core i r) (i.flags_of o) (i.places_of r) (terminations (own k o))
 
+  abbrev checks_around : List Transition
+  checks_around = strong_checks true (i.places_of r).left (flags_around k core i r)
+
   continues : at_once (behind_transitions k core i r o) ≡
-      strong_answers ++ at_once (answers (i.places_of r) (Some flag.0) 1 (weak_aborts (own k o)) ++ closing_ones)
+      checks_around ++ (strong_answers ++ at_once (answers (i.places_of r) (Some flag.0) 1 (weak_aborts (own k o)) ++ closing_ones))
   continues =
-      ap (λ zs. at_once (((zs ++ strong_answers) ++ answers (i.places_of r) (i.flags_of o).weak 1 (weak_aborts (own k o))) ++ closing_ones))
-      (no_strong_checks k core i more tree r o has region.held true)
-      ∙ (ap (λ f. at_once ((strong_answers ++ answers (i.places_of r) f 1 (weak_aborts (own k o))) ++ closing_ones)) flag.1
-      ∙ (ap at_once (append_assoc strong_answers (answers (i.places_of r) (Some flag.0) 1 (weak_aborts (own k o))) closing_ones)
-      ∙ answers_first (i.places_of r) (i.flags_of o).strong (strong_aborts (own k o))
-      (answers (i.places_of r) (Some flag.0) 1 (weak_aborts (own k o)) ++ closing_ones) 1))
+      continuation_tests k core i r o
+      ∙ ap (λ zs. checks_around ++ zs)
+      (append_assoc strong_answers (answers (i.places_of r) (i.flags_of o).weak 1 (weak_aborts (own k o))) (at_once closing_ones)
+      ∙ (ap (λ zs. strong_answers ++ zs) (sym (answers_first (i.places_of r) (i.flags_of o).weak (weak_aborts (own k o)) closing_ones 1))
+      ∙ ap (λ f. strong_answers ++ at_once (answers (i.places_of r) f 1 (weak_aborts (own k o)) ++ closing_ones)) flag.1))
+
+  -- the strong flags around are down
+  around_down : (s y : ℕ) → Contains (around k r) s → (i.flags_of s).strong ≡ Some y → IsDownAround k core i rows tree counts written_at d r flag.0 s y
+  around_down s y around_it strong =
+      record {
+        added = rows.strong_added s y strong;
+        differs = λ e.
+            let same : s ≡ o = sym owner ∙ (ap rows.of_flag e ∙ (opening.flag_of o flag.0 (inr (inl flag.1))).0) in
+            holds_other k tree r o (subst (Contains (around k r)) same around_it) region.held;
+        low =
+            subst (λ f. Stores k core i d.variables f 0) strong
+            (related.flags s (start_rows.super_there r s around_it) (related.enclosed r s there present around_it)).strong;
+        home_is = ap (λ v. holder core (i.main_of v)) owner ∙ rows.held s;
+        reads = inr (
+          inr (
+            counters.strong_not s y strong,
+            subst (λ v. Contains (around core (i.thread_of r)) (i.main_of v)) (sym owner)
+                (subst (λ zs. Contains zs (i.main_of s)) (sym (rows.encloses r)) (map_contains i.main_of (around k r) s around_it)),
+          ),
+          (1, refl, (let zero_is = strong_at s y strong in omega (zero_is, arith))),
+        );
+      }
+    where
+      owner : rows.of_flag y ≡ s
+      owner = (opening.flag_of s y (inl strong)).0
+
+      present : standing_of c r ≢ at.Outside
+      present e = let wrong : at.Within o (t ∷ others) ≡ at.Outside = sym stands ∙ e in absurd cc
 
   home_of : (y : ℕ) → rows.of_flag y ≡ o → corr.home y ≡ i.thread_of r
   home_of y owner = ap (λ s. holder core (i.main_of s)) owner ∙ (rows.held o ∙ ap i.thread_of region.held)
@@ -192,9 +220,10 @@ module _ (k core : Table) (i : Images) (rows : CoreRows k core i) (more : Layere
         written = weak_at o flag.0 flag.1;
         flags_differ = others_differ;
         leaves = λ first raised values same over.
-            idle_may_leave k core i rows more tree deep alone core_children children counts written_at counters opening start_rows written_low c d related r o
-            flag.0
-            flag.1 region.held o_there (t ∷ others) stands idle first raised values same over;
+            idle_may_leave k core i rows more tree deep alone core_children children counts written_at counters opening start_rows written_low strong_at c d
+            related r o flag.0
+            flag.1 region.held o_there (t ∷ others) stands idle first raised values same free over;
+        around_down = around_down;
         earlier = answers (i.places_of r) (i.flags_of o).strong 1 (strong_aborts (own k o));
         aborts = weak_aborts (own k o);
         behind_them = closing_ones;

@@ -1,55 +1,70 @@
 -- A monitor is woken: all tests of its superstate are to be made anew.
-use Rattle.std.proofs.Common.{◌≡◌, ◌≢◌, ℕ, Bool, true, false, Option, Some, None, List, [], ◌∷◌, ◌++◌, map}
-use Rattle.std.proofs.Common.{Contains, refl, sym, ap, subst, ◌∙◌}
+use Rattle.std.proofs.Common.{◌≡◌, ◌≢◌, ℕ, ⊎_elim, Bool, true, false, ◌||◌, Option, Some, None, List, [], ◌∷◌, ◌++◌, map}
+use Rattle.std.proofs.Common.{refl, sym, ap, subst, ◌∙◌}
 use Rattle.std.proofs.lemmas.List.{append_assoc}
 use Rattle.core_charts.specs.declared.region.Transition.{Transition}
-use Rattle.core_charts.specs.Tests.{strong_aborts, weak_aborts, terminations, closing_tests, is_join}
+use Rattle.core_charts.specs.Tests.{strong_aborts, weak_aborts, terminations, closing_tests, is_strong, is_weak, is_join}
 use Rattle.chart_machine.specs.declared.standing.Standing.{Standing}
 use Rattle.chart_machine.specs.declared.standing.Standing.TheVariants as at
 use Rattle.chart_machine.specs.declared.table.Table.{Table}
 use Rattle.chart_machine.specs.Table.{state_at}
 use Rattle.chart_machine.specs.Machine.{woken, guarded_first}
-use Rattle.core_charts.specs.Aborts.{has_strong, has_aborts}
+use Rattle.core_charts.specs.Aborts.{has_strong, has_weak, has_aborts}
 use Rattle.abort_expansion.specs.Transitions.{strong_checks, weak_checks, raising}
 use Rattle.abort_expansion.specs.Superstates.{all_ended}
 use Rattle.chart_machine_laws.specs.Tree.{IsNested, around, holder}
 use Rattle.abort_expansion_laws.specs.CoreRows.{own, IsState, Images, CoreRows, flags_around}
 use Rattle.abort_expansion_laws.specs.Related.{monitor_last}
-use Rattle.abort_expansion_laws.specs.Related.{raise_each, Watches, guards, waits, elsewhere}
-use Rattle.abort_expansion_laws.proofs.InsideLeaves.{LayeredRows}
+use Rattle.abort_expansion_laws.specs.Related.{raise_each, AreAmong, Watches, guards, looks, elsewhere, LooksFirst, looks_never, looks_first}
+use Rattle.abort_expansion_laws.proofs.InsideLeaves.{LayeredRows, true_or_false}
+use Rattle.abort_expansion_laws.proofs.OutsideAborts.{plain_around}
 use Rattle.abort_expansion_laws.proofs.Owed.{WatchRests, watch_within, watch_elsewhere}
 use Rattle.abort_expansion_laws.proofs.WokenConfigurations.{numbered_from, numbered_are, all_among, raising_is, each_kept, guards_then, open_then}
-use Rattle.abort_expansion_laws.proofs.TickStarts.{StartRows, no_strong_checks}
+use Rattle.abort_expansion_laws.proofs.TickStarts.{StartRows, no_strong_checks, kept_none, some_kept}
 
--- lists of which the first is empty
-first_off : (a b c d e : List Transition) → a ≡ [] → a ++ b ++ c ++ d ++ e ≡ b ++ (c ++ (d ++ e))
-first_off a b c d e first = rw (first) (append_assoc (b ++ c) d e ∙ append_assoc b c (d ++ e))
+-- a list of five, the first in front of the others
+five : (a b c d e : List Transition) → a ++ b ++ c ++ d ++ e ≡ a ++ (b ++ (c ++ (d ++ e)))
+five a b c d e = append_assoc (a ++ b ++ c) d e ∙ (append_assoc (a ++ b) c (d ++ e) ∙ append_assoc a b (c ++ (d ++ e)))
+
+raised_none : (flag : Option ℕ) → raising (λ t. false) 1 flag 1 [] ≡ []
+raised_none None = refl
+raised_none (Some x) = refl
+
+second_of : (a b : Bool) → a ≡ false → (a || b) ≡ true → b ≡ true
+second_of true b e f = absurd cc
+second_of false b e f = f
 
 module _ (k core : Table) (i : Images) (rows : CoreRows k core i) (layered : LayeredRows k core i) (tree : IsNested k) (more_rows : StartRows k core i rows)
     (o : ℕ) (here : IsState k o) (has : has_aborts (own k o) ≡ true) where
-  -- nobody around it has strong aborts
-  plain_around : (s : ℕ) → Contains (around k (holder k o)) s → has_strong (own k s) ≡ false
-  plain_around s h = by_has (has_strong (own k s)) refl
-    where
-      by_has : (b : Bool) → has_strong (own k s) ≡ b → has_strong (own k s) ≡ false
-      by_has false e = e
-      by_has true e = let wrong : true ≡ false = sym has ∙ layered.in_strong s o e h in absurd cc
+  abbrev checks : List Transition
+  checks = strong_checks false 1 (flags_around k core i (holder k o))
 
-  pub transitions_are : (state_at core (i.watching_of o)).transitions ≡
+  abbrev behind_checks : List Transition
+  behind_checks =
       raising (λ t. false) 1 (i.flags_of o).strong 1 (strong_aborts (own k o))
       ++ (raising (λ t. t.immediate) 1 (i.flags_of o).weak 1 (weak_aborts (own k o)) ++ monitor_last k core i o)
+
+  -- it looks at the strong flags around before anything else
+  pub transitions_are : (state_at core (i.watching_of o)).transitions ≡ checks ++ behind_checks
   transitions_are =
       ap (λ z. z.transitions) (rows.watcher o here has).row ∙
-      first_off (strong_checks false 1 (flags_around k core i (holder k o))) (raising (λ t. false) 1 (i.flags_of o).strong 1 (strong_aborts (own k o)))
+      five checks (raising (λ t. false) 1 (i.flags_of o).strong 1 (strong_aborts (own k o)))
       (raising (λ t. t.immediate) 1 (i.flags_of o).weak 1 (weak_aborts (own k o))) (all_ended (i.flags_of o).counter)
       (weak_checks true 1 (flags_around k core i (holder k o)))
-      (no_strong_checks i.flags_of false 1 k tree (around k (holder k o)) (λ s h. layered.no_strong s (plain_around s h)))
 
-  raised_none : (flag : Option ℕ) → raising (λ t. false) 1 flag 1 [] ≡ []
-  raised_none None = refl
-  raised_none (Some x) = refl
+  -- where it has strong aborts itself there are no such flags
+  none_around : has_strong (own k o) ≡ true → checks ≡ []
+  none_around strong =
+      no_strong_checks i.flags_of false 1 k tree (around k (holder k o))
+      (λ s h. layered.no_strong s (plain_around k core i layered tree (holder k o) o strong refl s h))
 
-  -- all strong tests, where there are some; then all weak ones
+  has_first : (t : Transition) (strong : List Transition) → strong_aborts (own k o) ≡ t ∷ strong → has_strong (own k o) ≡ true
+  has_first t strong e =
+      ⊎_elim (λ some. some)
+      (λ none. let wrong : t ∷ strong ≡ [] = sym e ∙ kept_none (λ z. is_strong z.kind) (own k o) none in absurd cc)
+      (true_or_false (has_strong (own k o)))
+
+  -- all strong tests, where there are some; else the checks, and then all weak ones
   within_woken : (tests : List Transition) (strong : List Transition) → strong_aborts (own k o) ≡ strong →
       Watches k core i o (woken k (at.Within o tests)) (at.Trying (i.watching_of o) (state_at core (i.watching_of o)).transitions)
   within_woken tests (t ∷ strong) e =
@@ -59,26 +74,46 @@ module _ (k core : Table) (i : Images) (rows : CoreRows k core i) (layered : Lay
       let monitor : (state_at core (i.watching_of o)).transitions ≡ raise_each (λ t. false) (i.flags_of o).strong (numbered_from 0 all)
       ++ (raising (λ t. t.immediate) 1 (i.flags_of o).weak 1 (weak_aborts (own k o)) ++ monitor_last k core i o) =
       transitions_are ∙
+      (ap (λ zs. zs ++ behind_checks) (none_around (has_first t strong e)) ∙
       ap (λ zs. zs ++ (raising (λ t. t.immediate) 1 (i.flags_of o).weak 1 (weak_aborts (own k o)) ++ monitor_last k core i o))
-      (raising_is (λ t. false) (i.flags_of o).strong 0 all) in
+      (raising_is (λ t. false) (i.flags_of o).strong 0 all)) in
       subst (λ z. Watches k core i o z (at.Trying (i.watching_of o) (state_at core (i.watching_of o)).transitions)) (sym chart)
       (subst (λ zs. Watches k core i o (at.Guarding o (map (λ x. x.1) (numbered_from 0 all))) (at.Trying (i.watching_of o) zs)) (sym monitor)
       (guards (numbered_from 0 all) (all_among all)))
   within_woken tests [] e =
       let all : List Transition = weak_aborts (own k o) in
+      let first = some_kept (λ t. is_weak t.kind) (own k o)
+      (second_of (has_strong (own k o)) (has_weak (own k o)) (none_strong (has_strong (own k o)) refl) has) in
       let chart : woken k (at.Within o tests) ≡ at.Within o (map (λ x. x.1) (numbered_from 0 all) ++ terminations (own k o)) =
       open_then k o tests e ∙ ap (λ zs. at.Within o (zs ++ terminations (own k o))) (sym (numbered_are 0 all)) in
       let monitor : (state_at core (i.watching_of o)).transitions ≡
-      raise_each (λ t. t.immediate) (i.flags_of o).weak (numbered_from 0 all) ++ monitor_last k core i o =
+      checks ++ (raise_each (λ t. t.immediate) (i.flags_of o).weak (numbered_from 0 all) ++ monitor_last k core i o) =
       transitions_are ∙
+      ap (λ zs. checks ++ zs)
       (ap (λ zs. raising (λ t. false) 1 (i.flags_of o).strong 1 zs
       ++ (raising (λ t. t.immediate) 1 (i.flags_of o).weak 1 all ++ monitor_last k core i o)) e ∙
       (ap (λ zs. zs ++ (raising (λ t. t.immediate) 1 (i.flags_of o).weak 1 all ++ monitor_last k core i o)) (raised_none (i.flags_of o).strong) ∙
       ap (λ zs. zs ++ monitor_last k core i o) (raising_is (λ t. t.immediate) (i.flags_of o).weak 0 all))) in
       subst (λ z. Watches k core i o z (at.Trying (i.watching_of o) (state_at core (i.watching_of o)).transitions)) (sym chart)
       (subst (λ zs. Watches k core i o (at.Within o (map (λ x. x.1) (numbered_from 0 all) ++ terminations (own k o))) (at.Trying (i.watching_of o) zs))
-      (sym monitor)
-      (waits (numbered_from 0 all) (terminations (own k o)) (all_among all) (each_kept (λ t. is_join t.kind) (own k o))))
+      (sym monitor) (looks_at first.0 first.1.0 first.1.1))
+    where
+      none_strong : (b : Bool) → has_strong (own k o) ≡ b → has_strong (own k o) ≡ false
+      none_strong false f = f
+      none_strong true f =
+          let one = some_kept (λ t. is_strong t.kind) (own k o) f in let wrong : one.0 ∷ one.1.0 ≡ [] = sym one.1.1 ∙ e in absurd cc
+
+      -- the list of weak tests is not empty
+      looks_at : (t : Transition) (more : List Transition) → weak_aborts (own k o) ≡ t ∷ more →
+          Watches k core i o (at.Within o (map (λ x. x.1) (numbered_from 0 (weak_aborts (own k o))) ++ terminations (own k o)))
+          (at.Trying (i.watching_of o) (checks
+          ++ (raise_each (λ t. t.immediate) (i.flags_of o).weak (numbered_from 0 (weak_aborts (own k o))) ++ monitor_last k core i o)))
+      looks_at t more is =
+          subst (λ zs. Watches k core i o (at.Within o (map (λ x. x.1) (numbered_from 0 zs) ++ terminations (own k o)))
+          (at.Trying (i.watching_of o) (checks
+          ++ (raise_each (λ t. t.immediate) (i.flags_of o).weak (numbered_from 0 zs) ++ monitor_last k core i o)))) (sym is)
+          (looks (0, t) (numbered_from 1 more) (terminations (own k o))
+          (subst (λ zs. AreAmong zs (numbered_from 0 (t ∷ more))) (sym is) (all_among (t ∷ more))) (each_kept (λ t. is_join t.kind) (own k o)))
 
   first_guards : (s : ℕ) (strong closing tests : List Transition) → guarded_first s strong closing ≡ at.Guarding o tests → s ≡ o
   first_guards s [] closing tests e = absurd cc
@@ -115,3 +150,9 @@ module _ (k core : Table) (i : Images) (rows : CoreRows k core i) (layered : Lay
       Watches k core i o (woken k x) (woken core y)
   monitor_woken _ _ (watch_within tests) never = within_woken tests (strong_aborts (own k o)) refl
   monitor_woken _ _ (watch_elsewhere x other) never = elsewhere (woken k x) (not_guarding x other never) (not_within x other)
+
+  -- whatever it watches, it looks first
+  pub woken_looks : (x y : Standing) → WatchRests k core i o x y → LooksFirst k core i o (woken core y)
+  woken_looks _ _ (watch_within tests) =
+      subst (λ zs. LooksFirst k core i o (at.Trying (i.watching_of o) zs)) (sym transitions_are) (looks_first behind_checks)
+  woken_looks _ _ (watch_elsewhere x other) = looks_never

@@ -1,10 +1,10 @@
--- Layered charts: where a superstate with aborts lies inside another one with aborts, the outer one has weak aborts alone, and the inner
--- one strong aborts alone.
+-- Layered charts: no superstate with strong aborts lies inside another one with strong aborts, and none with weak aborts inside another one
+-- with weak aborts.
 use Rattle.std.specs.Prelude.{◌≡◌, ℕ, true, false, Contains}
 use Rattle.core_charts.specs.declared.features.Features.TheVariants as features
 use Rattle.core_charts.specs.Chart.{Chart}
 use Rattle.core_charts.specs.Rules.{IsChart}
-use Rattle.core_charts.specs.Aborts.{has_strong, has_weak, has_aborts}
+use Rattle.core_charts.specs.Aborts.{has_strong, has_weak}
 use Rattle.chart_machine.specs.Table.{table}
 use Rattle.chart_machine_laws.specs.Tree.{around, holder}
 use Rattle.abort_expansion_laws.specs.CoreRows.{own}
@@ -15,8 +15,8 @@ abbrev pub LiesInside : Chart → (s o : ℕ) → Type 0
 LiesInside c s o = Contains (around (table c) (holder (table c) s)) o
 
 pub record IsLayered (c : Chart) : Type 0 where
-  pub in_strong : (o s : ℕ) → LiesInside c s o → has_strong (own (table c) o) ≡ true → has_aborts (own (table c) s) ≡ false
-  pub in_any : (o s : ℕ) → LiesInside c s o → has_aborts (own (table c) o) ≡ true → has_weak (own (table c) s) ≡ false
+  pub strong_apart : (o s : ℕ) → LiesInside c s o → has_strong (own (table c) o) ≡ true → has_strong (own (table c) s) ≡ false
+  pub weak_apart : (o s : ℕ) → LiesInside c s o → has_weak (own (table c) o) ≡ true → has_weak (own (table c) s) ≡ false
 
 -- flat charts, in which no superstate with aborts lies inside another one with such, are layered
 abbrev pub FlatChartsAreLayered : Type 0

@@ -1,5 +1,6 @@
 -- A configuration of a layered chart within a tick, and that of its core chart which stands for it. The core's is given by the
--- chart's: its weak checks and the count test of a monitor are always held back to the end of the tick, or to an abort.
+-- chart's, but for monitors that have yet to look at the strong flags around: weak checks and the count test of a monitor are always held
+-- back to the end of the tick, or to an abort.
 use Rattle.std.specs.Prelude.{◌≡◌, ◌≢◌, ℕ, suc, ◌+◌, ◌<◌, Bool, true, false, not, ◌&&◌, pos, Option, Some, None, List, [], ◌∷◌, ◌++◌, map, length, slice_get}
 use Rattle.std.specs.Prelude.{Contains, if◌then◌else◌}
 use Rattle.std.specs.List.{list_all}
@@ -112,8 +113,20 @@ module _ (k core : Table) (i : Images) where
     waits : (some : List (ℕ × Transition)) (joins : List Transition) → AreAmong (weak_aborts (own k o)) some → Each (λ t. is_join t.kind ≡ true) joins →
         Watches o (at.Within o (map (λ x. x.1) some ++ joins))
         (at.Trying (i.watching_of o) (raise_each (λ t. t.immediate) (i.flags_of o).weak some ++ monitor_last o))
+    -- it has yet to look at the strong flags around, before its first weak test
+    looks : (first : ℕ × Transition) (some : List (ℕ × Transition)) (joins : List Transition) → AreAmong (weak_aborts (own k o)) (first ∷ some) →
+        Each (λ t. is_join t.kind ≡ true) joins →
+        Watches o (at.Within o (map (λ x. x.1) (first ∷ some) ++ joins))
+        (at.Trying (i.watching_of o) (strong_checks false 1 (flags_here (holder k o))
+        ++ (raise_each (λ t. t.immediate) (i.flags_of o).weak (first ∷ some) ++ monitor_last o)))
     elsewhere : (x : Standing) → ((tests : List Transition) → x ≢ at.Guarding o tests) → ((tests : List Transition) → x ≢ at.Within o tests) →
         Watches o x at.Outside
+
+  -- the monitor of superstate o looks at the strong flags around before anything else, or is not there
+  pub data LooksFirst (o : ℕ) : Standing → Type 0 where
+    looks_never : LooksFirst o at.Outside
+    looks_first : (rest : List Transition) →
+        LooksFirst o (at.Trying (i.watching_of o) (strong_checks false 1 (flags_here (holder k o)) ++ rest))
 
   -- ---- flags
 
@@ -165,3 +178,5 @@ module _ (k core : Table) (i : Images) where
     pub opened : (s r : ℕ) → IsState k s → IsInside s (standing_of c (holder k s)) → Contains (state_at k s).regions r → standing_of c r ≢ at.Outside
     pub closes_last : (s : ℕ) (tests : List Transition) → standing_of c (holder k s) ≡ at.Within s tests → Closes s tests
     pub calm : (q s : ℕ) → IsThere k q → Contains (around k q) s → has_to_guard (standing_of c (holder k s)) ≡ true → IsCalm (standing_of c q)
+    pub unseen : (o s : ℕ) → IsState k o → has_aborts (own k o) ≡ true → Contains (around k (holder k o)) s →
+        has_to_guard (standing_of c (holder k s)) ≡ true → LooksFirst o (standing_of d (i.watcher_of o))

@@ -37,8 +37,8 @@ pub fn preemption_is_kept()
     ensures { PreemptionIsKept }
 {}
 
-/// Flat charts are layered: where no superstate with aborts lies inside another one with such, none does so with the
-/// wrong ones. This function does nothing; its contract is the law.
+/// Flat charts are layered: where no superstate with aborts lies inside another one with such, none does so with those
+/// of its kind. This function does nothing; its contract is the law.
 pub fn flat_charts_are_layered()
     ensures { FlatChartsAreLayered }
 {}

@@ -112,6 +112,16 @@ impl Rows {
         self.len += 1;
     }
 
+    /// Whether an item stands in the row of a class.
+    pub fn is_in(&self, item: u16, class: u16) -> bool
+        ensures { IsTrue result ↔ IsIn self.now.classes item class }
+    {
+        match self.classes.get(item as usize) {
+            Some(Some(own)) => *own == class,
+            _ => false,
+        }
+    }
+
     /// Whether no item stands in a row.
     pub fn is_empty(&self) -> bool
         ensures { IsTrue result ↔ AreEmpty self.now }

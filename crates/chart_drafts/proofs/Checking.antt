@@ -7,7 +7,7 @@ use Rattle.drafts.specs.declared.flaw.Flaw.{Flaw}
 use Rattle.drafts.specs.declared.parts.Declaration.{Declaration}
 use Rattle.drafts.specs.Flaws.{variable_names, variable_flaws}
 use Rattle.drafts.specs.Told.{told_behind, told_of}
-use Rattle.drafts.specs.Inside.{first_behind}
+use Rattle.drafts.specs.First.{first_behind}
 use Rattle.drafts.proofs.Firsts.{first_found, none_found}
 use Rattle.drafts.proofs.ToldInOrder.{told_both, told_found}
 use Rattle.chart_drafts.specs.declared.draft.DraftRegion.{DraftRegion}

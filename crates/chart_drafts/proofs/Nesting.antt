@@ -15,6 +15,7 @@ use Rattle.sc_text.proofs.Steps.{one_taken, stops_as}
 use Rattle.sc_text.proofs.Nesting.{deep_at}
 use Rattle.drafts.specs.declared.parts.Named.{Named}
 use Rattle.drafts.specs.declared.parts.Declaration.{Declaration}
+use Rattle.core_charts.specs.Rules.{inner_depth_limit}
 use Rattle.chart_drafts.specs.declared.draft.DraftTransition.{DraftTransition}
 use Rattle.chart_drafts.specs.declared.draft.DraftRegion.{DraftRegion}
 use Rattle.chart_drafts.specs.declared.draft.DraftState.{DraftState}
@@ -208,7 +209,7 @@ module _ (text : List Token) where
 -- ---- whole charts
 
 abbrev parts : Grows (List Declaration × List DraftRegion)
-parts = seq (many declaration) (regions_of 31)
+parts = seq (many declaration) (regions_of inner_depth_limit)
 
 abbrev chart_title : Grows Named
 chart_title = after (the_word word.Chart) name

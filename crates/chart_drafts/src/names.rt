@@ -2,7 +2,7 @@
 
 ghost use Rattle.std.specs.Prelude.{◌≡◌, IfOk};
 ghost use Rattle.drafts.specs.Flaws.{is_among, is_repeated};
-ghost use Rattle.drafts.specs.Inside.{IsIndex};
+ghost use Rattle.drafts.specs.Index.{IsIndex};
 
 use drafts::Index;
 use sc_values::Name;

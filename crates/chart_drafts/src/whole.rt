@@ -5,6 +5,7 @@ ghost use Rattle.grammar.specs.Grammar.{seq, many};
 ghost use Rattle.grammar.specs.Read.{read, read_all};
 ghost use Rattle.sc_text.specs.Expression.{expression};
 ghost use Rattle.sc_text.specs.Reading.{Stops};
+ghost use Rattle.core_charts.specs.Rules.{inner_depth_limit};
 ghost use Rattle.chart_drafts.specs.ChartText.{listed, declaration, region, braced, within, chart_text};
 ghost use Rattle.chart_drafts.specs.Reading.{IsDraft, IsDraftFault};
 ghost use Rattle.chart_drafts.specs.Phrase.{Gives};
@@ -73,11 +74,13 @@ fn braced_parts(
     end: usize,
 ) -> Result<(Items<Declaration>, Items<DraftRegion>), ReadFault>
     ensures { MatchResult result
-        (λ x. Gives (read (braced (seq (many declaration) (listed (region (expression 0) (within (expression 0) 31))
-        (region (expression 0) (within (expression 0) 31))))) ahead.old.tokens.now) x ahead.new.tokens.now)
+        (λ x. Gives (read (braced (seq (many declaration)
+        (listed (region (expression 0) (within (expression 0) inner_depth_limit))
+        (region (expression 0) (within (expression 0) inner_depth_limit)))))
+        ahead.old.tokens.now) x ahead.new.tokens.now)
         (λ fault. Stops end (read (braced (seq (many declaration)
-        (listed (region (expression 0) (within (expression 0) 31))
-        (region (expression 0) (within (expression 0) 31))))) ahead.old.tokens.now) fault) }
+        (listed (region (expression 0) (within (expression 0) inner_depth_limit))
+        (region (expression 0) (within (expression 0) inner_depth_limit))))) ahead.old.tokens.now) fault) }
 {
     skip_sign(ahead, end, Sign::OpenBrace)?;
     let (variables, regions) = parts(alloc, ahead, end)?;
@@ -92,10 +95,13 @@ fn parts(
     end: usize,
 ) -> Result<(Items<Declaration>, Items<DraftRegion>), ReadFault>
     ensures { MatchResult result
-        (λ x. Gives (read (seq (many declaration) (listed (region (expression 0) (within (expression 0) 31))
-        (region (expression 0) (within (expression 0) 31)))) ahead.old.tokens.now) x ahead.new.tokens.now)
-        (λ fault. Stops end (read (seq (many declaration) (listed (region (expression 0) (within (expression 0) 31))
-        (region (expression 0) (within (expression 0) 31)))) ahead.old.tokens.now) fault) }
+        (λ x. Gives (read (seq (many declaration)
+        (listed (region (expression 0) (within (expression 0) inner_depth_limit))
+        (region (expression 0) (within (expression 0) inner_depth_limit))))
+        ahead.old.tokens.now) x ahead.new.tokens.now)
+        (λ fault. Stops end (read (seq (many declaration)
+        (listed (region (expression 0) (within (expression 0) inner_depth_limit))
+        (region (expression 0) (within (expression 0) inner_depth_limit)))) ahead.old.tokens.now) fault) }
 {
     let variables = declarations(alloc, ahead, end)?;
     let regions = regions(alloc, INNER_LEVELS, ahead, end)?;

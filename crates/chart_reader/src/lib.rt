@@ -12,4 +12,5 @@ mod transitions;
 pub use chart::chart_of;
 pub use laws::chart_texts_have_one_answer;
 pub use read::read_chart;
+pub use states::StateScope;
 pub use transitions::{effects, trigger};

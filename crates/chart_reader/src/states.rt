@@ -2,7 +2,7 @@
 
 ghost use Rattle.std.specs.Prelude.{◌≡◌, ◌≤◌, IfOk, length};
 ghost use Rattle.core_charts.specs.Rules.{state_text_limit};
-ghost use Rattle.drafts.specs.Inside.{IsIndex};
+ghost use Rattle.drafts.specs.Index.{IsIndex};
 ghost use Rattle.drafts.specs.Resolved.{number_of};
 ghost use Rattle.chart_drafts.specs.Flaws.{state_names};
 
@@ -13,8 +13,8 @@ use std::alloc::{AllocError, Global};
 
 /// What the transitions of a region lead to: its states, and a table of their places by name.
 #[derive(Drop)]
-pub(crate) struct StateScope<'a> {
-    pub(crate) states: &'a [DraftState],
+pub struct StateScope<'a> {
+    pub states: &'a [DraftState],
     index: Index,
     ghost same: { IsIndex (state_names states.now) index },
     ghost few: { length states.now ≤ state_text_limit },
@@ -22,7 +22,7 @@ pub(crate) struct StateScope<'a> {
 
 impl<'a> StateScope<'a> {
     /// The scope of these states. Err: memory was refused.
-    pub(crate) fn of(alloc: Global, states: &'a [DraftState]) -> Result<StateScope<'a>, AllocError>
+    pub fn of(alloc: Global, states: &'a [DraftState]) -> Result<StateScope<'a>, AllocError>
         requires { length states.now ≤ state_text_limit }
         ensures { IfOk result (λ scope. scope.states.now ≡ states.now) }
     {
@@ -33,7 +33,7 @@ impl<'a> StateScope<'a> {
 
     /// The number of the state of this name, or 0 where there is none.
     #[tactic(auto, using(crate::proofs::Numbers::number_fits))]
-    pub(crate) fn number(&self, name: Name) -> u32
+    pub fn number(&self, name: Name) -> u32
         ensures { result ≡ number_of (state_names self.now.states.now) name }
     {
         match self.index.place(name) {

@@ -1,7 +1,7 @@
-//! What is told of a text: the places of its elements, the text laid out, and that of its core chart.
+//! What is told of a text: the places of its elements, the text laid out, and its core chart.
 
 use crate::reducing::{is_extended, tell_extended};
-use abort_expansion::ExpandFault;
+use abort_expansion::{ExpandFault, StateMap, expand};
 use chart_places::{Placed, Places, read_placed};
 use chart_printer::chart_text;
 use core_charts::Chart;
@@ -25,6 +25,25 @@ fn tell_all_places(answers: &mut Answers, places: &Places) {
     tell_places(answers, "states", rows.states.as_slice());
     tell_places(answers, "transitions", rows.transitions.as_slice());
     tell_places(answers, "effects", rows.effects.as_slice());
+}
+
+// For which state of the chart each of its core chart stands, behind a space: its number, or `-`.
+fn tell_map(answers: &mut Answers, map: &StateMap) {
+    answers.tell("stand");
+    for state in map.states.as_slice() {
+        match state {
+            Some(number) => answers.tell_with(" ", *number as usize),
+            None => answers.tell(" -"),
+        }
+    }
+    answers.tell("\n");
+}
+
+// A line of the states for which those of the core chart stand. Err: there is none, or memory was refused.
+fn tell_states(alloc: Global, answers: &mut Answers, chart: &Chart) -> Result<(), ExpandFault> {
+    let (_core, map) = expand(alloc, chart)?;
+    tell_map(answers, &map);
+    Ok(())
 }
 
 // The text of the core chart, or a line that there is none.
@@ -52,7 +71,10 @@ fn tell_laid_out(alloc: Global, answers: &mut Answers, chart: &Chart) -> Result<
 fn tell_placed(alloc: Global, answers: &mut Answers, placed: &Placed) -> Result<(), AllocError> {
     tell_all_places(answers, &placed.places);
     tell_laid_out(alloc, answers, &placed.chart)?;
-    tell_core(alloc, answers, &placed.chart)
+    match tell_states(alloc, answers, &placed.chart) {
+        Err(ExpandFault::Memory) => Err(AllocError),
+        Ok(()) | Err(ExpandFault::Limit) => tell_core(alloc, answers, &placed.chart),
+    }
 }
 
 // What is told of one text.

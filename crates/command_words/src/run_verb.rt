@@ -1,6 +1,6 @@
 //! The verb `run`, as the library of command lines knows it.
 
-use crate::verbs::image_name;
+use crate::verbs::{image_name, over_one, with};
 use clap::{Arg, ArgAction, Command};
 use std::alloc::{AllocError, Global};
 
@@ -30,29 +30,39 @@ Examples:
   sct run boxes.image --save boxes.place < morning.ticks
   sct run boxes.image --from boxes.place < afternoon.ticks"#;
 
-/// The command that plays.
-pub(crate) fn run_command<'a>(alloc: Global) -> Result<Command<'a>, AllocError> {
-    let workers = Arg::new(alloc, "workers")
+// How many threads serve.
+fn workers_option<'a>(alloc: Global) -> Arg<'a> {
+    Arg::new(alloc, "workers")
         .long("workers")
         .value_name("N")
         .help("How many threads serve, from 1 to 8: the trace is the same for each")
         .value_parser(WORKERS)
         .hide_possible_values(true)
-        .default_value("2");
-    let chart = Arg::new(alloc, "chart")
+        .default_value("2")
+}
+
+// The chart whose active states are told.
+fn states_option<'a>(alloc: Global) -> Result<Arg<'a>, AllocError> {
+    Arg::new(alloc, "chart")
         .long("chart")
         .value_name("FILE")
         .help(
             "The chart that it was compiled from: each line tells the active states too, and one thread serves",
         )
         .action(ArgAction::Set)
-        .conflicts_with("workers")?;
-    let command = Command::new(alloc, "run")
-        .about("Plays standard input to standard output, a tick for each line")
-        .after_help(RUN_HELP)
-        .arg(image_name(alloc))?
-        .arg(workers)?
-        .arg(chart)?;
+        .conflicts_with("workers")
+}
+
+/// The command that plays.
+pub(crate) fn run_command<'a>(alloc: Global) -> Result<Command<'a>, AllocError> {
+    let command = over_one(
+        alloc,
+        "run",
+        "Plays standard input to standard output, a tick for each line",
+        RUN_HELP,
+        image_name(alloc),
+    )?;
+    let command = with(command.arg(workers_option(alloc)), states_option(alloc))?;
     with_rules(alloc, command)
 }
 
@@ -79,25 +89,12 @@ fn rule_file<'a>(alloc: Global, name: &'a str, about: &'a str) -> Result<Arg<'a>
 
 // With the rules of a run.
 fn with_rules<'a>(alloc: Global, command: Command<'a>) -> Result<Command<'a>, AllocError> {
-    let strict = rule_flag(
-        alloc,
-        "strict",
-        "Each line has to name every input; one thread serves",
-    )?;
-    let skips = rule_flag(
-        alloc,
-        "skip-bad-lines",
-        "A line that gives no inputs is answered and passed over; one thread serves",
-    )?;
-    let from = rule_file(
-        alloc,
-        "from",
-        "Begin at the place that is in this file; one thread serves",
-    )?;
-    let save = rule_file(
-        alloc,
-        "save",
-        "Write the place where it ends to this file; one thread serves",
-    )?;
-    command.arg(strict)?.arg(skips)?.arg(from)?.arg(save)
+    let strict = "Each line has to name every input; one thread serves";
+    let command = with(Ok(command), rule_flag(alloc, "strict", strict))?;
+    let skips = "A line that gives no inputs is answered and passed over; one thread serves";
+    let command = with(Ok(command), rule_flag(alloc, "skip-bad-lines", skips))?;
+    let from = "Begin at the place that is in this file; one thread serves";
+    let command = with(Ok(command), rule_file(alloc, "from", from))?;
+    let save = "Write the place where it ends to this file; one thread serves";
+    with(Ok(command), rule_file(alloc, "save", save))
 }

@@ -107,8 +107,8 @@ pub(crate) fn image_name<'a>(alloc: Global) -> Arg<'a> {
     file_name(alloc, "image", "IMAGE", "The file of the image")
 }
 
-// A command over one file.
-fn over_one<'a>(
+/// A command over one file.
+pub(crate) fn over_one<'a>(
     alloc: Global,
     verb: &'a str,
     about: &'a str,
@@ -119,6 +119,14 @@ fn over_one<'a>(
         .about(about)
         .after_help(example)
         .arg(operand)
+}
+
+/// The command with one more thing that can be asked of it. No other value is held where one of both was refused.
+pub(crate) fn with<'a>(
+    command: Result<Command<'a>, AllocError>,
+    option: Result<Arg<'a>, AllocError>,
+) -> Result<Command<'a>, AllocError> {
+    command?.arg(option?)
 }
 
 // The command that verifies.
@@ -132,33 +140,47 @@ fn check_command<'a>(alloc: Global) -> Result<Command<'a>, AllocError> {
     )
 }
 
-// The command that shows an image to people.
-fn list_command<'a>(alloc: Global) -> Result<Command<'a>, AllocError> {
-    let source = Arg::new(alloc, "source")
+// The text whose places are listed.
+fn places_option<'a>(alloc: Global) -> Arg<'a> {
+    Arg::new(alloc, "source")
         .long("source")
         .value_name("FILE")
         .help(
             "The chart or SCL text that it was compiled from: each node is listed with its place there",
         )
-        .action(ArgAction::Set);
-    let json = Arg::new(alloc, "json")
+        .action(ArgAction::Set)
+}
+
+// Whether programs read what is listed.
+fn json_option<'a>(alloc: Global) -> Result<Arg<'a>, AllocError> {
+    Arg::new(alloc, "json")
         .long("json")
         .help("Print a line of JSON for programs: variables, counts and the budget")
         .action(ArgAction::SetTrue)
-        .conflicts_with("source")?;
-    let chart = Arg::new(alloc, "chart")
+        .conflicts_with("source")
+}
+
+// The chart whose states are listed.
+fn states_option<'a>(alloc: Global) -> Result<Arg<'a>, AllocError> {
+    Arg::new(alloc, "chart")
         .long("chart")
         .value_name("FILE")
         .help("With --json: the chart that it was compiled from, whose states are told too")
         .action(ArgAction::Set)
-        .requires_arg("json")?;
-    Command::new(alloc, "list")
-        .about("Prints an image for people: variables, threads, nodes and protocol edges")
-        .after_help(LIST_EXAMPLES)
-        .arg(image_name(alloc))?
-        .arg(source)?
-        .arg(json)?
-        .arg(chart)
+        .requires_arg("json")
+}
+
+// The command that shows an image to people.
+fn list_command<'a>(alloc: Global) -> Result<Command<'a>, AllocError> {
+    let command = over_one(
+        alloc,
+        "list",
+        "Prints an image for people: variables, threads, nodes and protocol edges",
+        LIST_EXAMPLES,
+        image_name(alloc),
+    )?;
+    let command = with(command.arg(places_option(alloc)), json_option(alloc));
+    with(command, states_option(alloc))
 }
 
 // The command that prints a text.
@@ -226,25 +248,36 @@ fn dot_command<'a>(alloc: Global) -> Result<Command<'a>, AllocError> {
     )
 }
 
-// The command that tests.
-fn test_command<'a>(alloc: Global) -> Result<Command<'a>, AllocError> {
-    let files = Arg::new(alloc, "file")
+// What is tested.
+fn tested_files<'a>(alloc: Global) -> Arg<'a> {
+    Arg::new(alloc, "file")
         .value_name("FILE")
         .help(
             "Charts or SCL texts, or folders of them: beside NAME.chart, NAME.ticks has the input and NAME.trace what it has to give",
         )
         .required(true)
         .action(ArgAction::Append)
-        .num_args(1..);
-    let write = Arg::new(alloc, "write")
+        .num_args(1..)
+}
+
+// Whether traces that are missing are written.
+fn write_option<'a>(alloc: Global) -> Arg<'a> {
+    Arg::new(alloc, "write")
         .long("write")
         .help("Before the files: write each trace that is missing, as what the ticks give now")
-        .action(ArgAction::SetTrue);
-    Command::new(alloc, "test")
-        .about("Plays controllers over their ticks, and compares what they give with their traces")
-        .after_help(TEST_HELP)
-        .arg(files)?
-        .arg(write)
+        .action(ArgAction::SetTrue)
+}
+
+// The command that tests.
+fn test_command<'a>(alloc: Global) -> Result<Command<'a>, AllocError> {
+    over_one(
+        alloc,
+        "test",
+        "Plays controllers over their ticks, and compares what they give with their traces",
+        TEST_HELP,
+        tested_files(alloc),
+    )?
+    .arg(write_option(alloc))
 }
 
 // The command that steps.
@@ -266,29 +299,32 @@ fn migrate_command<'a>(alloc: Global) -> Result<Command<'a>, AllocError> {
         "OLD",
         "The file of the image, in either version",
     );
-    let new = file_name(alloc, "new", "NEW", WRITTEN);
-    Command::new(alloc, "migrate")
-        .about("Writes an image in version 2 of the layout")
-        .after_help("Example:\n  sct migrate examples/v1/two_threads.image two_threads.image")
-        .arg(old)?
-        .arg(new)
+    let example = "Example:\n  sct migrate examples/v1/two_threads.image two_threads.image";
+    let about = "Writes an image in version 2 of the layout";
+    over_one(alloc, "migrate", about, example, old)?.arg(file_name(alloc, "new", "NEW", WRITTEN))
 }
 
-// The command that takes a text to an image.
-fn compile_command<'a>(alloc: Global) -> Result<Command<'a>, AllocError> {
-    let image = file_name(alloc, "image", "IMAGE", WRITTEN);
-    let warn = Arg::new(alloc, "warn")
+// Whether what a chart most likely does not mean is told.
+fn warn_option<'a>(alloc: Global) -> Arg<'a> {
+    Arg::new(alloc, "warn")
         .long("warn")
         .help(
             "Tell on standard error what a chart says and most likely does not mean, as `sct explain` does",
         )
-        .action(ArgAction::SetTrue);
-    Command::new(alloc, "compile")
-        .about("Compiles a chart or an SCL text to an image")
-        .after_help(COMPILE_EXAMPLES)
-        .arg(source_name(alloc))?
-        .arg(image)?
-        .arg(warn)
+        .action(ArgAction::SetTrue)
+}
+
+// The command that takes a text to an image.
+fn compile_command<'a>(alloc: Global) -> Result<Command<'a>, AllocError> {
+    over_one(
+        alloc,
+        "compile",
+        "Compiles a chart or an SCL text to an image",
+        COMPILE_EXAMPLES,
+        source_name(alloc),
+    )?
+    .arg(file_name(alloc, "image", "IMAGE", WRITTEN))?
+    .arg(warn_option(alloc))
 }
 
 // What can be asked of each verb but one: words behind a fault.
@@ -340,11 +376,19 @@ fn whole<'a>(alloc: Global, verb: Verb) -> Result<Command<'a>, AllocError> {
     }
 }
 
+// The program with one more verb.
+fn with_verb<'a>(
+    command: Command<'a>,
+    verb: Result<Command<'a>, AllocError>,
+) -> Result<Command<'a>, AllocError> {
+    command.subcommand(verb?)
+}
+
 /// The program with all its verbs. Err: memory was refused.
 pub(crate) fn sct_command<'a>(alloc: Global) -> Result<Command<'a>, AllocError> {
     let mut command = program(alloc)?;
     for verb in VERBS {
-        command = command.subcommand(whole(alloc, verb)?)?;
+        command = with_verb(command, whole(alloc, verb))?;
     }
     Ok(command)
 }

@@ -1,6 +1,7 @@
 -- The text of a configuration: a JSON object of the number of the tick that ended in it, of the values of the variables, and
 -- of where the threads stand.
-use Rattle.std.specs.Prelude.{ℕ, ◌≡◌, ℤ, pos, negsuc, true, false, if◌then◌else◌, nat_lt, codes, Option, Some, None, option_map, List, [], ◌∷◌, IsUtf8}
+use Rattle.std.specs.Prelude.{ℕ, ◌≡◌, ◌^◌, ℤ, pos, negsuc, true, false, if◌then◌else◌, nat_lt, codes, Option, Some, None, option_map, List, []}
+use Rattle.std.specs.Prelude.{◌∷◌, IsUtf8}
 use Rattle.std.specs.Option.{option_and_then}
 use Rattle.serde_json.specs.Data.{Data, null, boolean, number, string, array, object, Items, no_items, item}
 use Rattle.serde_json.specs.Find.{as_array, as_i64, as_number, as_u64, get}
@@ -28,7 +29,7 @@ value_in (object ms) = None
 
 -- a node has a number of 16 bits
 abbrev pub node_of : ℕ → Option ℕ
-node_of n = if nat_lt n 65536 then Some n else None
+node_of n = if nat_lt n (2 ^ 16) then Some n else None
 
 abbrev pub node_in : Data → Option ℕ
 node_in d = option_and_then node_of (option_and_then as_u64 (as_number d))

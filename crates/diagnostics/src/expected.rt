@@ -1,8 +1,8 @@
 //! What could stand where a text goes wrong, in words.
 
+use crate::could::Could;
 use sc_text::{Sign, Word};
 use std::alloc::{AllocError, Global};
-use text_continuations::Continuations;
 
 // A thing that could stand there: a word or a sign of the language, or what a kind of them is called.
 #[derive(Clone, Copy)]
@@ -11,50 +11,20 @@ enum Thing {
     Called(&'static str),
 }
 
-/// Whether an expression could begin there.
-pub(crate) fn begins_expression(could: &Continuations) -> bool {
-    could.name && could.number && has_sign(could, Sign::OpenParenthesis)
-}
-
-/// Whether an expression could go on there.
-pub(crate) fn goes_on_expression(could: &Continuations) -> bool {
-    has_sign(could, Sign::Plus) && has_sign(could, Sign::Star)
-}
-
-/// Whether this sign could stand there.
-pub(crate) fn has_sign(could: &Continuations, sign: Sign) -> bool {
-    for other in could.signs.as_slice() {
-        if *other == sign {
-            return true;
-        }
-    }
-    false
-}
-
-/// Whether this word could stand there.
-pub(crate) fn has_word(could: &Continuations, word: Word) -> bool {
-    for other in could.words.as_slice() {
-        if *other == word {
-            return true;
-        }
-    }
-    false
-}
-
 // Whether a word is told by what it is part of.
-fn is_told_of_word(could: &Continuations, word: Word) -> bool {
+fn is_told_of_word(could: &Could, word: Word) -> bool {
     match word {
-        Word::True | Word::False | Word::Not | Word::Min | Word::Max => begins_expression(could),
-        Word::And | Word::Or => goes_on_expression(could),
+        Word::True | Word::False | Word::Not | Word::Min | Word::Max => could.begins_expression(),
+        Word::And | Word::Or => could.goes_on_expression(),
         _ => false,
     }
 }
 
 // Whether a sign is told by what it is part of.
-fn is_told_of_sign(could: &Continuations, sign: Sign) -> bool {
+fn is_told_of_sign(could: &Could, sign: Sign) -> bool {
     match sign {
-        Sign::OpenParenthesis => begins_expression(could),
-        Sign::Minus => begins_expression(could) || goes_on_expression(could),
+        Sign::OpenParenthesis => could.begins_expression(),
+        Sign::Minus => could.begins_expression() || could.goes_on_expression(),
         Sign::Plus
         | Sign::Star
         | Sign::Slash
@@ -64,45 +34,63 @@ fn is_told_of_sign(could: &Continuations, sign: Sign) -> bool {
         | Sign::Less
         | Sign::LessOrEqual
         | Sign::Greater
-        | Sign::GreaterOrEqual => goes_on_expression(could),
+        | Sign::GreaterOrEqual => could.goes_on_expression(),
         _ => false,
     }
 }
 
 // What could stand there by its kind.
-fn called(alloc: Global, could: &Continuations) -> Result<Vec<Thing>, AllocError> {
+fn called(alloc: Global, could: &Could) -> Result<Vec<Thing>, AllocError> {
     let mut things = Vec::new(alloc);
-    if begins_expression(could) {
+    if could.begins_expression() {
         things.push(Thing::Called("an expression"))?;
     } else {
-        if could.name {
+        if could.has_name() {
             things.push(Thing::Called("a name"))?;
         }
-        if could.number {
+        if could.has_number() {
             things.push(Thing::Called("a number"))?;
         }
     }
-    if goes_on_expression(could) {
+    if could.goes_on_expression() {
         things.push(Thing::Called("an operator"))?;
     }
     Ok(things)
 }
 
+// Adds the words of extended charts that could stand there.
+fn add_own_words(could: &Could, things: &mut Vec<Thing>) -> Result<(), AllocError> {
+    for word in could.own_words() {
+        things.push(Thing::Spelled(word))?;
+    }
+    Ok(())
+}
+
 // Adds the words that could stand there.
-fn add_words(could: &Continuations, things: &mut Vec<Thing>) -> Result<(), AllocError> {
-    for word in could.words.as_slice() {
-        if !is_told_of_word(could, *word) {
+fn add_words(could: &Could, things: &mut Vec<Thing>) -> Result<(), AllocError> {
+    for word in could.words() {
+        if !is_told_of_word(could, *word) && !could.is_barred(*word) {
             things.push(Thing::Spelled(word.text()))?;
         }
     }
     Ok(())
 }
 
+// A sign as it is told: an operator that combines with what stands behind it.
+fn sign_text(could: &Could, sign: Sign) -> &'static str {
+    match sign {
+        Sign::Plus if could.combines() => "+=",
+        Sign::Minus if could.combines() => "-=",
+        Sign::Star if could.combines() => "*=",
+        _ => sign.text(),
+    }
+}
+
 // Adds the signs that could stand there.
-fn add_signs(could: &Continuations, things: &mut Vec<Thing>) -> Result<(), AllocError> {
-    for sign in could.signs.as_slice() {
+fn add_signs(could: &Could, things: &mut Vec<Thing>) -> Result<(), AllocError> {
+    for sign in could.signs() {
         if !is_told_of_sign(could, *sign) {
-            things.push(Thing::Spelled(sign.text()))?;
+            things.push(Thing::Spelled(sign_text(could, *sign)))?;
         }
     }
     Ok(())
@@ -120,8 +108,9 @@ fn joint(place: usize, count: usize) -> &'static str {
 }
 
 /// What could stand there: "a name", "`go`, `strong` or `}`". Err: memory was refused.
-pub(crate) fn expected(alloc: Global, could: &Continuations) -> Result<String, AllocError> {
+pub(crate) fn expected(alloc: Global, could: &Could) -> Result<String, AllocError> {
     let mut things = called(alloc, could)?;
+    add_own_words(could, &mut things)?;
     add_words(could, &mut things)?;
     add_signs(could, &mut things)?;
     let mut text = String::new(alloc);

@@ -11,6 +11,19 @@ pub(crate) fn stands_at(text: &str, at: usize, piece: &str) -> bool {
     }
 }
 
+/// Whether this name stands at a byte of a text, whole.
+pub(crate) fn has_name_at(text: &str, at: usize, name: &str) -> bool {
+    stands_at(text, at, name) && !goes_on_name(text, at.saturating_add(name.len()))
+}
+
+// Whether a name goes on at a byte of a text.
+fn goes_on_name(text: &str, at: usize) -> bool {
+    match text.as_bytes().get(at) {
+        Some(byte) => byte.is_ascii_alphanumeric() || *byte == b'_',
+        None => false,
+    }
+}
+
 // The signs of two characters.
 const LONG_SIGNS: [&str; 5] = ["->", "==", "!=", "<=", ">="];
 

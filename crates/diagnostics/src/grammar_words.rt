@@ -1,6 +1,8 @@
 //! A place where a text cannot go on, in words.
 
-use crate::expected::{begins_expression, expected, goes_on_expression, has_sign, has_word};
+use crate::could::Could;
+use crate::expected::expected;
+use crate::extended_words::{misuse_at, near_own_word};
 use crate::found::{found, stands_at};
 use crate::fronts::{front_of, last_token};
 use crate::lines::name_at;
@@ -9,9 +11,9 @@ use crate::spellings::{for_sign, for_word};
 use crate::spots::spot_of;
 use crate::unclosed::last_open;
 use crate::words::Words;
-use sc_text::{Language, Sign, TokenKind, Word, language_of};
+use sc_text::{Sign, TokenKind, Word};
 use std::alloc::{AllocError, Global};
-use text_continuations::{Continuations, continuations_of};
+use text_continuations::Grammar;
 
 // How many bytes may stand before a place of which is told what could stand there: they are read some fifty times.
 const LONGEST: usize = 262_144;
@@ -19,9 +21,12 @@ const LONGEST: usize = 262_144;
 const TRANSITIONS: &str =
     "a transition begins with `go`, and that of a superstate with `strong`, `weak` or `join`";
 
+const BEGINNINGS: &str =
+    "a text begins with `chart`, with `extended chart` or with `scl`, and a name";
+
 // What helps where the text ends too early.
-fn cure_at_end(alloc: Global, language: Language, text: &str) -> Result<String, AllocError> {
-    match last_open(alloc, language, text)? {
+fn cure_at_end(alloc: Global, grammar: Grammar, text: &str) -> Result<String, AllocError> {
+    match last_open(alloc, grammar.tokens(), text)? {
         Some(at) => {
             let spot = spot_of(text, at);
             let line = spot.line;
@@ -30,34 +35,59 @@ fn cure_at_end(alloc: Global, language: Language, text: &str) -> Result<String, 
                 "line {line} opens a brace or parenthesis, in column {column}, that is not closed"
             )
         }
-        None => String::from_str(
-            alloc,
-            "a text begins with `chart` or with `scl`, and a name",
-        ),
+        None => String::from_str(alloc, BEGINNINGS),
+    }
+}
+
+/// A place of a text at which it cannot go on, and the grammar by which it is read.
+#[derive(Clone, Copy)]
+struct Stop<'a> {
+    grammar: Grammar,
+    text: &'a str,
+    at: usize,
+}
+
+impl<'a> Stop<'a> {
+    // Whether this piece stands there.
+    fn has(&self, piece: &str) -> bool {
+        stands_at(self.text, self.at, piece)
+    }
+}
+
+// What helps where a value stands behind a declaration that has none.
+fn cure_of_value(grammar: Grammar) -> &'static str {
+    match grammar {
+        Grammar::Chart => {
+            "a variable begins with false or 0: give it another value in the first transition, or begin the text with `extended chart`, where it may stand here"
+        }
+        Grammar::ExtendedChart => {
+            "a value stands behind a kind and a name, as in `const int N = 3;`; a signal has none"
+        }
+        Grammar::Scl => {
+            "a variable begins with false or 0: give it another value in the first step"
+        }
     }
 }
 
 // What helps where a sign stands that has its place elsewhere.
-fn cure_of_own_sign(text: &str, at: usize, could: &Continuations) -> Option<&'static str> {
-    if stands_at(text, at, "==") && has_sign(could, Sign::Becomes) {
+fn cure_of_own_sign(stop: Stop<'_>, could: &Could) -> Option<&'static str> {
+    if stop.has("==") && could.has_sign(Sign::Becomes) {
         return Some("a value is given by `=`, and `==` compares two");
     }
-    if stands_at(text, at, "->") && has_word(could, Word::Go) {
+    if stop.has("->") && could.has_word(Word::Go) {
         return Some(TRANSITIONS);
     }
-    if stands_at(text, at, ";") && has_sign(could, Sign::Arrow) {
+    if stop.has(";") && could.has_sign(Sign::Arrow) {
         return Some("a transition leads to a state by `->`, and its effects stand apart by `,`");
     }
-    if is_comparison(text, at) && goes_on_expression(could) {
+    if is_comparison(stop) && could.goes_on_expression() {
         return Some("two comparisons stand apart by `and` or `or`: write `1 < x and x < 5`");
     }
-    if stands_at(text, at, "=") && goes_on_expression(could) {
+    if stop.has("=") && could.goes_on_expression() {
         return Some("two values are compared by `==`, and `=` gives a value");
     }
-    if stands_at(text, at, "=") && has_sign(could, Sign::Semicolon) {
-        return Some(
-            "a variable begins with false or 0: give it another value in the first transition or step",
-        );
+    if stop.has("=") && could.has_sign(Sign::Semicolon) {
+        return Some(cure_of_value(stop.grammar));
     }
     None
 }
@@ -65,24 +95,29 @@ fn cure_of_own_sign(text: &str, at: usize, could: &Continuations) -> Option<&'st
 const COMPARISONS: [&str; 6] = ["==", "!=", "<=", ">=", "<", ">"];
 
 // Whether two values are compared by what stands there.
-fn is_comparison(text: &str, at: usize) -> bool {
+fn is_comparison(stop: Stop<'_>) -> bool {
     for sign in COMPARISONS {
-        if stands_at(text, at, sign) {
+        if stop.has(sign) {
             return true;
         }
     }
     false
 }
 
+// Whether a variable is combined with a value by what stands there, as extended charts do.
+fn is_combination(stop: Stop<'_>) -> bool {
+    stop.grammar == Grammar::ExtendedChart && (stop.has("+=") || stop.has("-=") || stop.has("*="))
+}
+
 // What helps where a sign stands that other languages have, or that has its place elsewhere.
-fn cure_of_sign(text: &str, at: usize, could: &Continuations) -> Option<&'static str> {
-    if stands_at(text, at, "=>") {
-        return for_sign(text, at);
+fn cure_of_sign(stop: Stop<'_>, could: &Could) -> Option<&'static str> {
+    if stop.has("=>") {
+        return for_sign(stop.text, stop.at);
     }
-    match cure_of_own_sign(text, at, could) {
+    match cure_of_own_sign(stop, could) {
         Some(written) => Some(written),
-        None if is_comparison(text, at) => None,
-        None => for_sign(text, at),
+        None if is_comparison(stop) || is_combination(stop) => None,
+        None => for_sign(stop.text, stop.at),
     }
 }
 
@@ -95,17 +130,17 @@ enum Before {
 }
 
 // What this token is.
-fn before_of(token: Option<TokenKind>) -> Before {
+fn before_of(token: &TokenKind) -> Before {
     match token {
-        Some(TokenKind::Word(Word::State)) => Before::State,
-        Some(TokenKind::Sign(Sign::Comma)) => Before::Comma,
+        TokenKind::Word(Word::State) => Before::State,
+        TokenKind::Sign(Sign::Comma) => Before::Comma,
         _ => Before::Other,
     }
 }
 
 // Whether charts have no such word, or none like it.
-fn is_foreign(language: Language, word: Word) -> bool {
-    language == Language::Chart && (word == Word::Else || word == Word::Goto)
+fn is_foreign(grammar: Grammar, word: Word) -> bool {
+    grammar != Grammar::Scl && (word == Word::Else || word == Word::Goto)
 }
 
 // What helps where a reserved word stands.
@@ -113,116 +148,145 @@ fn cure_of_reserved(
     alloc: Global,
     word: Word,
     before: Before,
-    could: &Continuations,
+    could: &Could,
 ) -> Result<String, AllocError> {
     let text = word.text();
     if before == Before::State && (word == Word::Initial || word == Word::Final) {
         return format!(in alloc; "write `{text} state`");
     }
-    if (word == Word::Bool || word == Word::Int) && has_word(could, Word::Input) {
+    if (word == Word::Bool || word == Word::Int) && could.has_word(Word::Input) {
         return String::from_str(
             alloc,
             "a variable is declared by `input`, `output` or `local` before its kind",
         );
     }
-    if has_word(could, Word::Go)
+    if could.has_word(Word::Go)
         && (word == Word::If || word == Word::Do || word == Word::Immediate)
     {
         return String::from_str(alloc, TRANSITIONS);
     }
-    if word == Word::Do && could.name && before == Before::Comma {
+    if word == Word::Do && could.has_name() && before == Before::Comma {
         return String::from_str(alloc, "`do` stands once, before the first effect");
     }
-    if could.name && !begins_expression(could) {
+    if could.has_name() && !could.begins_expression() {
         return format!(in alloc; "`{text}` is a word of the language: take another name");
     }
     Ok(String::new(alloc))
 }
 
 // The word that could stand there and is spelled nearly so.
-fn near_word(could: &Continuations, name: &str) -> Option<Word> {
-    for word in could.words.as_slice() {
+fn near_word(could: &Could, name: &str) -> Option<&'static str> {
+    for word in could.words() {
         let text = word.text();
         if text.len() > 2 && difference(text.as_bytes(), name.as_bytes()) <= 2 {
-            return Some(*word);
+            return Some(text);
         }
     }
-    None
+    near_own_word(could, name)
 }
 
 // What helps where a name stands.
-fn cure_of_name(alloc: Global, name: &str, could: &Continuations) -> Result<String, AllocError> {
-    if let Some(written) = for_word(name) {
+fn cure_of_name(
+    alloc: Global,
+    grammar: Grammar,
+    name: &str,
+    could: &Could,
+) -> Result<String, AllocError> {
+    if let Some(written) = for_word(grammar, name) {
         return String::from_str(alloc, written);
     }
-    if let Some(word) = near_word(could, name) {
-        let text = word.text();
+    if let Some(text) = near_word(could, name) {
         return format!(in alloc;
             "did you mean `{text}`? The words of the language are in small letters"
         );
     }
-    if has_word(could, Word::If) && !could.name {
-        return String::from_str(alloc, "a condition stands behind `if`");
+    String::from_str(alloc, cure_of_own_name(could))
+}
+
+// What helps where a name stands that is no word.
+fn cure_of_own_name(could: &Could) -> &'static str {
+    if could.has_own_word("emit") {
+        "a signal is emitted by `emit s`, and a variable is given a value by `x = ..`"
+    } else if could.has_word(Word::If) && !could.has_name() {
+        "a condition stands behind `if`"
+    } else {
+        ""
     }
-    Ok(String::new(alloc))
 }
 
 // What helps where nothing else is known.
-fn cure_at_least(could: &Continuations) -> &'static str {
-    if has_sign(could, Sign::Semicolon) {
+fn cure_at_least(could: &Could) -> &'static str {
+    if could.has_sign(Sign::Semicolon) {
         "a `;` may be missing before it"
-    } else if begins_expression(could) {
+    } else if could.begins_expression() {
         "an operator wants a value on each side"
     } else {
         ""
     }
 }
 
-// What helps at a byte of a text where something else could stand.
+// What helps where a word or a name stands, or nothing of either.
+fn cure_of_word(
+    alloc: Global,
+    grammar: Grammar,
+    before: &TokenKind,
+    name: &str,
+    could: &Could,
+) -> Result<String, AllocError> {
+    match Word::of(name.as_bytes()) {
+        Some(word) if is_foreign(grammar, word) => cure_of_name(alloc, grammar, name, could),
+        Some(word) => cure_of_reserved(alloc, word, before_of(before), could),
+        None if name.is_empty() => Ok(String::new(alloc)),
+        None => cure_of_name(alloc, grammar, name, could),
+    }
+}
+
+// What helps where a text stops behind this token, and something else could stand.
 fn cure(
     alloc: Global,
-    language: Language,
-    text: &str,
-    at: usize,
-    could: &Continuations,
+    stop: Stop<'_>,
+    before: &TokenKind,
+    could: &Could,
 ) -> Result<String, AllocError> {
-    if at >= text.len() {
-        return cure_at_end(alloc, language, text);
+    if stop.at >= stop.text.len() {
+        return cure_at_end(alloc, stop.grammar, stop.text);
     }
-    if let Some(written) = cure_of_sign(text, at, could) {
+    if let Some(written) = cure_of_sign(stop, could) {
         return String::from_str(alloc, written);
     }
-    let name = name_at(alloc, text, at)?;
-    let told = match Word::of(name.as_bytes()) {
-        Some(word) if is_foreign(language, word) => cure_of_name(alloc, name.as_str(), could)?,
-        Some(word) => {
-            let before = before_of(last_token(alloc, language, front_of(text, at))?);
-            cure_of_reserved(alloc, word, before, could)?
-        }
-        None if name.is_empty() => String::new(alloc),
-        None => cure_of_name(alloc, name.as_str(), could)?,
-    };
+    let name = name_at(alloc, stop.text, stop.at)?;
+    let told = cure_of_word(alloc, stop.grammar, before, name.as_str(), could)?;
     if !told.is_empty() {
         return Ok(told);
     }
-    if has_sign(could, Sign::CloseParenthesis) {
-        return cure_at_end(alloc, language, front_of(text, at));
+    if could.has_sign(Sign::CloseParenthesis) {
+        return cure_at_end(alloc, stop.grammar, front_of(stop.text, stop.at));
     }
     String::from_str(alloc, cure_at_least(could))
 }
 
-// What helps where this stands first in a text. An extended chart without faults stands for another text.
-fn cure_of_first(found: &str) -> &'static str {
-    if found == "`extended`" {
-        return "this extended chart has a fault, which `sct reduce` tells";
-    }
-    "a text begins with `chart` or with `scl`, and a name; the words of the language are in small letters"
-}
-
 // The words for what stands first in a text.
 fn first_words(alloc: Global, found: &str) -> Result<Words, AllocError> {
-    let cause = format!(in alloc; "found {found}, expected `chart` or `scl`")?;
-    let cure = String::from_str(alloc, cure_of_first(found))?;
+    let cause = format!(in alloc; "found {found}, expected `chart`, `extended chart` or `scl`")?;
+    let cure = format!(in alloc; "{BEGINNINGS}; the words of the language are in small letters")?;
+    Ok(Words { cause, cure })
+}
+
+// The words for what stands where something else could.
+fn stopped_words(
+    alloc: Global,
+    stop: Stop<'_>,
+    found: &str,
+    before: &TokenKind,
+    could: &Could,
+) -> Result<Words, AllocError> {
+    let expected = expected(alloc, could)?;
+    let cause = if expected.is_empty() {
+        format!(in alloc; "found {found} behind the end of the program")?
+    } else {
+        format!(in alloc; "found {found}, expected {expected}")?
+    };
+    let cure = cure(alloc, stop, before, could)?;
     Ok(Words { cause, cure })
 }
 
@@ -235,18 +299,15 @@ pub(crate) fn grammar_words(alloc: Global, text: &str, at: usize) -> Result<Word
         let cure = String::from_str(alloc, "look at what stands before it")?;
         return Ok(Words { cause, cure });
     }
-    let language = language_of(text);
+    let grammar = Grammar::of(text);
     let front = front_of(text, at);
-    if last_token(alloc, language, front)?.is_none() {
+    let Some(before) = last_token(alloc, grammar.tokens(), front)? else {
         return first_words(alloc, found.as_str());
-    }
-    let could = continuations_of(alloc, language, front)?;
-    let expected = expected(alloc, &could)?;
-    let cause = if expected.is_empty() {
-        format!(in alloc; "found {found} behind the end of the program")?
-    } else {
-        format!(in alloc; "found {found}, expected {expected}")?
     };
-    let cure = cure(alloc, language, text, at, &could)?;
-    Ok(Words { cause, cure })
+    let could = Could::of(alloc, grammar, front, &before)?;
+    if let Some(misused) = misuse_at(text, at, &before, &could) {
+        return Words::of(alloc, misused.cause, misused.cure);
+    }
+    let stop = Stop { grammar, text, at };
+    stopped_words(alloc, stop, found.as_str(), &before, &could)
 }

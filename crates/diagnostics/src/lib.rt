@@ -2,8 +2,11 @@
 //! what helps.
 #![tactic(auto)]
 
+mod could;
 mod edges;
 mod expected;
+mod extended_rules;
+mod extended_words;
 mod found;
 mod fronts;
 mod grammar_words;

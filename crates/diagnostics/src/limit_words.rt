@@ -3,8 +3,9 @@
 use crate::fronts::{front_of, last_token};
 use crate::lines::name_at;
 use crate::words::Words;
-use sc_text::{ReadFault, TokenKind, Word, language_of, tokens};
+use sc_text::{ReadFault, TokenKind, Word, tokens};
 use std::alloc::{AllocError, Global};
+use text_continuations::Grammar;
 
 const ANY: &str =
     "a limit is passed: what begins here is one too many or too large, or it nests one level too deep";
@@ -41,7 +42,7 @@ fn limit_of_name(before: Option<TokenKind>) -> &'static str {
 
 // What passes a limit at a byte of a text.
 fn limit_at(alloc: Global, text: &str, at: usize) -> Result<&'static str, AllocError> {
-    let language = language_of(text);
+    let language = Grammar::of(text).tokens();
     match tokens(alloc, language, text) {
         Ok(_) => {
             let name = name_at(alloc, text, at)?;

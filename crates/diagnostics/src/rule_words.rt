@@ -1,10 +1,12 @@
 //! A rule of the language that is broken, and a name that stands twice, in words.
 
+use crate::extended_rules::extended_name_words;
 use crate::fronts::{front_of, last_token};
 use crate::lines::name_at;
 use crate::words::Words;
-use sc_text::{Sign, Token, TokenKind, Word, language_of, tokens};
+use sc_text::{Sign, Token, TokenKind, Word, tokens};
 use std::alloc::{AllocError, Global};
+use text_continuations::Grammar;
 
 // How many states of a region are initial whose tokens begin here, behind its name.
 fn initial_states(tokens: &[Token]) -> usize {
@@ -28,8 +30,7 @@ fn initial_states(tokens: &[Token]) -> usize {
 
 // Whether the region whose name stands at a byte has an initial state.
 fn has_initial(alloc: Global, text: &str, at: usize) -> bool {
-    let language = language_of(text);
-    match tokens(alloc, language, text) {
+    match tokens(alloc, Grammar::of(text).tokens(), text) {
         Ok(tokens) => {
             for (place, token) in tokens.as_slice().iter().enumerate() {
                 if token.at == at {
@@ -100,6 +101,9 @@ fn name_words(
             )?;
             Ok(Words { cause, cure })
         }
+        _ if Grammar::of(text) == Grammar::ExtendedChart => {
+            extended_name_words(alloc, text, name, before)
+        }
         _ => {
             let cause = format!(in alloc; "the input `{name}` is assigned")?;
             let cure = String::from_str(alloc, "assign an output or a local variable")?;
@@ -114,7 +118,7 @@ pub(crate) fn rule_words(alloc: Global, text: &str, at: usize) -> Result<Words, 
     match Word::of(name.as_bytes()) {
         Some(word) => transition_words(alloc, word),
         None => {
-            let before = last_token(alloc, language_of(text), front_of(text, at))?;
+            let before = last_token(alloc, Grammar::of(text).tokens(), front_of(text, at))?;
             name_words(alloc, text, at, name.as_str(), before)
         }
     }
@@ -125,7 +129,7 @@ fn named(before: Option<TokenKind>) -> &'static str {
     match before {
         Some(TokenKind::Word(Word::Region)) => "region of one superstate, or of the chart,",
         Some(TokenKind::Word(Word::State)) => "state of one region",
-        Some(TokenKind::Word(Word::Bool | Word::Int)) => "variable",
+        Some(TokenKind::Word(Word::Bool | Word::Int) | TokenKind::Name(_)) => "variable",
         _ => "label",
     }
 }
@@ -133,7 +137,7 @@ fn named(before: Option<TokenKind>) -> &'static str {
 /// The words for a name at a byte of a text that stands twice. Err: memory was refused.
 pub(crate) fn repeated_words(alloc: Global, text: &str, at: usize) -> Result<Words, AllocError> {
     let name = name_at(alloc, text, at)?;
-    let named = named(last_token(alloc, language_of(text), front_of(text, at))?);
+    let named = named(last_token(alloc, Grammar::of(text).tokens(), front_of(text, at))?);
     let cause = format!(in alloc; "a second {named} is named `{name}`")?;
     let cure = String::from_str(alloc, "rename one of them")?;
     Ok(Words { cause, cure })

@@ -4,8 +4,9 @@ use crate::fronts::{front_of, last_token};
 use crate::lines::name_at;
 use crate::near_names::nearest;
 use crate::words::Words;
-use sc_text::{Language, Sign, TokenKind, Word, language_of};
+use sc_text::{Language, Sign, TokenKind, Word};
 use std::alloc::{AllocError, Global};
+use text_continuations::Grammar;
 
 // What is looked up by a name, and what helps where it is not there.
 #[derive(Clone, Copy)]
@@ -19,6 +20,12 @@ const VARIABLE: Sought = Sought {
     cure: "declare it by `input`, `output` or `local`",
 };
 
+// Behind `emit`.
+const SIGNAL: Sought = Sought {
+    what: "signal",
+    cure: "declare it by `signal`",
+};
+
 const STATE: Sought = Sought {
     what: "state of its region",
     cure: "a transition leads to a state beside its own: leave the superstate by one of its aborts or its `join`",
@@ -30,10 +37,11 @@ const LABEL: Sought = Sought {
 };
 
 // What is looked up behind this token.
-fn sought_behind(before: Option<TokenKind>) -> Sought {
+fn sought_behind(before: &TokenKind) -> Sought {
     match before {
-        Some(TokenKind::Sign(Sign::Arrow)) => STATE,
-        Some(TokenKind::Word(Word::Goto)) => LABEL,
+        TokenKind::Sign(Sign::Arrow) => STATE,
+        TokenKind::Word(Word::Goto) => LABEL,
+        TokenKind::Name(word) if word.as_str() == "emit" => SIGNAL,
         _ => VARIABLE,
     }
 }
@@ -58,9 +66,12 @@ fn cure(
 
 /// The words for a name at a byte of a text that is not declared. Err: memory was refused.
 pub(crate) fn unknown_words(alloc: Global, text: &str, at: usize) -> Result<Words, AllocError> {
-    let language = language_of(text);
+    let language = Grammar::of(text).tokens();
     let name = name_at(alloc, text, at)?;
-    let sought = sought_behind(last_token(alloc, language, front_of(text, at))?);
+    let sought = match last_token(alloc, language, front_of(text, at))? {
+        Some(before) => sought_behind(&before),
+        None => VARIABLE,
+    };
     let what = sought.what;
     let cause = format!(in alloc; "no {what} is named `{name}`")?;
     let cure = cure(alloc, language, text, name.as_str(), sought)?;

@@ -1,6 +1,8 @@
 //! The faults of readers in words.
 
+use crate::extended_rules::{extended_kind_words, made_name_words};
 use crate::found::found;
+use crate::fronts::front_of;
 use crate::grammar_words::grammar_words;
 use crate::limit_words::limit_words;
 use crate::lines::name_at;
@@ -9,6 +11,7 @@ use crate::spellings::for_sign;
 use crate::unknown_words::unknown_words;
 use sc_text::FaultKind;
 use std::alloc::{AllocError, Global};
+use text_continuations::Grammar;
 
 /// A fault of a text in words: what is wrong, and what helps, which is empty where nothing is known to.
 #[derive(Drop)]
@@ -55,11 +58,44 @@ fn token_cure(text: &str, at: usize) -> &'static str {
     }
 }
 
+// The words for a name in an extended chart that only reductions make. None: none stands there.
+fn made_words(alloc: Global, text: &str, at: usize) -> Result<Option<Words>, AllocError> {
+    if Grammar::of(text) != Grammar::ExtendedChart {
+        return Ok(None);
+    }
+    let name = name_at(alloc, text, at)?;
+    made_name_words(alloc, name.as_str())
+}
+
 // The words for a place where no token stands.
 fn token_words(alloc: Global, text: &str, at: usize) -> Result<Words, AllocError> {
+    if let Some(words) = made_words(alloc, text, at)? {
+        return Ok(words);
+    }
     let cause = token_cause(alloc, text, at)?;
     let cure = String::from_str(alloc, token_cure(text, at))?;
     Ok(Words { cause, cure })
+}
+
+// The words for an expression of another kind that is new in extended charts. None: it is none of these.
+fn new_kind_words(alloc: Global, text: &str, at: usize) -> Result<Option<Words>, AllocError> {
+    if Grammar::of(text) != Grammar::ExtendedChart {
+        return Ok(None);
+    }
+    let name = name_at(alloc, text, at)?;
+    extended_kind_words(alloc, front_of(text, at), name.as_str())
+}
+
+// The words for an expression of another kind.
+fn kind_words(alloc: Global, text: &str, at: usize) -> Result<Words, AllocError> {
+    match new_kind_words(alloc, text, at)? {
+        Some(words) => Ok(words),
+        None => Words::of(
+            alloc,
+            "the expression that begins here has another kind than its place wants, or an operator has an operand of the wrong one",
+            "truth values and numbers do not mix: write `x != 0` for a test of a number",
+        ),
+    }
 }
 
 /// The fault of a text at a byte in words. Err: memory was refused.
@@ -74,11 +110,7 @@ pub(crate) fn words_of(
         FaultKind::Grammar => grammar_words(alloc, text, at),
         FaultKind::Unknown => unknown_words(alloc, text, at),
         FaultKind::Repeated => repeated_words(alloc, text, at),
-        FaultKind::Kind => Words::of(
-            alloc,
-            "the expression that begins here has another kind than its place wants, or an operator has an operand of the wrong one",
-            "truth values and numbers do not mix: write `x != 0` for a test of a number",
-        ),
+        FaultKind::Kind => kind_words(alloc, text, at),
         FaultKind::Rule => rule_words(alloc, text, at),
         FaultKind::Limit => limit_words(alloc, text, at),
     }

@@ -1,8 +1,6 @@
-//! Tests of faults explained: whole texts compared.
+//! Tests of what no command shows of faults explained: rules that a compiled program never breaks, and columns.
 #![tactic(auto)]
 
-#[cfg(test)]
-mod explained;
 #[cfg(test)]
 mod rules;
 #[cfg(test)]

@@ -6,8 +6,7 @@ use Rattle.sc_text.specs.declared.read_fault.FaultKind.{FaultKind}
 use Rattle.sc_text.specs.declared.read_fault.FaultKind.TheVariants as broken
 use Rattle.sc_text.specs.FaultText.{broken_number}
 use Rattle.drafts.specs.declared.flaw.Flaw.{Flaw}
-use Rattle.drafts.specs.First.{comes_before, IsFirst}
-use Rattle.drafts.specs.Inside.{first_behind}
+use Rattle.drafts.specs.First.{comes_before, IsFirst, first_behind}
 
 -- ---- the order of flaws
 

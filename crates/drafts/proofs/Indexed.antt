@@ -8,7 +8,7 @@ use Rattle.std.specs.Map.{lookup}
 use Rattle.std.specs.Cmp.Lexicographic.{pointwise, slice_cmp}
 use Rattle.std.specs.Ordering.{nat_cmp, is_eq}
 use Rattle.drafts.specs.declared.index.Index.{Index}
-use Rattle.drafts.specs.Inside.{IsIndex, first_place}
+use Rattle.drafts.specs.Index.{IsIndex, first_place}
 use Rattle.drafts.specs.Flaws.{first_or, place_among}
 use Rattle.drafts.proofs.PartsInOrder.{drop_is}
 

@@ -3,9 +3,8 @@ use Rattle.std.proofs.Common.{◌≡◌, ℕ, zero, suc, ◌≤◌, ◌<◌, Boo
 use Rattle.std.proofs.Common.{ap, arith, take, length, slice_get, if◌then◌else◌}
 use Rattle.std.proofs.lemmas.Option.{slice_get_within}
 use Rattle.drafts.specs.declared.flaw.Flaw.{Flaw}
-use Rattle.drafts.specs.First.{comes_before}
+use Rattle.drafts.specs.First.{comes_before, earlier, first_behind}
 use Rattle.drafts.specs.Told.{inserted, in_order_with, told_behind, told_limit, told_of}
-use Rattle.drafts.specs.Inside.{earlier, first_behind}
 
 pub told_both : (found xs ys : List Flaw) → told_behind found (xs ++ ys) ≡ told_behind (told_behind found xs) ys
 told_both found [] ys = refl

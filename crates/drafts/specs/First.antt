@@ -1,5 +1,5 @@
 -- The first of some flaws.
-use Rattle.std.specs.Prelude.{ℕ, ◌≡◌, nat_lt, nat_eq, Bool, false, ◌&&◌, ◌||◌, Some, List, slice_get}
+use Rattle.std.specs.Prelude.{ℕ, ◌≡◌, nat_lt, nat_eq, Bool, false, ◌&&◌, ◌||◌, Option, Some, None, List, [], ◌∷◌, if◌then◌else◌, slice_get}
 use Rattle.sc_text.specs.FaultText.{broken_number}
 use Rattle.drafts.specs.declared.flaw.Flaw.{Flaw}
 
@@ -12,3 +12,13 @@ pub record IsFirst (flaws : List Flaw) (f : Flaw) : Type 0 where
   pub index : ℕ
   pub stands : slice_get flaws index ≡ Some f
   pub first : (i : ℕ) (g : Flaw) → slice_get flaws i ≡ Some g → comes_before g f ≡ false
+
+-- the first of a flaw and of one found before it
+abbrev pub earlier : Option Flaw → Flaw → Flaw
+earlier None g = g
+earlier (Some f) g = if comes_before g f then g else f
+
+-- the first of these, and of the one found before them
+abbrev pub first_behind : Option Flaw → List Flaw → Option Flaw
+first_behind found [] = found
+first_behind found (f ∷ flaws) = first_behind (Some (earlier found f)) flaws

@@ -6,7 +6,7 @@ ghost use Rattle.std.specs.HashMap as hash;
 ghost use Rattle.std.specs.Cmp.Lexicographic.{pointwise, slice_cmp};
 ghost use Rattle.std.specs.Ordering.{nat_cmp};
 ghost use Rattle.drafts.specs.Flaws.{place_among, is_among, is_at, is_repeated};
-ghost use Rattle.drafts.specs.Inside.{IsIndex};
+ghost use Rattle.drafts.specs.Index.{IsIndex};
 
 use crate::crowding::is_crowded;
 use sc_values::Name;

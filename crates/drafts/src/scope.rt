@@ -5,7 +5,7 @@ ghost use Rattle.std.specs.List.{list_all};
 ghost use Rattle.drafts.specs.Flaws.{variable_named, variable_names, is_among, has_known_name};
 ghost use Rattle.drafts.specs.Flaws.{kind_named, kinds_behind, is_of_kind, is_of_other_kind, is_input};
 ghost use Rattle.sc_values.specs.Code.{some_if};
-ghost use Rattle.drafts.specs.Inside.{IsIndex};
+ghost use Rattle.drafts.specs.Index.{IsIndex};
 
 use crate::index::Index;
 use crate::kinds::Kinds;

@@ -4,7 +4,8 @@ ghost use Rattle.std.specs.Prelude.{◌≡◌, ◌∷◌, ◌++◌, IfOk, IsTrue
 ghost use Rattle.drafts.specs.declared.flaw.Flaw.{Flaw};
 ghost use Rattle.drafts.specs.Flaws.{flaw_if};
 ghost use Rattle.drafts.specs.Told.{inserted, told_behind, told_limit, told_of};
-ghost use Rattle.drafts.specs.Inside.{first_behind, placed};
+ghost use Rattle.drafts.specs.First.{first_behind};
+ghost use Rattle.drafts.specs.Inside.{placed};
 
 use crate::flaw::Flaw;
 use sc_text::FaultKind;

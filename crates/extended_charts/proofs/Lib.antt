@@ -3,6 +3,7 @@ pub mod Folded
 pub mod Left
 pub mod HeldStates
 pub mod ActingStates
+pub mod CountedStates
 pub mod Handed
 pub mod Emitting
 pub mod ByRules

@@ -14,6 +14,7 @@ use Rattle.extended_charts.specs.Reading.{elapsed}
 use Rattle.extended_charts.specs.Constants.{named_values, without_constants}
 use Rattle.extended_charts.specs.Registers.{with_registers}
 use Rattle.extended_charts.specs.Signals.{with_signals}
+use Rattle.extended_charts.specs.Counts.{with_counts}
 use Rattle.extended_charts.specs.Clocks.{clocked, with_clocks}
 use Rattle.extended_charts.specs.Exits.{left_region, outer_regions, with_exits}
 use Rattle.extended_charts.specs.Durings.{acting_region, with_durings}
@@ -82,8 +83,8 @@ durings_stay c h =
 
 pub nothing_is_added : (c : Chart) → IsChart features.Extended c → with_entry (of_chart c) ≡ of_chart c
 nothing_is_added c h =
-    ap (λ e. with_settings (with_holds (with_exits (with_clocks (with_registers (with_signals (with_durings e))))))) (constants_stay c h)
-    ∙ ap (λ e. with_settings (with_holds (with_exits (with_clocks (with_registers (with_signals e)))))) (durings_stay c h)
+    ap (λ e. with_settings (with_holds (with_exits (with_clocks (with_counts (with_registers (with_signals (with_durings e)))))))) (constants_stay c h)
+    ∙ ap (λ e. with_settings (with_holds (with_exits (with_clocks (with_counts (with_registers (with_signals e))))))) (durings_stay c h)
     ∙ ap (λ e. with_settings (with_holds (with_exits e))) (clocks_stay c h)
     ∙ ap (λ e. with_settings (with_holds e)) (exits_stay c h)
     ∙ ap with_settings (holds_stay c h)

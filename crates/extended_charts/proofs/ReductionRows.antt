@@ -17,6 +17,7 @@ use Rattle.extended_charts.specs.declared.extended.ExtendedState.{ExtendedState}
 use Rattle.extended_charts.specs.declared.reading.Reading.{Reading}
 use Rattle.extended_charts.specs.declared.reading.Reading.TheVariants as reading
 use Rattle.extended_charts.specs.Reading.{elapsed, replaced_step}
+use Rattle.extended_charts.specs.Counts.{counting, count_region}
 use Rattle.extended_charts.specs.Clocks.{all_states}
 use Rattle.extended_charts.specs.Making.{numbered, always, passing, region}
 use Rattle.extended_charts.specs.Registers.{register_region}
@@ -114,6 +115,19 @@ own_times : (asks other : (now at : ℕ) → ExtendedState)
     → all_states 2 3 (record { clocks = 1; made = asks } ∷ record { clocks = 0; made = other } ∷ record { clocks = 1; made = asks } ∷ []) ≡
     asks 2 3 ∷ other 2 4 ∷ asks 2 4 ∷ []
 own_times asks other = refl
+
+-- ---- counts: variables 2 to 4 are those of the one condition
+
+one_count : (condition : Expr) → count_region 2 (condition ∷ []) ≡ region (codes "counts__1")
+    (passing true 0 (from 2 3) 1 ∷ passing true 1 (reset 4 ∷ []) 2 ∷ counting 2 2 condition ∷ passing false 3 [] 0 ∷ [])
+one_count condition = refl
+
+-- the second of three, and no variable is one
+second_count : replaced_step (reading.Counted 10 3) (tree.Load 65533) ≡ expr.Load 13
+second_count = refl
+
+no_count : replaced_step (reading.Counted 10 3) (tree.Load 9) ≡ expr.Load 9
+no_count = refl
 
 -- ---- the author's are numbered in order
 

@@ -1,4 +1,4 @@
--- Constants: each stands for its literal, in triggers and effects.
+-- Constants: each stands for its literal, in triggers, effects and conditions of counts.
 use Rattle.std.specs.Prelude.{ℕ, Option, Some, None, List, [], ◌++◌, map}
 use Rattle.sc_values.specs.declared.value.Value.{Value}
 use Rattle.core_charts.specs.declared.region.Effect.{Effect}
@@ -52,7 +52,7 @@ valued_state r = fold-ExtendedState ExtendedRegion ExtendedState roll-ExtendedRe
 
 -- the chart that reads so, and then lacks constants
 abbrev pub valued_chart : Reading → ExtendedChart → ExtendedChart
-valued_chart r c = record c { constants = []; regions = map (valued_region r) c.regions }
+valued_chart r c = record c { constants = []; counts = map (replaced r) c.counts; regions = map (valued_region r) c.regions }
 
 -- the chart with the literals of its constants
 abbrev pub without_constants : ExtendedChart → ExtendedChart

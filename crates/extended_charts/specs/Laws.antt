@@ -62,6 +62,7 @@ of_chart c =
       signals = [];
       befores = [];
       constants = [];
+      counts = [];
       regions = map of_region c.regions;
     }
 

@@ -4,6 +4,7 @@ pub mod Constants
 pub mod Durings
 pub mod Signals
 pub mod Registers
+pub mod Counts
 pub mod Clocks
 pub mod Exits
 pub mod Holds

@@ -1,6 +1,6 @@
--- Expressions in which something else stands for some of what they read: literals for constants, and the time now less
--- that at the entry of a state for the ticks since then.
-use Rattle.std.specs.Prelude.{ℕ, ◌==◌, Option, Some, None, slice_get, if◌then◌else◌}
+-- Expressions in which something else stands for some of what they read: literals for constants, the time now less that at
+-- the entry of a state for the ticks since then, and variables for counts.
+use Rattle.std.specs.Prelude.{ℕ, ◌+◌, ◌-◌, ◌*◌, ◌==◌, nat_lt, not, ◌&&◌, Bool, Option, Some, None, slice_get, if◌then◌else◌}
 use Rattle.sc_values.specs.declared.value.Value.{Value}
 use Rattle.sc_values.specs.declared.operator.BinaryOperator.TheVariants as operator
 use Rattle.sc_values.specs.declared.expression.Expr.{Expr}
@@ -24,10 +24,19 @@ abbrev pub time_since : (now at x : ℕ) → Expr
 time_since now at x =
     if x == elapsed then expr.Binary operator.Subtract (expr.Load now) (expr.Load at) else expr.Load x
 
+-- whether a number names one of so many counts: these have the last numbers below `elapsed`
+abbrev pub is_count : (counts x : ℕ) → Bool
+is_count n x = nat_lt x elapsed && not (nat_lt n (elapsed - x))
+
+-- the variable of the count of this number, where each has three, from the first on. What is no count stays
+abbrev pub count_variable : (first counts x : ℕ) → ℕ
+count_variable first n x = if is_count n x then first + 3 * (n - (elapsed - x)) else x
+
 -- what stands for what has this number
 abbrev pub read : Reading → ℕ → Expr
 read (reading.Values named) x = valued x (slice_get named x)
 read (reading.Elapsed now at) x = time_since now at x
+read (reading.Counted first counts) x = expr.Load (count_variable first counts x)
 
 abbrev pub replaced_step : Reading → Expr-F Expr → Expr
 replaced_step r (tree.Literal v) = expr.Literal v

@@ -13,6 +13,7 @@ use Rattle.extended_charts.specs.Constants.{without_constants}
 use Rattle.extended_charts.specs.Durings.{with_durings}
 use Rattle.extended_charts.specs.Signals.{with_signals}
 use Rattle.extended_charts.specs.Registers.{with_registers}
+use Rattle.extended_charts.specs.Counts.{with_counts}
 use Rattle.extended_charts.specs.Clocks.{with_clocks}
 use Rattle.extended_charts.specs.Exits.{with_exits}
 use Rattle.extended_charts.specs.Holds.{with_holds}
@@ -23,7 +24,7 @@ use Rattle.extended_charts.specs.Rows.{rows_of}
 -- the chart that has nothing but entry actions left
 abbrev pub with_entry : ExtendedChart → ExtendedChart
 with_entry c =
-    with_settings (with_holds (with_exits (with_clocks (with_registers (with_signals (with_durings (without_constants c)))))))
+    with_settings (with_holds (with_exits (with_clocks (with_counts (with_registers (with_signals (with_durings (without_constants c))))))))
 
 -- the chart of one that has nothing but entry actions
 abbrev pub chart_of : ExtendedChart → Chart

@@ -38,6 +38,7 @@ pub fn with_clocks(alloc: Global, chart: ExtendedChart) -> Result<ExtendedChart,
         signals: chart.signals,
         befores: chart.befores,
         constants: chart.constants,
+        counts: chart.counts,
         regions,
     })
 }
@@ -187,7 +188,8 @@ fn noting(
     }
 }
 
-fn timed_transitions(
+/// Transitions whose triggers read so. Err: memory was refused.
+pub(crate) fn timed_transitions(
     alloc: Global,
     reading: &Reading,
     transitions: &[Transition],
@@ -217,7 +219,8 @@ fn timed_transition(
     })
 }
 
-fn one_more(alloc: Global, now: VariableId) -> Result<Effect, AllocError>
+/// The variable becomes one more. Err: memory was refused.
+pub(crate) fn one_more(alloc: Global, now: VariableId) -> Result<Effect, AllocError>
     ensures { IfOk result (λ made. made ≡ one_more now) }
 {
     let before = Boxed::new(alloc, Expr::Load(now))?;

@@ -3,6 +3,7 @@
 ghost use Rattle.std.specs.Prelude.{◌≡◌, [], IfOk, map};
 ghost use Rattle.extended_charts.specs.Constants.{unvalued, named_values, valued_effect, valued_during};
 ghost use Rattle.extended_charts.specs.Constants.{valued_transition};
+ghost use Rattle.extended_charts.specs.Reading.{replaced};
 ghost use Rattle.extended_charts.specs.Constants.{valued_region, valued_state, valued_chart, without_constants};
 
 use crate::copies::copied_declarations;
@@ -10,7 +11,7 @@ use crate::extended::{Constant, Declared, During, ExtendedChart, ExtendedRegion,
 use crate::reading::Reading;
 use core_charts::{Effect, Transition};
 use sc_graph::VariableId;
-use sc_values::Value;
+use sc_values::{Expr, Value};
 use sqlite_items::Items;
 use std::alloc::{AllocError, Global};
 
@@ -38,6 +39,7 @@ fn valued_chart(
         signals: Items::from_slice(alloc, chart.signals.as_slice())?,
         befores: Items::from_slice(alloc, chart.befores.as_slice())?,
         constants: Items::new(alloc),
+        counts: valued_counts(alloc, reading, chart.counts.as_slice())?,
         regions: valued_regions(alloc, reading, chart.regions.as_slice())?,
     })
 }
@@ -76,6 +78,20 @@ fn constant_values(
     let mut made = Items::new(alloc);
     for constant in constants {
         made.push(Some(constant.value))?;
+    }
+    Ok(made)
+}
+
+fn valued_counts(
+    alloc: Global,
+    reading: &Reading,
+    counts: &[Expr],
+) -> Result<Items<Expr>, AllocError>
+    ensures { IfOk result (λ made. made ≡ map (replaced reading.now) counts.now) }
+{
+    let mut made = Items::new(alloc);
+    for condition in counts {
+        made.push(reading.replaced(alloc, condition)?)?;
     }
     Ok(made)
 }

@@ -26,12 +26,13 @@ pub fn with_durings(alloc: Global, chart: ExtendedChart) -> Result<ExtendedChart
         signals: chart.signals,
         befores: chart.befores,
         constants: chart.constants,
+        counts: chart.counts,
         regions,
     })
 }
 
-// What makes an action and goes on at once.
-fn ways_on(
+/// What makes an action and goes on at once. Err: memory was refused.
+pub(crate) fn ways_on(
     alloc: Global,
     trigger: &Option<Expr>,
     effects: &[Effect],

@@ -32,6 +32,7 @@ pub fn with_exits(alloc: Global, chart: ExtendedChart) -> Result<ExtendedChart, 
         signals: chart.signals,
         befores: chart.befores,
         constants: chart.constants,
+        counts: chart.counts,
         regions,
     })
 }

@@ -23,7 +23,8 @@ pub struct Constant {
 }
 
 /// An extended chart. Expressions name its variables by their numbers from 0; behind these what variables were at the
-/// end of the tick before; and behind these its constants.
+/// end of the tick before; and behind these its constants. In triggers the last numbers below `ELAPSED` name counts: in
+/// how many ticks each condition was true, behind the one in which the state was entered and before this one.
 #[derive(Debug, Drop)]
 pub struct ExtendedChart {
     pub name: Name,
@@ -33,6 +34,8 @@ pub struct ExtendedChart {
     /// The variables of which is asked what they were.
     pub befores: Items<VariableId>,
     pub constants: Items<Constant>,
+    /// The conditions of its counts.
+    pub counts: Items<Expr>,
     pub regions: Items<ExtendedRegion>,
 }
 

@@ -24,6 +24,7 @@ pub fn with_holds(alloc: Global, chart: ExtendedChart) -> Result<ExtendedChart, 
         signals: chart.signals,
         befores: chart.befores,
         constants: chart.constants,
+        counts: chart.counts,
         regions,
     })
 }

@@ -25,6 +25,7 @@ pub fn with_settings(alloc: Global, chart: ExtendedChart) -> Result<ExtendedChar
         signals: chart.signals,
         befores: chart.befores,
         constants: chart.constants,
+        counts: chart.counts,
         regions,
     })
 }

@@ -1,10 +1,12 @@
 //! Extended charts, and their reduction to charts: constants, signals, what variables were in the tick before, the
-//! ticks since a state was entered, entry, exit and during actions, terminations with triggers and initial values.
+//! ticks since a state was entered, counts of those in which something holds, entry, exit and during actions,
+//! terminations with triggers and initial values.
 #![tactic(auto)]
 
 mod clocks;
 mod constants;
 mod copies;
+mod counts;
 mod departures;
 mod durings;
 mod entry;
@@ -25,6 +27,7 @@ mod signals;
 
 pub use clocks::with_clocks;
 pub use constants::without_constants;
+pub use counts::with_counts;
 pub use durings::with_durings;
 pub use entry::without_entry;
 pub use exits::with_exits;

@@ -1,10 +1,10 @@
 //! Expressions in which something else stands for some of what they read.
 
 ghost use Rattle.std.specs.Prelude.{◌≡◌, IfOk, slice_get};
-ghost use Rattle.extended_charts.specs.Reading.{valued, read, replaced, replaced_trigger};
+ghost use Rattle.extended_charts.specs.Reading.{is_count, count_variable, valued, read, replaced, replaced_trigger};
 
 use crate::extended::ELAPSED;
-use crate::making::literal;
+use crate::making::{literal, variable};
 use sc_graph::VariableId;
 use sc_values::{BinaryOperator, Expr, Value};
 use sqlite_items::{Boxed, Items};
@@ -17,6 +17,8 @@ pub enum Reading {
     Values(Items<Option<Value>>),
     /// For the ticks since the state was entered, the time now less that at its entry.
     Elapsed { now: VariableId, at: VariableId },
+    /// For so many counts, every third variable from this one on.
+    Counted { first: VariableId, counts: u16 },
 }
 
 impl Reading {
@@ -33,6 +35,9 @@ impl Reading {
                 } else {
                     Ok(Expr::Load(x))
                 }
+            }
+            Reading::Counted { first, counts } => {
+                Ok(Expr::Load(count_variable(*first, *counts, x)?))
             }
         }
     }
@@ -70,6 +75,31 @@ impl Reading {
             None => Ok(None),
         }
     }
+}
+
+/// Whether this number names one of so many counts.
+pub(crate) fn is_count(counts: u16, x: u16) -> bool
+    ensures { result ≡ is_count counts x }
+{
+    x < ELAPSED && !(counts < ELAPSED - x)
+}
+
+/// The variable of the count of this number. Err: there are more than 65535 variables.
+pub(crate) fn count_variable(
+    first: VariableId,
+    counts: u16,
+    x: u16,
+) -> Result<VariableId, AllocError>
+    ensures { IfOk result (λ made. made ≡ count_variable first counts x) }
+{
+    if x < ELAPSED {
+        let left = ELAPSED - x;
+        if counts < left {
+            return Ok(x);
+        }
+        return variable(first as usize + 3 * (counts - left) as usize);
+    }
+    Ok(x)
 }
 
 fn valued(alloc: Global, named: &[Option<Value>], x: u16) -> Result<Expr, AllocError>

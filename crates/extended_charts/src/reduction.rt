@@ -7,6 +7,7 @@ ghost use Rattle.extended_charts.specs.Reduction.{with_entry, chart_of, IsReduct
 
 use crate::clocks::with_clocks;
 use crate::constants::without_constants;
+use crate::counts::with_counts;
 use crate::durings::with_durings;
 use crate::entry::without_entry;
 use crate::exits::with_exits;
@@ -43,7 +44,8 @@ fn with_entry(alloc: Global, chart: &ExtendedChart) -> Result<ExtendedChart, All
     let acting = with_durings(alloc, valued)?;
     let signalled = with_signals(alloc, acting)?;
     let registered = with_registers(alloc, signalled)?;
-    let clocked = with_clocks(alloc, registered)?;
+    let counted = with_counts(alloc, registered)?;
+    let clocked = with_clocks(alloc, counted)?;
     let left = with_exits(alloc, clocked)?;
     let held = with_holds(alloc, left)?;
     with_settings(alloc, held)

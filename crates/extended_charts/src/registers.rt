@@ -36,6 +36,7 @@ pub fn with_registers(alloc: Global, chart: ExtendedChart) -> Result<ExtendedCha
         signals: chart.signals,
         befores: Items::new(alloc),
         constants: chart.constants,
+        counts: chart.counts,
         regions,
     })
 }

@@ -30,6 +30,7 @@ pub fn with_signals(alloc: Global, chart: ExtendedChart) -> Result<ExtendedChart
         signals: Items::new(alloc),
         befores: chart.befores,
         constants: chart.constants,
+        counts: chart.counts,
         regions,
     })
 }
@@ -46,8 +47,8 @@ pub fn emission(alloc: Global, signal: VariableId) -> Result<Effect, AllocError>
     })
 }
 
-// The signal becomes false.
-fn reset(signal: VariableId) -> Effect
+/// The signal becomes false.
+pub(crate) fn reset(signal: VariableId) -> Effect
     ensures { result ≡ reset signal }
 {
     Effect {

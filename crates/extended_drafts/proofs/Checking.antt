@@ -5,7 +5,7 @@ use Rattle.sc_text.specs.declared.read_fault.ReadFault.TheVariants as fault
 use Rattle.drafts.specs.declared.flaw.Flaw.{Flaw}
 use Rattle.drafts.specs.declared.parts.Declaration.{Declaration}
 use Rattle.drafts.specs.Told.{told_behind, told_of}
-use Rattle.drafts.specs.Inside.{first_behind}
+use Rattle.drafts.specs.First.{first_behind}
 use Rattle.drafts.proofs.Firsts.{first_found, none_found}
 use Rattle.drafts.proofs.ToldInOrder.{told_both, told_found}
 use Rattle.drafts.proofs.ToldFlaws.{told_five}

@@ -23,7 +23,7 @@ use Rattle.extended_drafts.specs.declared.draft.ExtendedDraft.{ExtendedDraft}
 use Rattle.extended_drafts.specs.ExtendedText.{item_value, last_value, typed, signalled, bare_signal, plain_body, worded_body, plain, worded, item}
 use Rattle.extended_drafts.specs.ExtendedText.{combining, combined, becoming, emitting, effect_end, effect, next_effect, some_effects, effects, deed}
 use Rattle.extended_drafts.specs.ExtendedText.{last_effects, entry}
-use Rattle.extended_drafts.specs.ExtendedText.{some_delay, at_once, waiting, pause, tested, termination}
+use Rattle.extended_drafts.specs.ExtendedText.{some_count, counted, some_delay, at_once, waiting, pause, tested, termination}
 use Rattle.extended_drafts.specs.ExtendedText.{transition, transitions, leaving, Inner, NoMore, Nested, rowed, bare, nested, inside, acting, body, state}
 use Rattle.extended_drafts.specs.ExtendedText.{region, within, parts, extended, extended_text}
 use Rattle.extended_drafts.proofs.Shapes.{extended_text_is}
@@ -101,12 +101,16 @@ module _ (e e' : Grows Phrase) (w : Deeper Phrase e e') where
       (deeper_seq _ _ _ _ _ _ (same_one _) (deeper_made _ _ _ _ _ (deeper_seq _ _ _ _ _ _ some_effects_wider (same_one _))))))))
 
   pause_wider : Deeper (Bool × Option DraftDelay) (pause e) (pause e')
-  unfolding pause at_once waiting some_delay
+  unfolding pause at_once waiting some_delay counted some_count
   pause_wider =
       deeper_made _ _ _ _ _
       (deeper_maybe _ _ _
       (deeper_either _ _ _ _ _ (deeper_made _ _ _ _ _ (same_one _))
-      (deeper_made _ _ _ _ _ (deeper_made _ _ _ _ _ (deeper_seq _ _ _ _ _ _ name_same (placed_wider e e' w))))))
+      (deeper_made _ _ _ _ _
+      (deeper_made _ _ _ _ _
+      (deeper_seq _ _ _ _ _ _ name_same
+      (deeper_seq _ _ _ _ _ _ (placed_wider e e' w)
+      (deeper_maybe _ _ _ (deeper_made _ _ _ _ _ (deeper_seq _ _ _ _ _ _ name_same (placed_wider e e' w))))))))))
 
   transition_wider : Deeper (DraftTransition × Option DraftDelay) (transition e) (transition e')
   unfolding transition termination tested

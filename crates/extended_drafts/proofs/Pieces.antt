@@ -25,12 +25,13 @@ use Rattle.chart_drafts.proofs.Parts.{seq_gives, made_gives, made_stops, maybe_n
 use Rattle.chart_drafts.proofs.Parts.{right_read, gives_as}
 use Rattle.chart_drafts.proofs.RowReading.{many_goes}
 use Rattle.extended_drafts.specs.declared.draft.DraftEntry.{DraftEntry}
+use Rattle.extended_drafts.specs.declared.draft.DraftCount.{DraftCount}
 use Rattle.extended_drafts.specs.declared.draft.DraftDelay.{DraftDelay}
-use Rattle.extended_drafts.specs.Draft.{entry_of, delay_of, hold_of, or_next, delayed, ended, parted}
-use Rattle.extended_drafts.specs.ExtendedText.{deed, last_effects, entry, entry_first, some_delay, at_once, waiting, pause, pause_first, tested, termination}
-use Rattle.extended_drafts.specs.ExtendedText.{transition}
+use Rattle.extended_drafts.specs.Draft.{entry_of, count_of, delay_of, hold_of, or_next, delayed, ended, parted}
+use Rattle.extended_drafts.specs.ExtendedText.{deed, last_effects, entry, entry_first, some_count, counted, some_delay, at_once, waiting, pause}
+use Rattle.extended_drafts.specs.ExtendedText.{pause_first, tested, termination, transition}
 use Rattle.extended_drafts.specs.Inside.{IsGathering}
-use Rattle.extended_drafts.proofs.Shapes.{entry_is, at_once_is, either_is, termination_is, transition_is}
+use Rattle.extended_drafts.proofs.Shapes.{entry_is, some_count_is, at_once_is, either_is, termination_is, transition_is}
 
 abbrev e0 : Grows Phrase
 e0 = expression 0
@@ -53,11 +54,32 @@ entries_go text most found e f = many_goes (entry e0) entry_first (entry_is e0 (
 
 -- ---- what transitions wait
 
-pub some_delay_gives : (text a rest : List Token) (n : Named) (t : TextExpression) → Gives (read name text) n a → Gives (read (placed e0) a) t rest
-    → Gives (read (some_delay e0) text) (delay_of n t) rest
+pub some_count_gives : (text a rest : List Token) (n : Named) (t : TextExpression) → Gives (read name text) n a → Gives (read (placed e0) a) t rest
+    → Gives (read (some_count e0) text) (count_of n t) rest
+unfolding some_count
+some_count_gives text a rest n t x y =
+    made_gives (λ x. count_of x.0 x.1) (seq name (placed e0)) text (n, t) rest (seq_gives name (placed e0) text a rest n t x y)
+
+pub count_missing : (text : List Token) → starts text_tokens (AName ∷ []) text ≡ false → Gives (read (counted e0) text) None text
+unfolding counted
+count_missing text e = maybe_none (some_count e0) (AName ∷ []) (some_count_is e0 (expression_is 0)).begins text e
+
+pub count_there : (text rest : List Token) (c : DraftCount) → starts text_tokens (AName ∷ []) text ≡ true → Gives (read (some_count e0) text) c rest
+    → Gives (read (counted e0) text) (Some c) rest
+unfolding counted
+count_there text rest c e r = maybe_some (some_count e0) (AName ∷ []) (some_count_is e0 (expression_is 0)).begins text c rest e r
+
+pub count_stops : (text : List Token) (end : ℕ) (f : ReadFault) → starts text_tokens (AName ∷ []) text ≡ true
+    → Stops end (read (some_count e0) text) f → Stops end (read (counted e0) text) f
+unfolding counted
+count_stops text end f e s = maybe_stops (some_count e0) (AName ∷ []) (some_count_is e0 (expression_is 0)).begins text end f e s
+
+pub some_delay_gives : (text a b rest : List Token) (n : Named) (t : TextExpression) (c : Option DraftCount) → Gives (read name text) n a
+    → Gives (read (placed e0) a) t b → Gives (read (counted e0) b) c rest → Gives (read (some_delay e0) text) (delay_of n t c) rest
 unfolding some_delay
-some_delay_gives text a rest n t x y =
-    made_gives (λ x. delay_of x.0 x.1) (seq name (placed e0)) text (n, t) rest (seq_gives name (placed e0) text a rest n t x y)
+some_delay_gives text a b rest n t c x y z =
+    made_gives (λ x. delay_of x.0 x.1.0 x.1.1) (seq name (seq (placed e0) (counted e0))) text (n, (t, c)) rest
+    (seq_gives name (seq (placed e0) (counted e0)) text a rest n (t, c) x (seq_gives (placed e0) (counted e0) a b rest t c y z))
 
 -- ---- pauses
 

@@ -15,7 +15,7 @@ use Rattle.extended_drafts.specs.declared.draft.DraftRows.{DraftRows}
 use Rattle.extended_drafts.specs.ExtendedText.{item_first, item_value, last_value, typed, signalled, bare_signal, plain_body, worded_body, plain, worded, item}
 use Rattle.extended_drafts.specs.ExtendedText.{combining_signs, combining, combined, becoming, emitting, effect_end, effect, next_effect, some_effects}
 use Rattle.extended_drafts.specs.ExtendedText.{effects, deed, last_effects, entry, entry_first}
-use Rattle.extended_drafts.specs.ExtendedText.{some_delay, at_once, waiting, pause, pause_first, tested, termination}
+use Rattle.extended_drafts.specs.ExtendedText.{some_count, counted, some_delay, at_once, waiting, pause, pause_first, tested, termination}
 use Rattle.extended_drafts.specs.ExtendedText.{transition, transitions, leaving, Inner, NoMore, Nested, rowed, bare, nested, inside, simple, acting, body}
 use Rattle.extended_drafts.specs.ExtendedText.{state, region, within, parts, extended, extended_text}
 
@@ -140,11 +140,19 @@ module _ (e : Grows Phrase) (h : IsExpression e) where
       refl)
       refl)
 
-  pub some_delay_is : Shaped (some_delay e) false (AName ∷ []) expression_tails
-  unfolding some_delay
-  some_delay_is = shaped_made _ _ _ _ _ _ _ (shaped_seq _ _ _ _ _ _ _ _ _ _ name_is (placed_is e h) refl)
+  pub some_count_is : Shaped (some_count e) false (AName ∷ []) expression_tails
+  unfolding some_count
+  some_count_is = shaped_made _ _ _ _ _ _ _ (shaped_seq _ _ _ _ _ _ _ _ _ _ name_is (placed_is e h) refl)
 
-  pub either_is : Shaped (either at_once (waiting e)) false pause_first expression_tails
+  pub some_delay_is : Shaped (some_delay e) false (AName ∷ []) (AName ∷ expression_tails)
+  unfolding some_delay counted
+  some_delay_is =
+      shaped_made _ _ _ _ _ _ _
+      (shaped_seq _ _ _ _ _ _ _ _ _ _ name_is
+      (shaped_seq _ _ _ _ _ _ _ _ _ _ (placed_is e h) (shaped_maybe _ _ _ _ some_count_is) refl)
+      refl)
+
+  pub either_is : Shaped (either at_once (waiting e)) false pause_first (AName ∷ expression_tails)
   unfolding at_once waiting
   either_is = shaped_either _ _ _ _ _ _ _ at_once_is (shaped_made _ _ _ _ _ _ _ some_delay_is) refl
 

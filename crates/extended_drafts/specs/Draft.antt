@@ -30,6 +30,7 @@ use Rattle.extended_drafts.specs.declared.draft.EffectEnd.{EffectEnd}
 use Rattle.extended_drafts.specs.declared.draft.EffectEnd.TheVariants as ends
 use Rattle.extended_drafts.specs.declared.draft.DraftEntry.{DraftEntry}
 use Rattle.extended_drafts.specs.declared.draft.StateActions.{StateActions}
+use Rattle.extended_drafts.specs.declared.draft.DraftCount.{DraftCount}
 use Rattle.extended_drafts.specs.declared.draft.DraftDelay.{DraftDelay}
 use Rattle.extended_drafts.specs.declared.draft.DraftRows.{DraftRows}
 use Rattle.extended_drafts.specs.declared.draft.StateBody.{StateBody}
@@ -97,8 +98,12 @@ has_join transitions = list_any (λ t. is_join t.kind) transitions
 abbrev pub actions_of : Bool → List DraftEntry → List DraftTransition → StateActions
 actions_of is_final entries transitions = record { entries = entries; may_last = not (is_final || has_join transitions) }
 
-abbrev pub delay_of : Named → TextExpression → DraftDelay
-delay_of word ticks = record { word = Some word; until = ticks }
+abbrev pub count_of : Named → TextExpression → DraftCount
+count_of word condition = record { word = word; condition = condition }
+
+-- so many ticks, of all or of those of a count
+abbrev pub delay_of : Named → TextExpression → Option DraftCount → DraftDelay
+delay_of word ticks count = record { word = Some word; until = ticks; count = count }
 
 -- when a transition that stands so is tested first: at once, behind some ticks, or in the next tick
 abbrev pub or_next : Option (Bool × Option DraftDelay) → Bool × Option DraftDelay
@@ -110,7 +115,7 @@ delayed moment pause trigger deed = (transition_of moment pause.0 trigger deed.0
 
 -- the trigger of a termination, which has no word before it
 abbrev pub hold_of : TextExpression → DraftDelay
-hold_of trigger = record { word = None; until = trigger }
+hold_of trigger = record { word = None; until = trigger; count = None }
 
 abbrev pub ended : TransitionKind × ℕ → Option TextExpression → List DraftEffect × Named → DraftTransition × Option DraftDelay
 ended moment trigger deed = (transition_of moment false None deed.0 deed.1, option_map hold_of trigger)

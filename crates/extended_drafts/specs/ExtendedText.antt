@@ -12,7 +12,7 @@
 --   inside      = [ region { region } ] { transition } "}"
 --   transition  = ( "go" | "strong" | "weak" ) [ "immediate" | delay ] [ "if" expression ] [ effects ] "->" name ";"
 --               | "join" [ "if" expression ] [ effects ] "->" name ";"
---   delay       = word expression
+--   delay       = word expression [ word expression ]
 --   effects     = "do" effect { "," effect }
 --   effect      = name ( "=" expression | ( "+" | "-" | "*" ) "=" expression | name )
 use Rattle.std.specs.Prelude.{ℕ, zero, suc, ◌+◌, Bool, true, false, Option, Some, None, List, [], ◌∷◌}
@@ -39,12 +39,13 @@ use Rattle.extended_drafts.specs.declared.draft.Combination.{Combination}
 use Rattle.extended_drafts.specs.declared.draft.EffectEnd.{EffectEnd}
 use Rattle.extended_drafts.specs.declared.draft.EffectEnd.TheVariants as ends
 use Rattle.extended_drafts.specs.declared.draft.DraftEntry.{DraftEntry}
+use Rattle.extended_drafts.specs.declared.draft.DraftCount.{DraftCount}
 use Rattle.extended_drafts.specs.declared.draft.DraftDelay.{DraftDelay}
 use Rattle.extended_drafts.specs.declared.draft.DraftRows.{DraftRows}
 use Rattle.extended_drafts.specs.declared.draft.StateBody.{StateBody}
 use Rattle.extended_drafts.specs.declared.draft.ExtendedDraft.{ExtendedDraft}
-use Rattle.extended_drafts.specs.Draft.{typed_body, signal_body, plain_item, worded_item, combined_by, combination, effect_with, entry_of, delay_of, or_next}
-use Rattle.extended_drafts.specs.Draft.{delayed, ended, no_rows}
+use Rattle.extended_drafts.specs.Draft.{typed_body, signal_body, plain_item, worded_item, combined_by, combination, effect_with, entry_of, count_of, delay_of}
+use Rattle.extended_drafts.specs.Draft.{or_next, delayed, ended, no_rows}
 use Rattle.extended_drafts.specs.Draft.{gathered, parted, body_of, state_with, region_with, draft_of}
 
 -- ---- items
@@ -151,8 +152,15 @@ entry e =
 abbrev pub entry_first : List Class
 entry_first = TheWord word.Immediate ∷ AName ∷ []
 
+-- behind the ticks, the condition of which they are counted
+unfoldable pub some_count : Grows Phrase → Grows DraftCount
+some_count e = made (λ x. count_of x.0 x.1) (seq name (placed e))
+
+unfoldable pub counted : Grows Phrase → Grows (Option DraftCount)
+counted e = maybe (some_count e)
+
 unfoldable pub some_delay : Grows Phrase → Grows DraftDelay
-some_delay e = made (λ x. delay_of x.0 x.1) (seq name (placed e))
+some_delay e = made (λ x. delay_of x.0 x.1.0 x.1.1) (seq name (seq (placed e) (counted e)))
 
 unfoldable pub at_once : Grows (Bool × Option DraftDelay)
 at_once = made (λ t. (true, None)) (one (the_word word.Immediate))

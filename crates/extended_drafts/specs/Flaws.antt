@@ -26,6 +26,7 @@ use Rattle.chart_drafts.specs.Flaws.{chart_flaws, effect_flaws, trigger_flaws}
 use Rattle.extended_drafts.specs.declared.draft.DraftItem.{DraftItem}
 use Rattle.extended_drafts.specs.declared.draft.DraftEntry.{DraftEntry}
 use Rattle.extended_drafts.specs.declared.draft.StateActions.{StateActions}
+use Rattle.extended_drafts.specs.declared.draft.DraftCount.{DraftCount}
 use Rattle.extended_drafts.specs.declared.draft.DraftDelay.{DraftDelay}
 use Rattle.extended_drafts.specs.declared.draft.ExtendedDraft.{ExtendedDraft}
 
@@ -180,9 +181,14 @@ abbrev pub until_flaws : List Declaration → Option Named → TextExpression �
 until_flaws variables None e = expression_flaws variables (Some kind.Bool) e
 until_flaws variables (Some word) e = word_flaws (codes "after") word ++ expression_flaws variables (Some kind.Int) e
 
+-- a condition of which ticks are counted
+abbrev pub count_flaws : List Declaration → Option DraftCount → List Flaw
+count_flaws variables None = []
+count_flaws variables (Some c) = word_flaws (codes "of") c.word ++ expression_flaws variables (Some kind.Bool) c.condition
+
 abbrev pub delay_flaws : List Declaration → Option DraftDelay → List Flaw
 delay_flaws variables None = []
-delay_flaws variables (Some d) = until_flaws variables d.word d.until
+delay_flaws variables (Some d) = until_flaws variables d.word d.until ++ count_flaws variables d.count
 
 -- ---- names: two underscores inside are of names that reductions make
 

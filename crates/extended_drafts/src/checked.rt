@@ -2,7 +2,7 @@
 
 ghost use Rattle.std.specs.Prelude.{◌≡◌, None, IfOk, IfErr, OnOk};
 ghost use Rattle.drafts.specs.Told.{told_behind, told_of};
-ghost use Rattle.drafts.specs.Inside.{first_behind};
+ghost use Rattle.drafts.specs.First.{first_behind};
 ghost use Rattle.extended_drafts.specs.Flaws.{new_flaws, extended_flaws};
 ghost use Rattle.extended_drafts.specs.Checked.{IsSound, IsTextFault};
 

@@ -61,11 +61,20 @@ pub struct StateActions {
     pub may_last: bool,
 }
 
-/// What a transition waits for: so many ticks, behind a word; or, of a termination, its trigger, without one.
+/// A condition of which ticks are counted, behind a word.
+#[derive(Debug, Drop)]
+pub struct DraftCount {
+    pub word: Named,
+    pub condition: TextExpression,
+}
+
+/// What a transition waits for: so many ticks, behind a word, all or those in which a condition is true; or, of a
+/// termination, its trigger, without a word.
 #[derive(Debug, Drop)]
 pub struct DraftDelay {
     pub word: Option<Named>,
     pub until: TextExpression,
+    pub count: Option<DraftCount>,
 }
 
 /// What is new in states and transitions: a row of actions for each state, in the order in which states begin in the

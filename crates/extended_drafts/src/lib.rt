@@ -20,8 +20,8 @@ mod words;
 
 pub use checked::{extended_told_flaws, read_checked_extended};
 pub use draft::{
-    Combination, DraftDelay, DraftEntry, DraftItem, DraftRows, EffectEnd, ExtendedDraft, ItemBody,
-    StateActions, StateBody,
+    Combination, DraftCount, DraftDelay, DraftEntry, DraftItem, DraftRows, EffectEnd,
+    ExtendedDraft, ItemBody, StateActions, StateBody,
 };
 pub use laws::{extended_drafts_are_shaped, extended_texts_are_told};
 pub use whole::read_extended_draft;

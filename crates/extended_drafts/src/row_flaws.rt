@@ -4,9 +4,9 @@ ghost use Rattle.std.specs.Prelude.{◌≡◌, OnOk, map};
 ghost use Rattle.drafts.specs.Told.{told_behind};
 ghost use Rattle.chart_drafts.specs.Flaws.{trigger_flaws};
 ghost use Rattle.extended_drafts.specs.Flaws.{joined, is_action_word, action_word_flaws, during_flaws, made_flaws};
-ghost use Rattle.extended_drafts.specs.Flaws.{entry_flaws, entries_flaws, until_flaws, delay_flaws};
+ghost use Rattle.extended_drafts.specs.Flaws.{entry_flaws, entries_flaws, until_flaws, count_flaws, delay_flaws};
 
-use crate::draft::{DraftDelay, DraftEntry, StateActions};
+use crate::draft::{DraftCount, DraftDelay, DraftEntry, StateActions};
 use crate::emission_flaws::emissions_flaws;
 use crate::item_flaws::word_flaws;
 use chart_drafts::effect_flaws;
@@ -167,6 +167,7 @@ pub(crate) fn delays_flaws(
     Ok(())
 }
 
+#[tactic(auto, using(drafts::proofs::ToldInOrder::told_both))]
 fn delay_flaws(
     alloc: Global,
     scope: &Scope,
@@ -177,7 +178,30 @@ fn delay_flaws(
         (delay_flaws scope.now.variables.now delay.now)) }
 {
     match delay {
-        Some(delay) => until_flaws(alloc, scope, delay.word, &delay.until, found),
+        Some(delay) => {
+            until_flaws(alloc, scope, delay.word, &delay.until, found)?;
+            count_flaws(alloc, scope, &delay.count, found)
+        }
+        None => Ok(()),
+    }
+}
+
+// The flaws of a condition of which ticks are counted.
+#[tactic(auto, using(drafts::proofs::ToldInOrder::told_both))]
+fn count_flaws(
+    alloc: Global,
+    scope: &Scope,
+    count: &Option<DraftCount>,
+    found: &mut Items<Flaw>,
+) -> Result<(), AllocError>
+    ensures { OnOk result (found.new ≡ told_behind found.old
+        (count_flaws scope.now.variables.now count.now)) }
+{
+    match count {
+        Some(count) => {
+            word_flaws(alloc, "of", count.word, found)?;
+            scope.tell_expression(alloc, Some(Kind::Bool), &count.condition, found)
+        }
         None => Ok(()),
     }
 }

@@ -7,10 +7,10 @@ ghost use Rattle.sc_text.specs.Reading.{Stops};
 ghost use Rattle.chart_drafts.specs.ChartText.{transition_first};
 ghost use Rattle.chart_drafts.specs.Phrase.{Gives};
 ghost use Rattle.extended_drafts.specs.Draft.{hold_of};
-ghost use Rattle.extended_drafts.specs.ExtendedText.{some_delay, pause, tested, termination, transition, transitions};
-ghost use Rattle.extended_drafts.specs.ExtendedText.{leaving};
+ghost use Rattle.extended_drafts.specs.ExtendedText.{some_count, counted, some_delay, pause, tested, termination};
+ghost use Rattle.extended_drafts.specs.ExtendedText.{transition, transitions, leaving};
 
-use crate::draft::DraftDelay;
+use crate::draft::{DraftCount, DraftDelay};
 use crate::effects::deed;
 use crate::words::{join_word, name_follows};
 use chart_drafts::DraftTransition;
@@ -31,10 +31,37 @@ fn some_delay(alloc: Global, ahead: &mut Ahead, end: usize) -> Result<DraftDelay
 {
     let word = name(ahead, end)?;
     let until = placed(alloc, ahead, end)?;
+    let count = counted(alloc, ahead, end)?;
     Ok(DraftDelay {
         word: Some(word),
         until,
+        count,
     })
+}
+
+// The condition of which ticks are counted, where there is one.
+#[tactic(auto, using(crate::proofs::Pieces::count_missing, crate::proofs::Pieces::count_there, crate::proofs::Pieces::count_stops))]
+fn counted(alloc: Global, ahead: &mut Ahead, end: usize) -> Result<Option<DraftCount>, ReadFault>
+    ensures { MatchResult result
+        (λ x. Gives (read (counted (expression 0)) ahead.old.tokens.now) x ahead.new.tokens.now)
+        (λ fault. Stops end (read (counted (expression 0)) ahead.old.tokens.now) fault) }
+{
+    if !name_follows(ahead.tokens) {
+        return Ok(None);
+    }
+    let count = some_count(alloc, ahead, end)?;
+    Ok(Some(count))
+}
+
+#[tactic(auto, using(crate::proofs::Pieces::some_count_gives, chart_drafts::proofs::Parts::made_stops, chart_drafts::proofs::Parts::seq_stops_first, chart_drafts::proofs::Parts::seq_stops_second), unfolding(crate::specs::ExtendedText::some_count))]
+fn some_count(alloc: Global, ahead: &mut Ahead, end: usize) -> Result<DraftCount, ReadFault>
+    ensures { MatchResult result
+        (λ x. Gives (read (some_count (expression 0)) ahead.old.tokens.now) x ahead.new.tokens.now)
+        (λ fault. Stops end (read (some_count (expression 0)) ahead.old.tokens.now) fault) }
+{
+    let word = name(ahead, end)?;
+    let condition = placed(alloc, ahead, end)?;
+    Ok(DraftCount { word, condition })
 }
 
 // Whether a transition is tested at once, and what it waits for.
@@ -89,7 +116,11 @@ fn hold_of(trigger: Option<TextExpression>) -> Option<DraftDelay>
     ensures { result ≡ option_map hold_of trigger }
 {
     match trigger {
-        Some(until) => Some(DraftDelay { word: None, until }),
+        Some(until) => Some(DraftDelay {
+            word: None,
+            until,
+            count: None,
+        }),
         None => None,
     }
 }

@@ -1,6 +1,7 @@
 -- What the draft of an extended chart keeps where nothing is wrong with it.
 use Rattle.std.proofs.Common.{◌≡◌, ◌≤◌, ℕ, Option, List, [], length, map, refl, ap, sym, subst, ◌∙◌}
 use Rattle.std.proofs.lemmas.List.{length-map}
+use Rattle.sc_values.specs.declared.expression.Expr.{Expr}
 use Rattle.sc_graph.specs.Limits.{variable_limit}
 use Rattle.drafts.specs.declared.parts.Declaration.{Declaration}
 use Rattle.drafts.specs.Flaws.{variable_names}
@@ -22,6 +23,7 @@ use Rattle.extended_charts.specs.declared.extended.Constant.{Constant}
 use Rattle.extended_charts.specs.declared.extended.ExtendedChart.{ExtendedChart}
 use Rattle.extended_charts.specs.declared.extended.ExtendedRegion.{ExtendedRegion}
 use Rattle.extended_reader.specs.declared.sorts.Sort.TheVariants as sort
+use Rattle.extended_reader.specs.Counts.{conditions}
 use Rattle.extended_reader.specs.Items.{all_of, sorted, declarations, names_of, declared_of, signal_numbers, before_of, constant_of}
 use Rattle.extended_reader.specs.Resolved.{all_regions, region_of, extended_of}
 use Rattle.extended_reader.proofs.Sorted.{sorted_length}
@@ -57,27 +59,34 @@ module _ (d : ExtendedDraft) (I : List DraftItem) (V : List Declaration) (E : Li
       ∙ ap (λ n. all_regions d.rows (map (region_of n) T)) names_are
       ∙ ap (λ t. all_regions d.rows (map (region_of (names_of d.items)) t)) of_T
 
-  abbrev chart_with : List Declared → List ℕ → List ℕ → List Constant → List ExtendedRegion → ExtendedChart
-  chart_with variables signals befores constants regions = record {
+  abbrev chart_with : List Declared → List ℕ → List ℕ → List Constant → List Expr → List ExtendedRegion → ExtendedChart
+  chart_with variables signals befores constants counts regions = record {
     name = d.core.named.name;
     variables = variables;
     signals = signals;
     befores = befores;
     constants = constants;
+    counts = counts;
     regions = regions;
   }
 
-  pub chart_is : (v : List Declared) (s b : List ℕ) (c : List Constant) (r : List ExtendedRegion) → v ≡ map declared_of (all_of sort.Variable I)
+  pub chart_is : (v : List Declared) (s b : List ℕ) (c : List Constant) (o : List Expr) (r : List ExtendedRegion)
+      → v ≡ map declared_of (all_of sort.Variable I)
       → s ≡ signal_numbers (variable_names V) I → b ≡ map (before_of (variable_names V)) (all_of sort.Before I)
-      → c ≡ map constant_of (all_of sort.Constant I) → r ≡ all_regions (record { entries = E; delays = D }) (map (region_of (variable_names V)) T)
-      → chart_with v s b c r ≡ extended_of d
-  chart_is v s b c r of_v of_s of_b of_c of_r =
-      ap (λ x. chart_with x s b c r) (of_v ∙ ap (λ x. map declared_of (all_of sort.Variable x)) of_I)
-      ∙ ap (λ x. chart_with (map declared_of (all_of sort.Variable d.items)) x b c r)
+      → c ≡ map constant_of (all_of sort.Constant I) → o ≡ conditions (variable_names V) D
+      → r ≡ all_regions (record { entries = E; delays = D }) (map (region_of (variable_names V)) T)
+      → chart_with v s b c o r ≡ extended_of d
+  chart_is v s b c o r of_v of_s of_b of_c of_o of_r =
+      ap (λ x. chart_with x s b c o r) (of_v ∙ ap (λ x. map declared_of (all_of sort.Variable x)) of_I)
+      ∙ ap (λ x. chart_with (map declared_of (all_of sort.Variable d.items)) x b c o r)
       (of_s ∙ ap (λ n. signal_numbers n I) names_are ∙ ap (signal_numbers (names_of d.items)) of_I)
-      ∙ ap (λ x. chart_with (map declared_of (all_of sort.Variable d.items)) (signal_numbers (names_of d.items) d.items) x c r)
+      ∙ ap (λ x. chart_with (map declared_of (all_of sort.Variable d.items)) (signal_numbers (names_of d.items) d.items) x c o r)
       (of_b ∙ ap (λ n. map (before_of n) (all_of sort.Before I)) names_are ∙ ap (λ x. map (before_of (names_of d.items)) (all_of sort.Before x)) of_I)
       ∙ ap (λ x. chart_with (map declared_of (all_of sort.Variable d.items)) (signal_numbers (names_of d.items) d.items)
-      (map (before_of (names_of d.items)) (all_of sort.Before d.items)) x r) (of_c ∙ ap (λ x. map constant_of (all_of sort.Constant x)) of_I)
+      (map (before_of (names_of d.items)) (all_of sort.Before d.items)) x o r) (of_c ∙ ap (λ x. map constant_of (all_of sort.Constant x)) of_I)
       ∙ ap (λ x. chart_with (map declared_of (all_of sort.Variable d.items)) (signal_numbers (names_of d.items) d.items)
-      (map (before_of (names_of d.items)) (all_of sort.Before d.items)) (map constant_of (all_of sort.Constant d.items)) x) (of_r ∙ regions_are)
+      (map (before_of (names_of d.items)) (all_of sort.Before d.items)) (map constant_of (all_of sort.Constant d.items)) x r)
+      (of_o ∙ ap (λ n. conditions n D) names_are ∙ ap (conditions (names_of d.items)) of_D)
+      ∙ ap (λ x. chart_with (map declared_of (all_of sort.Variable d.items)) (signal_numbers (names_of d.items) d.items)
+      (map (before_of (names_of d.items)) (all_of sort.Before d.items)) (map constant_of (all_of sort.Constant d.items))
+      (conditions (names_of d.items) d.rows.delays) x) (of_r ∙ regions_are)

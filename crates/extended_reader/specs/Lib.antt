@@ -1,4 +1,5 @@
 pub mod Items
+pub mod Counts
 pub mod Resolved
 pub mod Read
 pub mod Inside

@@ -1,6 +1,7 @@
 -- Which extended chart a draft is once its names are looked up. What stands among the variables is named by its place there,
 -- sorted, and the target of a transition by its place among the states of the region. Each state takes the first row of
--- actions that is left, before what is in it, and each transition the first delay, behind what is in its state.
+-- actions that is left, before what is in it, and each transition the first delay, behind what is in its state; and its count is
+-- the first of those that are left.
 use Rattle.std.specs.Prelude.{ℕ, true, Option, Some, None, List, [], ◌∷◌, ◌++◌, map, codes, option_map, if◌then◌else◌}
 use Rattle.std.specs.Str.{bytes_eq}
 use Rattle.sc_values.specs.declared.operator.BinaryOperator.TheVariants as operator
@@ -19,6 +20,7 @@ use Rattle.chart_drafts.specs.declared.draft.DraftState.{DraftState}
 use Rattle.chart_reader.specs.Resolved.{effect_of, transition_of}
 use Rattle.extended_drafts.specs.declared.draft.DraftEntry.{DraftEntry}
 use Rattle.extended_drafts.specs.declared.draft.StateActions.{StateActions}
+use Rattle.extended_drafts.specs.declared.draft.DraftCount.{DraftCount}
 use Rattle.extended_drafts.specs.declared.draft.DraftDelay.{DraftDelay}
 use Rattle.extended_drafts.specs.declared.draft.DraftRows.{DraftRows}
 use Rattle.extended_drafts.specs.declared.draft.ExtendedDraft.{ExtendedDraft}
@@ -29,6 +31,7 @@ use Rattle.extended_charts.specs.declared.extended.ExtendedState.{ExtendedState}
 use Rattle.extended_charts.specs.declared.extended.ExtendedRegion.TheViews.{roll-ExtendedRegion, roll-ExtendedState}
 use Rattle.extended_charts.specs.Reading.{elapsed}
 use Rattle.extended_reader.specs.declared.sorts.Sort.TheVariants as sort
+use Rattle.extended_reader.specs.Counts.{first_number, conditions, counted}
 use Rattle.extended_reader.specs.Items.{all_of, names_of, declared_of, signal_numbers, before_of, constant_of}
 
 -- ---- actions, over what has these names
@@ -60,38 +63,43 @@ durings_of names (e ∷ entries) =
 
 -- ---- transitions
 
--- so many ticks went by since the state was entered
-abbrev pub waited : (names : List (List ℕ)) → TextExpression → Expr
-waited names ticks = expr.Binary operator.GreaterOrEqual (expr.Load elapsed) (condition_of names ticks)
+-- so many ticks went by since the state was entered, all or those of a count, which is the first of those that are left
+abbrev pub waited : (names : List (List ℕ)) → (left : List (Option DraftDelay)) → (ticks : Expr) → Option DraftCount → Expr
+waited names left ticks None = expr.Binary operator.GreaterOrEqual (expr.Load elapsed) ticks
+waited names left ticks (Some c) = counted (first_number left) (condition_of names c.condition) ticks
+
+abbrev pub waited_by : (names : List (List ℕ)) → (left : List (Option DraftDelay)) → DraftDelay → Expr
+waited_by names left d = waited names left (condition_of names d.until) d.count
 
 -- the trigger of a transition that waits so many ticks
-abbrev pub waited_trigger : (names : List (List ℕ)) → TextExpression → Option TextExpression → Option Expr
-waited_trigger names ticks None = Some (waited names ticks)
-waited_trigger names ticks (Some e) = Some (expr.Binary operator.And (waited names ticks) (condition_of names e))
+abbrev pub waited_trigger : (names : List (List ℕ)) → (left : List (Option DraftDelay)) → DraftDelay → Option TextExpression → Option Expr
+waited_trigger names left d None = Some (waited_by names left d)
+waited_trigger names left d (Some e) = Some (expr.Binary operator.And (waited_by names left d) (condition_of names e))
 
 -- the trigger of one that waits for this: ticks behind a word, and the trigger of a termination behind none
-abbrev pub until_trigger : (names : List (List ℕ)) → Option Named → TextExpression → Option TextExpression → Option Expr
-until_trigger names None until t = Some (condition_of names until)
-until_trigger names (Some word) until t = waited_trigger names until t
+abbrev pub until_trigger : (names : List (List ℕ)) → (left : List (Option DraftDelay)) → Option Named → DraftDelay → Option TextExpression → Option Expr
+until_trigger names left None d t = Some (condition_of names d.until)
+until_trigger names left (Some word) d t = waited_trigger names left d t
 
 -- the trigger of a transition that waits, or not
-abbrev pub trigger_of : (names : List (List ℕ)) → Option DraftDelay → Option TextExpression → Option Expr
-trigger_of names None t = option_map (condition_of names) t
-trigger_of names (Some d) t = until_trigger names d.word d.until t
+abbrev pub trigger_of : (names : List (List ℕ)) → (left : List (Option DraftDelay)) → Option DraftDelay → Option TextExpression → Option Expr
+trigger_of names left None t = option_map (condition_of names) t
+trigger_of names left (Some d) t = until_trigger names left d.word d t
 
--- of a state of a region, whose states have these names
-abbrev pub delayed_transition : (names states : List (List ℕ)) → Option DraftDelay → DraftTransition → Transition
-delayed_transition names states d t = record (transition_of names states t) { trigger = trigger_of names d t.trigger }
+abbrev pub first_delay : List (Option DraftDelay) → Option DraftDelay
+first_delay [] = None
+first_delay (d ∷ delays) = d
+
+-- of a state of a region, whose states have these names, where these delays are left
+abbrev pub delayed_transition : (names states : List (List ℕ)) → (left : List (Option DraftDelay)) → DraftTransition → Transition
+delayed_transition names states left t =
+    record (transition_of names states t) { trigger = trigger_of names left (first_delay left) t.trigger }
 
 -- ---- rows
 
 abbrev pub first_actions : List StateActions → List DraftEntry
 first_actions [] = []
 first_actions (own ∷ entries) = own.entries
-
-abbrev pub first_delay : List (Option DraftDelay) → Option DraftDelay
-first_delay [] = None
-first_delay (d ∷ delays) = d
 
 abbrev pub behind_first : {A : Type 0} → List A → List A
 behind_first [] = []
@@ -120,7 +128,7 @@ pub record StatePiece : Type 0 where
 abbrev pub all_transitions : (names states : List (List ℕ)) → DraftRows → List DraftTransition → List Transition
 all_transitions names states rows [] = []
 all_transitions names states rows (t ∷ transitions) =
-    delayed_transition names states (first_delay rows.delays) t ∷ all_transitions names states (behind_transition rows) transitions
+    delayed_transition names states rows.delays t ∷ all_transitions names states (behind_transition rows) transitions
 
 abbrev pub behind_transitions : DraftRows → List DraftTransition → DraftRows
 behind_transitions rows [] = rows
@@ -187,5 +195,6 @@ extended_of d =
       signals = signal_numbers (names_of d.items) d.items;
       befores = map (before_of (names_of d.items)) (all_of sort.Before d.items);
       constants = map constant_of (all_of sort.Constant d.items);
+      counts = conditions (names_of d.items) d.rows.delays;
       regions = all_regions d.rows (map (region_of (names_of d.items)) d.core.regions);
     }

@@ -5,6 +5,7 @@ ghost use Rattle.extended_drafts.specs.Flaws.{extended_flaws};
 ghost use Rattle.extended_drafts.specs.Shape.{IsExtendedShaped};
 ghost use Rattle.extended_reader.specs.Resolved.{extended_of};
 
+use crate::counts::conditions;
 use crate::items::{befores, constants, signal_numbers, variables};
 use crate::regions::regions;
 use crate::rows::RowsLeft;
@@ -26,9 +27,10 @@ pub fn extended_of(alloc: Global, draft: &ExtendedDraft) -> Result<ExtendedChart
     let items = draft.items.as_slice();
     let declared = sorted(alloc, items)?;
     let scope = Scope::of(alloc, declared.as_slice())?;
+    let delays = draft.rows.delays.as_slice();
     let mut rows = RowsLeft {
         entries: draft.rows.entries.as_slice(),
-        delays: draft.rows.delays.as_slice(),
+        delays,
     };
     let texts = draft.core.regions.as_slice();
     let regions = regions(alloc, &scope, &mut rows, DEPTH_LIMIT, texts)?;
@@ -38,6 +40,7 @@ pub fn extended_of(alloc: Global, draft: &ExtendedDraft) -> Result<ExtendedChart
         signals: signal_numbers(alloc, &scope, items)?,
         befores: befores(alloc, &scope, items)?,
         constants: constants(alloc, items)?,
+        counts: conditions(alloc, &scope, delays)?,
         regions,
     })
 }

@@ -4,6 +4,7 @@
 
 mod actions;
 mod chart;
+mod counts;
 mod items;
 mod laws;
 mod read;

@@ -2,7 +2,7 @@
 
 ghost use Rattle.std.specs.Prelude.{◌≡◌, ◌≤◌, IfOk, length};
 ghost use Rattle.core_charts.specs.Rules.{state_text_limit};
-ghost use Rattle.drafts.specs.Inside.{IsIndex};
+ghost use Rattle.drafts.specs.Index.{IsIndex};
 ghost use Rattle.drafts.specs.Resolved.{number_of};
 ghost use Rattle.chart_drafts.specs.Flaws.{state_names};
 

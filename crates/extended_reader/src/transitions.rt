@@ -8,13 +8,15 @@ ghost use Rattle.extended_reader.specs.Inside.{rows_in};
 ghost use Rattle.extended_reader.specs.Resolved.{waited, waited_trigger, until_trigger, trigger_of, delayed_transition};
 ghost use Rattle.extended_reader.specs.Resolved.{all_transitions, behind_transition, behind_transitions, first_delay};
 
+use crate::counts::{at_least, counted, first_number};
 use crate::rows::RowsLeft;
 use crate::states::StateScope;
 use chart_drafts::DraftTransition;
 use chart_reader::{effects, trigger};
 use core_charts::Transition;
-use drafts::{Named, Scope, TextExpression};
+use drafts::{Scope, TextExpression};
 use extended_charts::ELAPSED;
+use extended_drafts::{DraftCount, DraftDelay};
 use sc_values::{BinaryOperator, Expr};
 use sqlite_items::{Boxed, Items};
 use std::alloc::{AllocError, Global};
@@ -50,7 +52,7 @@ fn transition(
 ) -> Result<Transition, AllocError>
     requires { length scope.now.variables.now ≤ variable_limit }
     ensures made { IfOk result (λ one. one ≡ delayed_transition (variable_names scope.now.variables.now)
-        (state_names states.now.states.now) (first_delay rows.old.delays.now) text.now) }
+        (state_names states.now.states.now) rows.old.delays.now text.now) }
     ensures left { OnOk result (rows_in rows.new ≡ behind_transition (rows_in rows.old)) }
 {
     Ok(Transition {
@@ -71,13 +73,14 @@ fn next_trigger(
 ) -> Result<Option<Expr>, AllocError>
     requires { length scope.now.variables.now ≤ variable_limit }
     ensures made { IfOk result (λ one. one ≡ trigger_of (variable_names scope.now.variables.now)
-        (first_delay rows.old.delays.now) text.now) }
+        rows.old.delays.now (first_delay rows.old.delays.now) text.now) }
     ensures left { OnOk result (rows_in rows.new ≡ behind_transition (rows_in rows.old)) }
 {
-    match rows.delays {
+    let left = rows.delays;
+    match left {
         [Some(delay), behind @ ..] => {
             rows.delays = behind;
-            until_trigger(alloc, scope, delay.word, &delay.until, text)
+            until_trigger(alloc, scope, left, delay, text)
         }
         [None, behind @ ..] => {
             rows.delays = behind;
@@ -91,17 +94,17 @@ fn next_trigger(
 fn until_trigger(
     alloc: Global,
     scope: &Scope,
-    word: Option<Named>,
-    until: &TextExpression,
+    left: &[Option<DraftDelay>],
+    delay: &DraftDelay,
     text: &Option<TextExpression>,
 ) -> Result<Option<Expr>, AllocError>
     requires { length scope.now.variables.now ≤ variable_limit }
     ensures { IfOk result (λ one. one ≡
-        until_trigger (variable_names scope.now.variables.now) word until.now text.now) }
+        until_trigger (variable_names scope.now.variables.now) left.now delay.now.word delay.now text.now) }
 {
-    match word {
-        Some(_) => waited_trigger(alloc, scope, until, text),
-        None => Ok(Some(scope.resolved(alloc, until)?)),
+    match delay.word {
+        Some(_) => waited_trigger(alloc, scope, left, delay, text),
+        None => Ok(Some(scope.resolved(alloc, &delay.until)?)),
     }
 }
 
@@ -109,14 +112,16 @@ fn until_trigger(
 fn waited_trigger(
     alloc: Global,
     scope: &Scope,
-    ticks: &TextExpression,
+    left: &[Option<DraftDelay>],
+    delay: &DraftDelay,
     text: &Option<TextExpression>,
 ) -> Result<Option<Expr>, AllocError>
     requires { length scope.now.variables.now ≤ variable_limit }
     ensures { IfOk result (λ one. one ≡
-        waited_trigger (variable_names scope.now.variables.now) ticks.now text.now) }
+        waited_trigger (variable_names scope.now.variables.now) left.now delay.now text.now) }
 {
-    let waited = waited(alloc, scope, ticks)?;
+    let ticks = scope.resolved(alloc, &delay.until)?;
+    let waited = waited(alloc, scope, left, ticks, &delay.count)?;
     match text {
         Some(condition) => {
             let condition = scope.resolved(alloc, condition)?;
@@ -128,12 +133,23 @@ fn waited_trigger(
     }
 }
 
-// That so many ticks went by since the state was entered.
-fn waited(alloc: Global, scope: &Scope, ticks: &TextExpression) -> Result<Expr, AllocError>
+// That so many ticks went by since the state was entered, all or those of a count.
+fn waited(
+    alloc: Global,
+    scope: &Scope,
+    left: &[Option<DraftDelay>],
+    ticks: Expr,
+    count: &Option<DraftCount>,
+) -> Result<Expr, AllocError>
     requires { length scope.now.variables.now ≤ variable_limit }
-    ensures { IfOk result (λ one. one ≡ waited (variable_names scope.now.variables.now) ticks.now) }
+    ensures { IfOk result (λ one. one ≡
+        waited (variable_names scope.now.variables.now) left.now ticks count.now) }
 {
-    let elapsed = Boxed::new(alloc, Expr::Load(ELAPSED))?;
-    let ticks = Boxed::new(alloc, scope.resolved(alloc, ticks)?)?;
-    Ok(Expr::Binary(BinaryOperator::GreaterOrEqual, elapsed, ticks))
+    match count {
+        Some(count) => {
+            let condition = scope.resolved(alloc, &count.condition)?;
+            counted(alloc, first_number(left)?, condition, ticks)
+        }
+        None => at_least(alloc, ELAPSED, ticks),
+    }
 }

@@ -1,7 +1,5 @@
 -- The flaws of a text, from its draft, or from the fault for which it has none.
 use Rattle.std.proofs.Common.{◌≡◌, ℕ, List, [], inl, inr}
-use Rattle.sc_text.specs.FirstToken.{IsIn}
-use Rattle.sc_text.specs.declared.language.Language.TheVariants as language
 use Rattle.sc_text.specs.declared.read_fault.FaultKind.{FaultKind}
 use Rattle.sc_text.specs.declared.read_fault.ReadFault.TheVariants as read
 use Rattle.drafts.specs.declared.flaw.Flaw.{Flaw}
@@ -12,21 +10,36 @@ use Rattle.scl_drafts.specs.Draft as programs
 use Rattle.chart_drafts.specs.declared.draft.DraftChart.{DraftChart}
 use Rattle.chart_drafts.specs.Flaws.{chart_flaws}
 use Rattle.chart_drafts.specs.Reading as charts
+use Rattle.extended_drafts.specs.declared.draft.ExtendedDraft.{ExtendedDraft}
+use Rattle.extended_drafts.specs.Flaws.{extended_flaws}
+use Rattle.extended_drafts.specs.Reading as extended
+use Rattle.text_continuations.specs.Continuations.{IsReadBy}
+use Rattle.text_continuations.specs.declared.grammars.Grammar.TheVariants as grammars
 use Rattle.fault_lists.specs.Reports.{AreTold}
 
 module _ (text : List ℕ) (told : List Flaw) where
-  pub chart_told : (draft : DraftChart) → IsIn text language.Chart → charts.IsDraft text draft → told ≡ told_of (chart_flaws draft) → AreTold text told
-  chart_told draft is_in drafted all =
-      record { language = language.Chart; is_in = is_in; are = inl (record { draft = draft; drafted = drafted; all = all }) }
+  pub chart_told : (draft : DraftChart) → IsReadBy text grammars.Chart → charts.IsDraft text draft → told ≡ told_of (chart_flaws draft) → AreTold text told
+  chart_told draft is_by drafted all =
+      record { grammar = grammars.Chart; is_by = is_by; are = inl (record { draft = draft; drafted = drafted; all = all }) }
 
-  pub no_chart : (b : FaultKind) (at : ℕ) → IsIn text language.Chart → charts.IsDraftFault text (read.Text b at) → told ≡ [] → AreTold text told
-  no_chart b at is_in undrafted none =
-      record { language = language.Chart; is_in = is_in; are = inr (record { broken = b; at = at; undrafted = undrafted; none = none }) }
+  pub no_chart : (b : FaultKind) (at : ℕ) → IsReadBy text grammars.Chart → charts.IsDraftFault text (read.Text b at) → told ≡ [] → AreTold text told
+  no_chart b at is_by undrafted none =
+      record { grammar = grammars.Chart; is_by = is_by; are = inr (record { broken = b; at = at; undrafted = undrafted; none = none }) }
 
-  pub program_told : (draft : Draft) → IsIn text language.Scl → programs.IsDraft text draft → told ≡ told_of (scl_flaws draft) → AreTold text told
-  program_told draft is_in drafted all =
-      record { language = language.Scl; is_in = is_in; are = inl (record { draft = draft; drafted = drafted; all = all }) }
+  pub extended_told : (draft : ExtendedDraft) → IsReadBy text grammars.ExtendedChart → extended.IsExtendedDraft text draft
+      → told ≡ told_of (extended_flaws draft) → AreTold text told
+  extended_told draft is_by drafted all =
+      record { grammar = grammars.ExtendedChart; is_by = is_by; are = inl (record { draft = draft; drafted = drafted; all = all }) }
 
-  pub no_program : (b : FaultKind) (at : ℕ) → IsIn text language.Scl → programs.IsDraftFault text (read.Text b at) → told ≡ [] → AreTold text told
-  no_program b at is_in undrafted none =
-      record { language = language.Scl; is_in = is_in; are = inr (record { broken = b; at = at; undrafted = undrafted; none = none }) }
+  pub no_extended : (b : FaultKind) (at : ℕ) → IsReadBy text grammars.ExtendedChart → extended.IsDraftFault text (read.Text b at) → told ≡ []
+      → AreTold text told
+  no_extended b at is_by undrafted none =
+      record { grammar = grammars.ExtendedChart; is_by = is_by; are = inr (record { broken = b; at = at; undrafted = undrafted; none = none }) }
+
+  pub program_told : (draft : Draft) → IsReadBy text grammars.Scl → programs.IsDraft text draft → told ≡ told_of (scl_flaws draft) → AreTold text told
+  program_told draft is_by drafted all =
+      record { grammar = grammars.Scl; is_by = is_by; are = inl (record { draft = draft; drafted = drafted; all = all }) }
+
+  pub no_program : (b : FaultKind) (at : ℕ) → IsReadBy text grammars.Scl → programs.IsDraftFault text (read.Text b at) → told ≡ [] → AreTold text told
+  no_program b at is_by undrafted none =
+      record { grammar = grammars.Scl; is_by = is_by; are = inr (record { broken = b; at = at; undrafted = undrafted; none = none }) }

@@ -2,9 +2,6 @@
 use Rattle.std.specs.Prelude.{ℕ, ◌≡◌, ◌⊎◌, List, [], ◌∷◌, ◌++◌, codes, drop}
 use Rattle.std.specs.Fmt.{decimal}
 use Rattle.sc_text.specs.FaultText.{broken_number}
-use Rattle.sc_text.specs.FirstToken.{IsIn}
-use Rattle.sc_text.specs.declared.language.Language.{Language}
-use Rattle.sc_text.specs.declared.language.Language.TheVariants as language
 use Rattle.sc_text.specs.declared.read_fault.FaultKind.{FaultKind}
 use Rattle.sc_text.specs.declared.read_fault.ReadFault.{ReadFault}
 use Rattle.sc_text.specs.declared.read_fault.ReadFault.TheVariants as read
@@ -16,6 +13,12 @@ use Rattle.scl_drafts.specs.Draft as programs
 use Rattle.chart_drafts.specs.declared.draft.DraftChart.{DraftChart}
 use Rattle.chart_drafts.specs.Flaws.{chart_flaws}
 use Rattle.chart_drafts.specs.Reading as charts
+use Rattle.extended_drafts.specs.declared.draft.ExtendedDraft.{ExtendedDraft}
+use Rattle.extended_drafts.specs.Flaws.{extended_flaws}
+use Rattle.extended_drafts.specs.Reading as extended
+use Rattle.text_continuations.specs.Continuations.{IsReadBy}
+use Rattle.text_continuations.specs.declared.grammars.Grammar.{Grammar}
+use Rattle.text_continuations.specs.declared.grammars.Grammar.TheVariants as grammars
 use Rattle.diagnostics.specs.Reports.{Tells, TellsAt, TellsPlace, text_fault}
 use Rattle.diagnostics.specs.Spots.{place_shown}
 
@@ -27,39 +30,46 @@ AreReports name text (f ∷ flaws) told =
     × TellsAt name (place_shown text f.at) (codes "E0" ++ decimal (broken_number f.broken)) report
     × AreReports name text flaws others × (told ≡ report ++ others)
 
--- the text spells a chart, or an SCL program, and these are the flaws of its draft that are told
+-- the text spells a chart, an extended chart, or an SCL program, and these are the flaws of its draft that are told
 pub record AreOfChart (text : List ℕ) (told : List Flaw) : Type 0 where
   pub draft : DraftChart
   pub drafted : charts.IsDraft text draft
   pub all : told ≡ told_of (chart_flaws draft)
+
+pub record AreOfExtended (text : List ℕ) (told : List Flaw) : Type 0 where
+  pub draft : ExtendedDraft
+  pub drafted : extended.IsExtendedDraft text draft
+  pub all : told ≡ told_of (extended_flaws draft)
 
 pub record AreOfProgram (text : List ℕ) (told : List Flaw) : Type 0 where
   pub draft : Draft
   pub drafted : programs.IsDraft text draft
   pub all : told ≡ told_of (scl_flaws draft)
 
--- so of a text of this language
-abbrev pub AreOfDraft : Language → (text : List ℕ) → List Flaw → Type 0
-AreOfDraft language.Chart text told = AreOfChart text told
-AreOfDraft language.Scl text told = AreOfProgram text told
+-- so of a text of this grammar
+abbrev pub AreOfDraft : Grammar → (text : List ℕ) → List Flaw → Type 0
+AreOfDraft grammars.Chart text told = AreOfChart text told
+AreOfDraft grammars.ExtendedChart text told = AreOfExtended text told
+AreOfDraft grammars.Scl text told = AreOfProgram text told
 
--- why a text of this language has no draft
-abbrev pub IsDraftFault : Language → List ℕ → ReadFault → Type 0
-IsDraftFault language.Chart text f = charts.IsDraftFault text f
-IsDraftFault language.Scl text f = programs.IsDraftFault text f
+-- why a text of this grammar has no draft
+abbrev pub IsDraftFault : Grammar → List ℕ → ReadFault → Type 0
+IsDraftFault grammars.Chart text f = charts.IsDraftFault text f
+IsDraftFault grammars.ExtendedChart text f = extended.IsDraftFault text f
+IsDraftFault grammars.Scl text f = programs.IsDraftFault text f
 
--- a text of this language has no draft, and no flaws are told
-pub record AreNone (l : Language) (text : List ℕ) (told : List Flaw) : Type 0 where
+-- a text of this grammar has no draft, and no flaws are told
+pub record AreNone (g : Grammar) (text : List ℕ) (told : List Flaw) : Type 0 where
   pub broken : FaultKind
   pub at : ℕ
-  pub undrafted : IsDraftFault l text (read.Text broken at)
+  pub undrafted : IsDraftFault g text (read.Text broken at)
   pub none : told ≡ []
 
--- the flaws of a text that are told, in the language that its first token tells
+-- the flaws of a text that are told, by the grammar that its first token tells
 pub record AreTold (text : List ℕ) (told : List Flaw) : Type 0 where
-  pub language : Language
-  pub is_in : IsIn text language
-  pub are : AreOfDraft language text told ⊎ AreNone language text told
+  pub grammar : Grammar
+  pub is_by : IsReadBy text grammar
+  pub are : AreOfDraft grammar text told ⊎ AreNone grammar text told
 
 -- what is told of a text behind its fault: the reports of the flaws that are told, but for the first
 pub record TellsFurther (name text told : List ℕ) : Type 0 where

@@ -1,29 +1,31 @@
-//! The flaws of a text that are told, whichever language it is in.
+//! The flaws of a text that are told, by whichever grammar it is read.
 
 ghost use Rattle.std.specs.Prelude.{IfOk};
-ghost use Rattle.sc_text.specs.declared.language.Language.TheVariants as language;
-ghost use Rattle.sc_text.specs.FirstToken.{IsIn};
 ghost use Rattle.fault_lists.specs.Reports.{AreTold};
+ghost use Rattle.text_continuations.specs.Continuations.{IsReadBy};
+ghost use Rattle.text_continuations.specs.declared.grammars.Grammar.TheVariants as grammars;
 
 use drafts::Flaw;
-use sc_text::{Language, ReadFault, language_of};
+use sc_text::ReadFault;
 use sqlite_items::Items;
 use std::alloc::{AllocError, Global};
+use text_continuations::Grammar;
 
-/// The flaws of the draft that a text spells in the language that its first token tells: the first twenty, in the order
+/// The flaws of the draft that a text spells by the grammar that its first token tells: the first twenty, in the order
 /// of the text. None, where it spells none. Err: memory was refused.
 pub(crate) fn flaws_of(alloc: Global, text: &str) -> Result<Items<Flaw>, AllocError>
     ensures { IfOk result (AreTold text.now) }
 {
-    match language_of(text) {
-        Language::Chart => flaws_of_chart(alloc, text),
-        Language::Scl => flaws_of_program(alloc, text),
+    match Grammar::of(text) {
+        Grammar::Chart => flaws_of_chart(alloc, text),
+        Grammar::ExtendedChart => flaws_of_extended(alloc, text),
+        Grammar::Scl => flaws_of_program(alloc, text),
     }
 }
 
 #[tactic(auto, using(crate::proofs::Drafted::chart_told, crate::proofs::Drafted::no_chart))]
 fn flaws_of_chart(alloc: Global, text: &str) -> Result<Items<Flaw>, AllocError>
-    requires { IsIn text.now language.Chart }
+    requires { IsReadBy text.now grammars.Chart }
     ensures { IfOk result (AreTold text.now) }
 {
     match chart_drafts::read_draft(alloc, text) {
@@ -36,9 +38,24 @@ fn flaws_of_chart(alloc: Global, text: &str) -> Result<Items<Flaw>, AllocError>
     }
 }
 
+#[tactic(auto, using(crate::proofs::Drafted::extended_told, crate::proofs::Drafted::no_extended))]
+fn flaws_of_extended(alloc: Global, text: &str) -> Result<Items<Flaw>, AllocError>
+    requires { IsReadBy text.now grammars.ExtendedChart }
+    ensures { IfOk result (AreTold text.now) }
+{
+    match extended_drafts::read_extended_draft(alloc, text) {
+        Ok(draft) => {
+            let told = extended_drafts::extended_told_flaws(alloc, &draft)?;
+            Ok(told)
+        }
+        Err(ReadFault::Text(_, _)) => Ok(Items::new(alloc)),
+        Err(ReadFault::Memory) => Err(AllocError),
+    }
+}
+
 #[tactic(auto, using(crate::proofs::Drafted::program_told, crate::proofs::Drafted::no_program))]
 fn flaws_of_program(alloc: Global, text: &str) -> Result<Items<Flaw>, AllocError>
-    requires { IsIn text.now language.Scl }
+    requires { IsReadBy text.now grammars.Scl }
     ensures { IfOk result (AreTold text.now) }
 {
     match scl_drafts::read_draft(alloc, text) {

@@ -11,8 +11,8 @@ use sc_text::ReadFault;
 use std::alloc::{AllocError, Global};
 
 /// Why a text is refused, for people: the report of its fault, as `text_fault_explained` says it, and, where the text
-/// spells a chart or an SCL program, behind it those of the other flaws of its draft, in the order of the text, twenty
-/// in all at most. Err: memory was refused to the explanation.
+/// spells a chart, an extended chart or an SCL program, behind it those of the other flaws of its draft, in the order
+/// of the text, twenty in all at most. Err: memory was refused to the explanation.
 #[tactic(auto, using(crate::proofs::Joining::each_so, crate::proofs::Joining::memory_so))]
 pub fn faults_explained(
     alloc: Global,

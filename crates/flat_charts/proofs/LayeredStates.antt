@@ -1,4 +1,4 @@
--- In a chart whose text is layered aborts lie in aborts only as strong ones alone in weak ones alone, by the numbers of its table.
+-- In a chart whose text is layered no aborts lie in such of their kind, by the numbers of its table.
 use Rattle.std.proofs.Common.{◌≡◌, ℕ, zero, suc, ◌+◌, ◌<◌, ◌≤◌, ⊎_elim, Bool, true, false, Option, length, unwrap_or}
 use Rattle.std.proofs.lemmas.Option.{slice_get_past}
 use Rattle.chart_machine.specs.declared.table.StateRow.{StateRow}
@@ -27,7 +27,7 @@ use Rattle.chart_machine_laws.proofs.LyingIn.{none_in, head_or_tail}
 use Rattle.chart_machine_laws.proofs.RowsOfPieces.{Holds, IsSized, AllSized, state_sized, region_sized}
 use Rattle.chart_machine_laws.proofs.TableTrees.{OnceInitial}
 use Rattle.chart_machine_laws.proofs.ChartTables.{holds_whole, within_or_past}
-use Rattle.core_charts.specs.Aborts.{has_strong, has_weak, has_aborts}
+use Rattle.core_charts.specs.Aborts.{has_strong, has_weak}
 use Rattle.flat_charts.specs.Layers.{Layers, region_layers, state_layers, layers_of_region, layers_of_state, IsLayeredText}
 use Rattle.flat_charts.specs.Laws.{LayeredTextsAreLayered}
 use Rattle.abort_expansion_laws.specs.Layered.{LiesInside, IsLayered}
@@ -60,16 +60,16 @@ layers_inside states = map layers_of_state states
 abbrev all_layered : List Layers → Bool
 all_layered ns = list_all (λ n. n.is_layered) ns
 
-abbrev some_have : List Layers → Bool
-some_have ns = list_any (λ n. n.has_some) ns
+abbrev some_strong : List Layers → Bool
+some_strong ns = list_any (λ n. n.has_strong) ns
 
 abbrev some_weak : List Layers → Bool
 some_weak ns = list_any (λ n. n.has_weak) ns
 
 module _ (k : Table) where
-  -- if one of these superstates has strong aborts, this has none; if it has any, this has no weak ones
+  -- if one of these superstates has strong aborts, this has none; if it has weak ones, this has no weak ones
   abbrev Calm : List ℕ → Bool → Bool → Type 0
-  Calm zs some weak = (o : ℕ) → Contains zs o → (has_strong (own k o) ≡ true → some ≡ false) × (has_aborts (own k o) ≡ true → weak ≡ false)
+  Calm zs strong weak = (o : ℕ) → Contains zs o → (has_strong (own k o) ≡ true → strong ≡ false) × (has_weak (own k o) ≡ true → weak ≡ false)
 
   first_of : (zs : List ℕ) (a b c d : Bool) → Calm zs (a || b) (c || d) → Calm zs a c
   first_of zs a b c d calm o h = ((λ has. (neither a b ((calm o h).0 has)).0), λ has. (neither c d ((calm o h).1 has)).0)
@@ -78,21 +78,22 @@ module _ (k : Table) where
   rest_of zs a b c d calm o h = ((λ has. (neither a b ((calm o h).0 has)).1), λ has. (neither c d ((calm o h).1 has)).1)
 
   abbrev LayeredState : ℕ → Type 0
-  LayeredState s = Calm (around k (holder k s)) (has_aborts (own k s)) (has_weak (own k s))
+  LayeredState s = Calm (around k (holder k s)) (has_strong (own k s)) (has_weak (own k s))
 
   abbrev SideLayered : List Region → Type 0
   SideLayered regions =
       (a : TablePosition) → Holds k a (side_by_side (map piece_of_region regions) a) → all_layered (layers_beside regions) ≡ true →
-      Calm a.around (some_have (layers_beside regions)) (some_weak (layers_beside regions)) →
+      Calm a.around (some_strong (layers_beside regions)) (some_weak (layers_beside regions)) →
       Range LayeredState a.state (a.state + states_in (map piece_of_region regions))
 
   abbrev RegionLayeredBy : Piece → Layers → Type 0
   RegionLayeredBy p n =
-      (a : TablePosition) → Holds k a (p.parts a) → n.is_layered ≡ true → Calm a.around n.has_some n.has_weak → Range LayeredState a.state (a.state + p.states)
+      (a : TablePosition) → Holds k a (p.parts a) → n.is_layered ≡ true → Calm a.around n.has_strong n.has_weak → Range LayeredState a.state (a.state +
+      p.states)
 
   abbrev StateLayeredBy : Piece → Layers → Type 0
   StateLayeredBy p n =
-      (a : TablePosition) → Holds k a (p.parts a) → around k a.holder ≡ a.around → n.is_layered ≡ true → Calm a.around n.has_some n.has_weak →
+      (a : TablePosition) → Holds k a (p.parts a) → around k a.holder ≡ a.around → n.is_layered ≡ true → Calm a.around n.has_strong n.has_weak →
       Range LayeredState a.state (a.state + p.states)
 
   record RegionLayered (r : Region) : Type 0 where
@@ -120,15 +121,15 @@ module _ (k : Table) where
       (omega arith)
       (range_both LayeredState a.state (a.state + p.states) ((a.state + p.states) + states_in (map piece_of_region regions))
       (each.0.layered a (side_head k p (map piece_of_region regions) a holds) parts.0
-      (first_of a.around (layers_of_region r).has_some (some_have (layers_beside regions)) (layers_of_region r).has_weak
+      (first_of a.around (layers_of_region r).has_strong (some_strong (layers_beside regions)) (layers_of_region r).has_weak
       (some_weak (layers_beside regions)) calm))
       (side_layered regions each.1 (behind p a) (side_tail k p (map piece_of_region regions) a each.0.sized holds) parts.1
-      (rest_of a.around (layers_of_region r).has_some (some_have (layers_beside regions)) (layers_of_region r).has_weak
+      (rest_of a.around (layers_of_region r).has_strong (some_strong (layers_beside regions)) (layers_of_region r).has_weak
       (some_weak (layers_beside regions)) calm)))
 
   inner_layered : (states : List State) → Each StateLayered states → (a : TablePosition) (next : ℕ) → InRegionAt k (map piece_of_state states) next a →
       OnceInitial (map piece_of_state states) → around k a.holder ≡ a.around → all_layered (layers_inside states) ≡ true →
-      Calm a.around (some_have (layers_inside states)) (some_weak (layers_inside states)) →
+      Calm a.around (some_strong (layers_inside states)) (some_weak (layers_inside states)) →
       Range LayeredState a.state (a.state + states_in (map piece_of_state states))
   inner_layered [] each a next rows once around_it layered calm = range_none LayeredState a.state (a.state + 0) (omega arith)
   inner_layered (s ∷ states) each a next rows once around_it layered calm =
@@ -138,37 +139,37 @@ module _ (k : Table) where
       range_to LayeredState a.state ((a.state + p.states) + states_in ps) (a.state + states_in (p ∷ ps)) (omega arith)
       (range_both LayeredState a.state (a.state + p.states) ((a.state + p.states) + states_in ps)
       (each.0.layered (spot_of p.is_initial next a) (first_holds k p ps next a rows) around_it parts.0
-      (first_of a.around (layers_of_state s).has_some (some_have (layers_inside states)) (layers_of_state s).has_weak
+      (first_of a.around (layers_of_state s).has_strong (some_strong (layers_inside states)) (layers_of_state s).has_weak
       (some_weak (layers_inside states)) calm))
       (inner_layered states each.1 (past_states p.states a) (next_behind p next) (rest_holds k p ps next a each.0.sized once rows) once.1 around_it parts.1
-      (rest_of a.around (layers_of_state s).has_some (some_have (layers_inside states)) (layers_of_state s).has_weak
+      (rest_of a.around (layers_of_state s).has_strong (some_strong (layers_inside states)) (layers_of_state s).has_weak
       (some_weak (layers_inside states)) calm)))
 
   layer_layered : (name : List ℕ) (initial final : Bool) (regions : List Region) (all : List Transition) → Each RegionLayered regions →
       StateLayeredBy (state_piece (record { name = name; is_initial = initial; is_final = final; regions = map piece_of_region regions; transitions = all }))
       (state_layers (record { name = name; is_initial = initial; is_final = final; regions = layers_beside regions; transitions = all }))
   layer_layered name initial final regions all each a holds around_it layered calm =
-      let parts = both (all_layered (layers_beside regions)) (not (has_strong all && some_have (layers_beside regions))
-      && not (has_aborts all && some_weak (layers_beside regions))) layered in
-      let apart = both (not (has_strong all && some_have (layers_beside regions))) (not (has_aborts all && some_weak (layers_beside regions))) parts.1 in
+      let parts = both (all_layered (layers_beside regions)) (not (has_strong all && some_strong (layers_beside regions))
+      && not (has_weak all && some_weak (layers_beside regions))) layered in
+      let apart = both (not (has_strong all && some_strong (layers_beside regions))) (not (has_weak all && some_weak (layers_beside regions))) parts.1 in
       let own_is : own k a.state ≡ all = ap (λ z. z.transitions) holds.states.0 in
       let held : holder k a.state ≡ a.holder = ap (λ z. z.holder) holds.states.0 in
       let around_is : around k (holder k a.state) ≡ a.around = ap (around k) held ∙ around_it in
-      let own_calm = first_of a.around (has_aborts all) (some_have (layers_beside regions)) (has_weak all) (some_weak (layers_beside regions)) calm in
-      let rest_calm = rest_of a.around (has_aborts all) (some_have (layers_beside regions)) (has_weak all) (some_weak (layers_beside regions)) calm in
+      let own_calm = first_of a.around (has_strong all) (some_strong (layers_beside regions)) (has_weak all) (some_weak (layers_beside regions)) calm in
+      let rest_calm = rest_of a.around (has_strong all) (some_strong (layers_beside regions)) (has_weak all) (some_weak (layers_beside regions)) calm in
       range_more LayeredState a.state (a.state + suc (states_in (map piece_of_region regions)))
       (λ o h.
       let its = own_calm o (subst (λ zs. Contains zs o) around_is h) in
-      ((λ has. ap has_aborts own_is ∙ its.0 has), λ has. ap has_weak own_is ∙ its.1 has))
+      ((λ has. ap has_strong own_is ∙ its.0 has), λ has. ap has_weak own_is ∙ its.1 has))
       (range_to LayeredState (suc a.state) (suc a.state + states_in (map piece_of_region regions)) (a.state + suc (states_in (map piece_of_region regions)))
       (omega arith)
       (side_layered regions each (within a) (record { states = holds.states.1; regions = holds.regions }) parts.0
       (λ o h. ⊎_elim
       (λ same. (
-        (λ has. not_and (has_strong all) (some_have (layers_beside regions)) apart.0
+        (λ has. not_and (has_strong all) (some_strong (layers_beside regions)) apart.0
             (subst (λ z. has_strong z ≡ true) own_is (subst (λ z. has_strong (own k z) ≡ true) (sym same) has))),
-        λ has. not_and (has_aborts all) (some_weak (layers_beside regions)) apart.1
-            (subst (λ z. has_aborts z ≡ true) own_is (subst (λ z. has_aborts (own k z) ≡ true) (sym same) has)),
+        λ has. not_and (has_weak all) (some_weak (layers_beside regions)) apart.1
+            (subst (λ z. has_weak z ≡ true) own_is (subst (λ z. has_weak (own k z) ≡ true) (sym same) has)),
       ))
       (λ tail. rest_calm o tail) (head_or_tail a.state o a.around h))))
 
@@ -239,7 +240,7 @@ module _ (c : Chart) (rules : IsChart features.Extended c) (layered : IsLayeredT
   k = table c
 
   inside : (s : ℕ) → s < states_in (map piece_of_region c.regions) → (o : ℕ) → LiesInside c s o →
-      (has_strong (own k o) ≡ true → has_aborts (own k s) ≡ false) × (has_aborts (own k o) ≡ true → has_weak (own k s) ≡ false)
+      (has_strong (own k o) ≡ true → has_strong (own k s) ≡ false) × (has_weak (own k o) ≡ true → has_weak (own k s) ≡ false)
   inside s lt o h =
       side_layered k c.regions (regions_layered k features.Extended c.variables depth_limit c.regions rules.regions) whole
       (holds_whole c.variables c.regions) (all_of c.regions layered) (λ u inner. absurd (none_in u inner)) s (omega arith) (omega (lt, arith)) o h
@@ -253,9 +254,9 @@ module _ (c : Chart) (rules : IsChart features.Extended c) (layered : IsLayeredT
   pub is_layered : IsLayered c
   is_layered =
       record {
-        in_strong = λ o s h has. ⊎_elim (λ here. (inside s (let size = chart_size c rules in omega (here, size, arith)) o h).0 has)
-            (λ past. ap has_aborts (none_past s past)) (within_or_past s (length k.states));
-        in_any = λ o s h has. ⊎_elim (λ here. (inside s (let size = chart_size c rules in omega (here, size, arith)) o h).1 has)
+        strong_apart = λ o s h has. ⊎_elim (λ here. (inside s (let size = chart_size c rules in omega (here, size, arith)) o h).0 has)
+            (λ past. ap has_strong (none_past s past)) (within_or_past s (length k.states));
+        weak_apart = λ o s h has. ⊎_elim (λ here. (inside s (let size = chart_size c rules in omega (here, size, arith)) o h).1 has)
             (λ past. ap has_weak (none_past s past)) (within_or_past s (length k.states));
       }
 

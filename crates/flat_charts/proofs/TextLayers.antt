@@ -5,14 +5,14 @@ use Rattle.core_charts.specs.declared.region.Region.{Region}
 use Rattle.core_charts.specs.declared.region.State.{State}
 use Rattle.core_charts.specs.declared.region.Region.TheViews.{out-Region, out-State}
 use Rattle.core_charts.specs.declared.region.Region.TheFolds.{fold_out-Region, fold_out-State}
-use Rattle.core_charts.specs.Aborts.{has_strong, has_weak, has_aborts}
+use Rattle.core_charts.specs.Aborts.{has_strong, has_weak}
 use Rattle.flat_charts.specs.Layers.{Layers, region_layers, state_layers, layers_of_region, layers_of_state}
 use Rattle.flat_charts.proofs.Mapped.{any_mapped, all_mapped}
 
-pub region_some : (r : Region) → list_any (λ s. (layers_of_state s).has_some) (out-Region r).states ≡ (layers_of_region r).has_some
-region_some r =
-    sym (ap (λ n. n.has_some) (fold_out-Region Layers Layers region_layers state_layers r)
-    ∙ any_mapped (λ n. n.has_some) layers_of_state (out-Region r).states)
+pub region_strong : (r : Region) → list_any (λ s. (layers_of_state s).has_strong) (out-Region r).states ≡ (layers_of_region r).has_strong
+region_strong r =
+    sym (ap (λ n. n.has_strong) (fold_out-Region Layers Layers region_layers state_layers r)
+    ∙ any_mapped (λ n. n.has_strong) layers_of_state (out-Region r).states)
 
 pub region_weak : (r : Region) → list_any (λ s. (layers_of_state s).has_weak) (out-Region r).states ≡ (layers_of_region r).has_weak
 region_weak r =
@@ -24,11 +24,11 @@ region_layered r =
     sym (ap (λ n. n.is_layered) (fold_out-Region Layers Layers region_layers state_layers r)
     ∙ all_mapped (λ n. n.is_layered) layers_of_state (out-Region r).states)
 
-pub state_some : (s : State) → (has_aborts (out-State s).transitions || list_any (λ r. (layers_of_region r).has_some) (out-State s).regions) ≡
-    (layers_of_state s).has_some
-state_some s =
-    sym (ap (λ n. n.has_some) (fold_out-State Layers Layers region_layers state_layers s)
-    ∙ ap (λ b. has_aborts (out-State s).transitions || b) (any_mapped (λ n. n.has_some) layers_of_region (out-State s).regions))
+pub state_strong : (s : State) → (has_strong (out-State s).transitions || list_any (λ r. (layers_of_region r).has_strong) (out-State s).regions) ≡
+    (layers_of_state s).has_strong
+state_strong s =
+    sym (ap (λ n. n.has_strong) (fold_out-State Layers Layers region_layers state_layers s)
+    ∙ ap (λ b. has_strong (out-State s).transitions || b) (any_mapped (λ n. n.has_strong) layers_of_region (out-State s).regions))
 
 pub state_weak : (s : State) → (has_weak (out-State s).transitions || list_any (λ r. (layers_of_region r).has_weak) (out-State s).regions) ≡
     (layers_of_state s).has_weak
@@ -36,22 +36,22 @@ state_weak s =
     sym (ap (λ n. n.has_weak) (fold_out-State Layers Layers region_layers state_layers s)
     ∙ ap (λ b. has_weak (out-State s).transitions || b) (any_mapped (λ n. n.has_weak) layers_of_region (out-State s).regions))
 
--- none with aborts lies in one with strong ones, and none with weak ones in one with aborts
-abbrev pub together : (all strong some aborts weak : Bool) → Bool
-together all strong some aborts weak = all && (not (strong && some) && not (aborts && weak))
+-- none with strong aborts lies in one with such, and none with weak ones in one with such
+abbrev pub together : (all strong strong_inside weak weak_inside : Bool) → Bool
+together all strong strong_inside weak weak_inside = all && (not (strong && strong_inside) && not (weak && weak_inside))
 
 pub state_layered : (s : State) →
     together (list_all (λ r. (layers_of_region r).is_layered) (out-State s).regions) (has_strong (out-State s).transitions)
-    (list_any (λ r. (layers_of_region r).has_some) (out-State s).regions) (has_aborts (out-State s).transitions)
+    (list_any (λ r. (layers_of_region r).has_strong) (out-State s).regions) (has_weak (out-State s).transitions)
     (list_any (λ r. (layers_of_region r).has_weak) (out-State s).regions) ≡ (layers_of_state s).is_layered
 state_layered s =
     sym (ap (λ n. n.is_layered) (fold_out-State Layers Layers region_layers state_layers s)
-    ∙ (ap (λ b. together b (has_strong (out-State s).transitions) (list_any (λ n. n.has_some) (map layers_of_region (out-State s).regions))
-    (has_aborts (out-State s).transitions) (list_any (λ n. n.has_weak) (map layers_of_region (out-State s).regions)))
+    ∙ (ap (λ b. together b (has_strong (out-State s).transitions) (list_any (λ n. n.has_strong) (map layers_of_region (out-State s).regions))
+    (has_weak (out-State s).transitions) (list_any (λ n. n.has_weak) (map layers_of_region (out-State s).regions)))
     (all_mapped (λ n. n.is_layered) layers_of_region (out-State s).regions)
     ∙ (ap (λ b. together (list_all (λ r. (layers_of_region r).is_layered) (out-State s).regions) (has_strong (out-State s).transitions) b
-    (has_aborts (out-State s).transitions) (list_any (λ n. n.has_weak) (map layers_of_region (out-State s).regions)))
-    (any_mapped (λ n. n.has_some) layers_of_region (out-State s).regions)
+    (has_weak (out-State s).transitions) (list_any (λ n. n.has_weak) (map layers_of_region (out-State s).regions)))
+    (any_mapped (λ n. n.has_strong) layers_of_region (out-State s).regions)
     ∙ ap (together (list_all (λ r. (layers_of_region r).is_layered) (out-State s).regions) (has_strong (out-State s).transitions)
-    (list_any (λ r. (layers_of_region r).has_some) (out-State s).regions) (has_aborts (out-State s).transitions))
+    (list_any (λ r. (layers_of_region r).has_strong) (out-State s).regions) (has_weak (out-State s).transitions))
     (any_mapped (λ n. n.has_weak) layers_of_region (out-State s).regions))))

@@ -5,13 +5,13 @@ ghost use Rattle.std.specs.List.{list_all, list_any};
 ghost use Rattle.flat_charts.specs.Layers.{IsLayeredText, layers_of_region, layers_of_state};
 ghost use Rattle.flat_charts.specs.Laws.{LayeredTextsAreLayered};
 
-use core_charts::{Chart, Region, State, has_aborts, has_strong, has_weak};
+use core_charts::{Chart, Region, State, has_strong, has_weak};
 
-// Of a piece of a chart: whether a superstate in it has aborts, whether one has weak ones, and whether aborts lie in
-// aborts there only as strong ones alone in weak ones alone.
+// Of a piece of a chart: whether a superstate in it has strong aborts, whether one has weak ones, and whether no abort
+// lies in one of its kind there.
 #[derive(Clone, Copy)]
 struct Layers {
-    has_some: bool,
+    has_strong: bool,
     has_weak: bool,
     is_layered: bool,
 }
@@ -21,18 +21,17 @@ struct Layers {
 struct Aborts {
     strong: bool,
     weak: bool,
-    some: bool,
 }
 
 // Of nothing.
 const NONE: Layers = Layers {
-    has_some: false,
+    has_strong: false,
     has_weak: false,
     is_layered: true,
 };
 
-/// Whether a chart is layered, by its text: where a superstate with aborts lies inside another one with aborts, the
-/// outer one has weak aborts alone, and the inner one strong aborts alone.
+/// Whether a chart is layered, by its text: no superstate with strong aborts lies inside another one with strong
+/// aborts, and none with weak aborts inside another one with weak aborts.
 pub fn is_layered(chart: &Chart) -> bool
     ensures { IsTrue result ↔ IsLayeredText chart.now }
 {
@@ -47,12 +46,12 @@ pub fn layered_texts_are_layered()
 
 // Of two pieces side by side.
 fn beside(one: Layers, other: Layers) -> Layers
-    ensures some { result.has_some ≡ (one.has_some || other.has_some) }
+    ensures strong { result.has_strong ≡ (one.has_strong || other.has_strong) }
     ensures weak { result.has_weak ≡ (one.has_weak || other.has_weak) }
     ensures layered { result.is_layered ≡ (one.is_layered && other.is_layered) }
 {
     Layers {
-        has_some: one.has_some || other.has_some,
+        has_strong: one.has_strong || other.has_strong,
         has_weak: one.has_weak || other.has_weak,
         is_layered: one.is_layered && other.is_layered,
     }
@@ -61,7 +60,7 @@ fn beside(one: Layers, other: Layers) -> Layers
 // Of regions side by side.
 #[cycle(layers)]
 fn of_regions(regions: &[Region]) -> Layers
-    ensures some { result.has_some ≡ list_any (λ r. (layers_of_region r).has_some) regions.now }
+    ensures strong { result.has_strong ≡ list_any (λ r. (layers_of_region r).has_strong) regions.now }
     ensures weak { result.has_weak ≡ list_any (λ r. (layers_of_region r).has_weak) regions.now }
     ensures layered { result.is_layered ≡ list_all (λ r. (layers_of_region r).is_layered) regions.now }
 {
@@ -75,7 +74,7 @@ fn of_regions(regions: &[Region]) -> Layers
 // Of a region.
 #[cycle(layers)]
 fn of_region(region: &Region) -> Layers
-    ensures some { result.has_some ≡ (layers_of_region region.now).has_some }
+    ensures strong { result.has_strong ≡ (layers_of_region region.now).has_strong }
     ensures weak { result.has_weak ≡ (layers_of_region region.now).has_weak }
     ensures layered { result.is_layered ≡ (layers_of_region region.now).is_layered }
 {
@@ -89,7 +88,7 @@ fn of_region(region: &Region) -> Layers
 // Of a state.
 #[cycle(layers)]
 fn of_state(state: &State) -> Layers
-    ensures some { result.has_some ≡ (layers_of_state state.now).has_some }
+    ensures strong { result.has_strong ≡ (layers_of_state state.now).has_strong }
     ensures weak { result.has_weak ≡ (layers_of_state state.now).has_weak }
     ensures layered { result.is_layered ≡ (layers_of_state state.now).is_layered }
 {
@@ -98,22 +97,21 @@ fn of_state(state: &State) -> Layers
     let aborts = Aborts {
         strong: has_strong(transitions),
         weak: has_weak(transitions),
-        some: has_aborts(transitions),
     };
     around(aborts, inside)
 }
 
 // Of a superstate with these aborts, whose inside is this.
 fn around(aborts: Aborts, inside: Layers) -> Layers
-    ensures some { result.has_some ≡ (aborts.some || inside.has_some) }
+    ensures strong { result.has_strong ≡ (aborts.strong || inside.has_strong) }
     ensures weak { result.has_weak ≡ (aborts.weak || inside.has_weak) }
     ensures layered { result.is_layered ≡ (inside.is_layered
-        && (not (aborts.strong && inside.has_some) && not (aborts.some && inside.has_weak))) }
+        && (not (aborts.strong && inside.has_strong) && not (aborts.weak && inside.has_weak))) }
 {
     Layers {
-        has_some: aborts.some || inside.has_some,
+        has_strong: aborts.strong || inside.has_strong,
         has_weak: aborts.weak || inside.has_weak,
         is_layered: inside.is_layered
-            && (!(aborts.strong && inside.has_some) && !(aborts.some && inside.has_weak)),
+            && (!(aborts.strong && inside.has_strong) && !(aborts.weak && inside.has_weak)),
     }
 }

@@ -40,8 +40,8 @@ pub fn cycle<G: Graph>(
     Ok(None)
 }
 
-/// A cycle through an edge of weight 1 from a node. None: there is none. Err: memory was refused.
-pub fn cycle_through<G: Graph>(
+// A cycle through an edge of weight 1 from a node. None: there is none. Err: memory was refused.
+fn cycle_through<G: Graph>(
     alloc: Global,
     graph: &G,
     count: u16,

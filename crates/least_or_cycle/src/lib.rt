@@ -7,7 +7,7 @@ mod ranking;
 mod rising;
 mod rule;
 
-pub use cycles::{cycle, cycle_along, cycle_through};
+pub use cycles::{cycle, cycle_along};
 pub use graph::Graph;
 pub use rising::least;
 pub use rule::NumberRule;

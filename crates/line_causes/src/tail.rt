@@ -1,17 +1,11 @@
 //! The bytes of the lines that were read last.
 
-ghost use Rattle.std.specs.Prelude.{◌≡◌, ◌++◌, ◌+◌, ℕ, true, false, IfOk, IfSome, IfNone, position};
-ghost use Rattle.trace_lines.specs.Lines.{is_feed, has_feed, first_line, after_line};
+ghost use Rattle.std.specs.Prelude.{◌≡◌, ◌++◌, ◌+◌, ℕ, true, false, IfOk, IfSome, IfNone};
+ghost use Rattle.trace_lines.specs.Lines.{has_feed, first_line, after_line};
 ghost use Rattle.line_causes.specs.Inside.{Leads};
 
 use std::alloc::{AllocError, Global};
-
-// The place of the first line feed.
-fn feed_in(bytes: &[u8]) -> Option<usize>
-    ensures { result ≡ position is_feed bytes.now }
-{
-    bytes.iter().position(|byte| *byte == b'\n')
-}
+use trace_lines::feed_in;
 
 /// The bytes before the first line feed, and those behind it. None: there is no line feed.
 #[tactic(auto, using(crate::proofs::Behind::rest_is, crate::proofs::Behind::feed_is))]

@@ -1,13 +1,12 @@
 //! Why a line gives no inputs, in words.
 
 ghost use Rattle.std.specs.Prelude.{◌≡◌, IfOk, string_bytes};
-ghost use Rattle.json.specs.Print.{quoted};
 ghost use Rattle.line_causes.specs.Words.{cause_words, kind_words, met_words, value_words, whole_words};
 
 use crate::cause::{Cause, Met};
 use sc_values::Kind;
-use serde_json::Value as Json;
 use std::alloc::{AllocError, Global};
+use trace_lines::quoted;
 
 fn kind_words(kind: Kind) -> &'static str
     ensures { result.now ≡ kind_words kind }
@@ -41,13 +40,6 @@ fn met_words(kind: Kind, met: Met) -> &'static str
         Met::List => "a list",
         Met::Object => "an object",
     }
-}
-
-// A text as JSON writes it.
-fn quoted(alloc: Global, text: &str) -> Result<String, AllocError>
-    ensures { IfOk result (λ shown. string_bytes shown ≡ quoted text.now) }
-{
-    Json::String(String::from_str(alloc, text)?).to_string(alloc)
 }
 
 // What an input of this name and kind takes, and what this value is.

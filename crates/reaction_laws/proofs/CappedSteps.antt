@@ -119,7 +119,7 @@ module _ (c : Chart) (rules : IsChart features.Extended c) (core_rules : IsChart
         enabled_from G m v (stands n.node n.at)
 
     pub taker_there : access_of (standing_of now t) ≢ no_access → IsEnabled G m (taker c rules core_rules (standing_of now t) t)
-    taker_there some = by (taken_by c rules core_rules now d all.related all.owns t on)
+    taker_there some = by (taken_by c rules core_rules now d all.related all.ready all.owns t on)
       where
         by : TakenBy c rules core_rules now d t → IsEnabled G m (taker c rules core_rules (standing_of now t) t)
         by (by_nobody none) = absurd (some none)

@@ -30,6 +30,7 @@ use Rattle.reaction_laws.proofs.CoreTurns.{HasTurn, taker, TakenBy, by_thread, b
 use Rattle.reaction_laws.proofs.NoResumes.{NoneResumes}
 use Rattle.reaction_laws.proofs.CaughtThreads.{GoOn, WaitsAtJoins, AtFirstEffects}
 use Rattle.reaction_laws.proofs.StepNodes.{priorities_order_steps}
+use Rattle.abort_expansion_laws.proofs.MonitorsReady.{IsReady}
 
 module _ (c : Chart) (rules : IsChart features.Extended c) (core_rules : IsChart features.Core (expanded c)) (p : Scl) (q : Tables)
     (low : IsLowering (expanded c) p) (valid : IsValid (program_of (numbered p)) q) where
@@ -45,6 +46,7 @@ module _ (c : Chart) (rules : IsChart features.Extended c) (core_rules : IsChart
   -- a chart, its core chart, and the graph of that, where the threads have come to their nodes
   pub record AllAt (now d : Configuration) (m : Control) : Type 0 where
     pub related : Related k core i now d
+    pub ready : (o : ℕ) → IsReady k core i now d o
     pub owns : OwnTests k now
     pub nodes : AtTheirNodes (expanded c) (program_of (numbered p)) d m
     pub goes : GoOn d m
@@ -91,7 +93,7 @@ module _ (c : Chart) (rules : IsChart features.Extended c) (core_rules : IsChart
 
     pub in_order : Goal
     in_order =
-        takes now d t (taken_by c rules core_rules now d here.related here.owns t on)
+        takes now d t (taken_by c rules core_rules now d here.related here.ready here.owns t on)
         (λ idle. idle_first (access_of (standing_of now t)) (access_of (standing_of next u)) idle)
-        (λ x. takes next e u (taken_by c rules core_rules next e there.related there.owns u on_too)
+        (λ x. takes next e u (taken_by c rules core_rules next e there.related there.ready there.owns u on_too)
         (λ idle. reader_second (access_of (standing_of now t)) (access_of (standing_of next u)) (ap (λ z. z.writes) idle)) (λ y. both x y))

@@ -37,7 +37,8 @@ use Rattle.abort_expansion_laws.proofs.TestHolds.{counting_first}
 use Rattle.abort_expansion_laws.proofs.TestTargets.{ends_untested}
 use Rattle.abort_expansion_laws.proofs.TickFollowed as ticks
 use Rattle.abort_expansion_laws.proofs.Unchanged.{never_guarded}
-use Rattle.abort_expansion_laws.proofs.WeakNotTaken.{IsWithin, within_back, MonitorWaits, waits_back}
+use Rattle.abort_expansion_laws.proofs.WeakNotTaken.{IsWithin, within_back, MonitorWaits}
+use Rattle.abort_expansion_laws.proofs.MonitorsReady.{IsReady}
 
 module _ (c : Chart) (rules : IsChart features.Extended c) (core_rules : IsChart features.Core (expanded c)) where
   abbrev k : Table
@@ -70,7 +71,7 @@ module _ (c : Chart) (rules : IsChart features.Extended c) (core_rules : IsChart
         HasTurn d (i.watcher_of o) (access_of (standing_of now q)) → TakenBy now d q
     by_nobody : access_of (standing_of now q) ≡ no_access → TakenBy now d q
 
-  module _ (now d : Configuration) (related : Related k core i now d) where
+  module _ (now d : Configuration) (related : Related k core i now d) (ready : (o : ℕ) → IsReady k core i now d o) where
     tries : (t n : ℕ) (w : Transition) (ws : List Transition) (a : Access) → access_of_trigger w.trigger ≡ a → standing_of d t ≡ at.Trying n (w ∷ ws) →
         HasTurn d t a
     tries t n w ws a does stands =
@@ -147,8 +148,7 @@ module _ (c : Chart) (rules : IsChart features.Extended c) (core_rules : IsChart
           within_back k core i now q o has (standing_of now q) (standing_of d (i.thread_of q)) (related.regions q there) (t ∷ tests) is in
           let here : IsState k o = state_with_aborts k o has in
           let m : MonitorWaits k core i o t tests (standing_of d (i.watcher_of o)) =
-          waits_back k core i o (standing_of now (holder k o)) (standing_of d (i.watcher_of o)) (related.watchers o here has) t tests no_join
-          (ap (standing_of now) b.held ∙ is) in
+          ready o here has t tests (ap (standing_of now) b.held ∙ is) no_join (subst (λ p. is_guarded k now (around k p) ≡ false) (sym b.held) free) in
           let flag = rows.weak_there o m.number t here m.first in
           by_monitor o here b.held has
           (ap (λ x. taker x q) is ∙ ap (λ (z : Bool). if z then i.thread_of q else i.watcher_of o) no_join)

@@ -39,6 +39,7 @@ use Rattle.reaction_laws.proofs.LayeredRuns.{replay_behind}
 use Rattle.reaction_laws.proofs.GraphRuns.{GoesToNodes, goes_to_nodes, comes_own}
 use Rattle.reaction_laws.proofs.MonitorsLow.{lowered, MonitorsQuiet}
 use Rattle.reaction_laws.proofs.QuietRuns.{steps_keep, coming_keeps}
+use Rattle.abort_expansion_laws.proofs.MonitorsReady.{IsReady}
 
 all_of : (xs : List ℕ) → xs ≡ xs ++ []
 all_of [] = refl
@@ -73,7 +74,8 @@ module _ (c : Chart) (rules : IsChart features.Extended c) (core_rules : IsChart
   -- ---- the graph comes along with the core chart
 
   module _ (now d e : Configuration) (m : Control) (alike : Alike (expanded c) p d m) (quiet : Quiet d m) (log : List Entry)
-      (follows : Follows (machine core) corr Told d log e) (related : Related k core i now e) (owns : OwnTests k now) where
+      (follows : Follows (machine core) corr Told d log e) (related : Related k core i now e)
+      (ready : (o : ℕ) → IsReady k core i now e o) (owns : OwnTests k now) where
     there : GoesToNodes (expanded c) p q low valid Quiet (steps_keep c rules core_rules p q low valid lowered_tests earlier) e m
     there =
         goes_to_nodes (expanded c) p q low valid Quiet (steps_keep c rules core_rules p q low valid lowered_tests earlier) (threads corr log ++ []) d e m
@@ -94,6 +96,7 @@ module _ (c : Chart) (rules : IsChart features.Extended c) (core_rules : IsChart
     all_there =
         record {
           related = related;
+          ready = ready;
           owns = owns;
           nodes = there.come.nodes.nodes;
           goes = there.come.goes;

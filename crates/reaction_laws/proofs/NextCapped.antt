@@ -30,7 +30,6 @@ use Rattle.compiled_charts_laws.proofs.AtJoins as at_joins
 use Rattle.compiled_charts_laws.proofs.LateTests.{is_late}
 use Rattle.abort_expansion_laws.specs.CoreRows.{own, Images, CoreRows}
 use Rattle.abort_expansion_laws.specs.Layered.{IsLayered}
-use Rattle.abort_expansion_laws.specs.Related.{Related}
 use Rattle.abort_expansion_laws.specs.Segments.{Segment, threads}
 use Rattle.abort_expansion_laws.specs.StageReached.{some_work, stage_of, Stage}
 use Rattle.abort_expansion_laws.specs.Stages.{Entry, Correspondence, NoneReached}
@@ -40,10 +39,9 @@ use Rattle.abort_expansion_laws.proofs.OwnTests.{OwnTests}
 use Rattle.abort_expansion_laws.proofs.PreemptionKept.{ToldHere, own_tests_kept}
 use Rattle.abort_expansion_laws.proofs.QuietBegins.{LoweredTests}
 use Rattle.abort_expansion_laws.proofs.StageReached.{one_at_least}
-use Rattle.abort_expansion_laws.proofs.StepsByCase.{steps_followed}
+use Rattle.abort_expansion_laws.proofs.MonitorsReady.{AllReady}
+use Rattle.abort_expansion_laws.proofs.StepsReady.{steps_ready, ticks_ready}
 use Rattle.abort_expansion_laws.proofs.TickFollowed as ticks
-use Rattle.abort_expansion_laws.proofs.TicksBegin.{ticks_begin}
-use Rattle.abort_expansion_laws.proofs.ToldSteps.{told_silent}
 use Rattle.reaction_laws.specs.StepNodes.{Alike}
 use Rattle.reaction_laws.proofs.CappedSteps.{IsCapped}
 use Rattle.reaction_laws.proofs.ChartOrder.{AllAt}
@@ -89,8 +87,8 @@ module _ (c : Chart) (rules : IsChart features.Extended c) (core_rules : IsChart
   module _ (now next d : Configuration) (m : Control) (most least : ℕ) (known : IsCapped c rules core_rules p q low valid now d m most) (quiet : Quiet d m)
       (ranks : RanksWithin c rules core_rules p q low valid now m most least) (r : ℕ) (steps : step k r now ≡ Some next) where
     pub followed : Segment (machine core) corr Told d (Stage k i.thread_of now d) (Stage k i.thread_of next) (act_of (machine k) now r ∷ [])
-        (Related k core i next)
-    followed = steps_followed c rules core_rules layered now d known.all.related known.all.owns r next steps
+        (AllReady k core i next)
+    followed = steps_ready c rules core_rules layered now d known.all.related known.all.owns r next steps
 
     pub owns_next : OwnTests k next
     owns_next = (own_tests_kept c rules core_rules).steps now next r known.all.owns steps
@@ -98,32 +96,32 @@ module _ (c : Chart) (rules : IsChart features.Extended c) (core_rules : IsChart
     abbrev pub run : List ℕ
     run =
         graph_run c rules core_rules p q low valid lowered_tests earlier next d followed.last m known.alike quiet followed.log followed.follows
-        followed.reaches owns_next
+        followed.reaches.related followed.reaches.ready owns_next
 
     abbrev pub n : Control
     n =
         graph_next c rules core_rules p q low valid lowered_tests earlier next d followed.last m known.alike quiet followed.log followed.follows
-        followed.reaches owns_next
+        followed.reaches.related followed.reaches.ready owns_next
 
     pub quiet_next : Quiet followed.last n
     quiet_next =
         quiet_there c rules core_rules p q low valid lowered_tests earlier next d followed.last m known.alike quiet followed.log followed.follows
-        followed.reaches owns_next
+        followed.reaches.related followed.reaches.ready owns_next
 
     all_next : AllAt c rules core_rules p q low valid next followed.last n
     all_next =
         all_there c rules core_rules p q low valid lowered_tests earlier next d followed.last m known.alike quiet followed.log followed.follows
-        followed.reaches owns_next
+        followed.reaches.related followed.reaches.ready owns_next
 
     alike_next : Alike (expanded c) p followed.last n
     alike_next =
         alike_there c rules core_rules p q low valid lowered_tests earlier next d followed.last m known.alike quiet followed.log followed.follows
-        followed.reaches owns_next
+        followed.reaches.related followed.reaches.ready owns_next
 
     leads_next : replay (graph.machine G) run m ≡ Some n
     leads_next =
         graph_leads c rules core_rules p q low valid lowered_tests earlier next d followed.last m known.alike quiet followed.log followed.follows
-        followed.reaches owns_next
+        followed.reaches.related followed.reaches.ready owns_next
 
     -- who tests an opened superstate has his thread step
     module _ (s : ℕ) (t : Transition) (tests : List Transition) (was : standing_of now r ≡ at.Within s (t ∷ tests))
@@ -154,7 +152,7 @@ module _ (c : Chart) (rules : IsChart features.Extended c) (core_rules : IsChart
       in_run : Contains run (i.thread_of r)
       in_run =
           own_there c rules core_rules p q low valid lowered_tests earlier next d followed.last m known.alike quiet followed.log followed.follows
-          followed.reaches owns_next (i.thread_of r) (at_joins.join_of (expanded c) p low (i.main_of s))
+          followed.reaches.related followed.reaches.ready owns_next (i.thread_of r) (at_joins.join_of (expanded c) p low (i.main_of s))
           (waits_there c rules core_rules p q low valid now d m r s t tests known.all r_there was) in_log
 
     low_next : LinesLow c rules core_rules p q low valid next n least
@@ -175,24 +173,28 @@ module _ (c : Chart) (rules : IsChart features.Extended c) (core_rules : IsChart
 
   module _ (now d : Configuration) (m : Control) (started : Started k core i now d) (owns : OwnTests k now) (alike : Alike (expanded c) p d m)
       (quiet : Quiet d m) where
-    pub first : Segment (machine core) corr Told d NoneReached (Stage k i.thread_of now) [] (Related k core i now)
-    first = ticks_begin c rules core_rules layered Told (told_silent k core i) now d started
+    pub first : Segment (machine core) corr Told d NoneReached (Stage k i.thread_of now) [] (AllReady k core i now)
+    first = ticks_ready c rules core_rules layered now d started
 
     abbrev pub m_first : Control
     m_first =
-        graph_next c rules core_rules p q low valid lowered_tests earlier now d first.last m alike quiet first.log first.follows first.reaches owns
+        graph_next c rules core_rules p q low valid lowered_tests earlier now d first.last m alike quiet first.log first.follows first.reaches.related
+        first.reaches.ready owns
 
     pub quiet_first : Quiet first.last m_first
     quiet_first =
-        quiet_there c rules core_rules p q low valid lowered_tests earlier now d first.last m alike quiet first.log first.follows first.reaches owns
+        quiet_there c rules core_rules p q low valid lowered_tests earlier now d first.last m alike quiet first.log first.follows first.reaches.related
+        first.reaches.ready owns
 
     all_first : AllAt c rules core_rules p q low valid now first.last m_first
     all_first =
-        all_there c rules core_rules p q low valid lowered_tests earlier now d first.last m alike quiet first.log first.follows first.reaches owns
+        all_there c rules core_rules p q low valid lowered_tests earlier now d first.last m alike quiet first.log first.follows first.reaches.related
+        first.reaches.ready owns
 
     alike_first : Alike (expanded c) p first.last m_first
     alike_first =
-        alike_there c rules core_rules p q low valid lowered_tests earlier now d first.last m alike quiet first.log first.follows first.reaches owns
+        alike_there c rules core_rules p q low valid lowered_tests earlier now d first.last m alike quiet first.log first.follows first.reaches.related
+        first.reaches.ready owns
 
     pub first_capped : IsCapped c rules core_rules p q low valid now first.last m_first (greatest_priority q)
     first_capped =

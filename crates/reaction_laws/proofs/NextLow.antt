@@ -68,7 +68,7 @@ module _ (c : Chart) (rules : IsChart features.Extended c) (core_rules : IsChart
       by_taker some =
           low_once_stepped G q valid m known.alike.is_configuration (priority now m t) (taker c rules core_rules (standing_of now t) t) (i.thread_of t)
           (below_there c rules core_rules p q low valid t (taker c rules core_rules (standing_of now t) t) t
-          (taker_lies (taken_by c rules core_rules now d known.all.related known.all.owns t on) some) (itself refl))
+          (taker_lies (taken_by c rules core_rules now d known.all.related known.all.ready known.all.owns t on) some) (itself refl))
           (taker_low c rules core_rules p q low valid now d m most known t on some)
 
       pub join_kept : IsWithin (standing_of now t) → LowOnceStepped G q least (i.thread_of t) m

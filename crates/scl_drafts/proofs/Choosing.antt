@@ -9,9 +9,11 @@ use Rattle.sc_text.specs.Expression.{text_tokens, expression}
 use Rattle.sc_text.specs.Reading.{Stops}
 use Rattle.sc_text.proofs.Steps.{stops_as}
 use Rattle.sc_text.proofs.Nesting.{deep_at}
+use Rattle.scl.specs.Rules.{if_limit}
 use Rattle.scl_drafts.specs.Statements.{Statements}
 use Rattle.scl_drafts.specs.Program.{simple, choice, branch, fork, forking, statement, ifs_within, forks_within}
-use Rattle.scl_drafts.specs.Inside.{Adds, alone, inner_forks, inner_ifs, within, no_if}
+use Rattle.scl_drafts.specs.Inside.{Adds, alone}
+use Rattle.scl_drafts.specs.Within.{inner_forks, inner_ifs, within, no_if}
 use Rattle.scl_drafts.proofs.Taking.{deep_stops, adds_as}
 
 abbrev if_word : List Class
@@ -72,17 +74,18 @@ module _ (text : List Token) where
   no_fork_read : (forks : ℕ) → starts text_tokens fork_word text ≡ false → read (no_if forks) text ≡ read (simple (expression 0)) text
   unfolding no_if inner_forks forks_within forking fork branch within inner_ifs
   no_fork_read zero e = ap (λ b. choose b (Failed Deep text) (read (simple (expression 0)) text)) e
-  no_fork_read (suc n) e = ap (λ b. choose b (read (fork (within n 32)) text) (read (simple (expression 0)) text)) e
+  no_fork_read (suc n) e = ap (λ b. choose b (read (fork (within n if_limit)) text) (read (simple (expression 0)) text)) e
 
   deep_fork_read : starts text_tokens fork_word text ≡ true → read (no_if 0) text ≡ Failed Deep text
   unfolding no_if inner_forks forks_within forking
   deep_fork_read e = ap (λ b. choose b (Failed Deep text) (read (simple (expression 0)) text)) e
 
-  inner_fork_read : (n : ℕ) → starts text_tokens fork_word text ≡ true → read (no_if (suc n)) text ≡ read (fork (within n 32)) text
+  inner_fork_read : (n : ℕ) → starts text_tokens fork_word text ≡ true → read (no_if (suc n)) text ≡ read (fork (within n if_limit)) text
   unfolding no_if inner_forks forks_within forking fork branch within inner_ifs
-  inner_fork_read n e = ap (λ b. choose b (read (fork (within n 32)) text) (read (simple (expression 0)) text)) e
+  inner_fork_read n e = ap (λ b. choose b (read (fork (within n if_limit)) text) (read (simple (expression 0)) text)) e
 
-  fork_read : (forks : ℕ) → (forks ≡ 0 → ⊥) → starts text_tokens fork_word text ≡ true → read (no_if forks) text ≡ read (fork (within (forks - 1) 32)) text
+  fork_read : (forks : ℕ) → (forks ≡ 0 → ⊥) → starts text_tokens fork_word text ≡ true
+      → read (no_if forks) text ≡ read (fork (within (forks - 1) if_limit)) text
   fork_read forks z e = ap (λ n. read (no_if n) text) (one_less forks z) ∙ inner_fork_read (forks - 1) e
 
   module _ (forks : ℕ) where
@@ -100,9 +103,9 @@ module _ (text : List Token) where
         deep_stops end _ text f (subst (λ n. read (no_if n) text ≡ Failed Deep text) (sym z) (deep_fork_read e)) w
 
     pub fork_stops : (end : ℕ) (f : ReadFault) → (forks ≡ 0 → ⊥) → starts text_tokens fork_word text ≡ true
-        → Stops end (read (fork (within (forks - 1) 32)) text) f → Stops end (read (no_if forks) text) f
+        → Stops end (read (fork (within (forks - 1) if_limit)) text) f → Stops end (read (no_if forks) text) f
     fork_stops end f z e s = stops_as end _ _ f (fork_read forks z e) s
 
     pub fork_reads : (rest : List Token) (old new : Statements) → (forks ≡ 0 → ⊥) → starts text_tokens fork_word text ≡ true
-        → Adds alone (read (fork (within (forks - 1) 32)) text) old new rest → Adds alone (read (no_if forks) text) old new rest
+        → Adds alone (read (fork (within (forks - 1) if_limit)) text) old new rest → Adds alone (read (no_if forks) text) old new rest
     fork_reads rest old new z e a = adds_as alone _ _ old new rest (fork_read forks z e) a

@@ -14,10 +14,12 @@ use Rattle.sc_text.specs.Expression.{text_tokens, expression}
 use Rattle.sc_text.specs.Reading.{Stops}
 use Rattle.sc_text.proofs.Shapes.{expression_is}
 use Rattle.sc_text.proofs.Steps.{next_stops, stops_as}
+use Rattle.scl.specs.Rules.{if_limit}
 use Rattle.scl_drafts.specs.declared.statement.TextStatement.{TextStatement}
 use Rattle.scl_drafts.specs.Statements.{Statements}
 use Rattle.scl_drafts.specs.Program.{Grows, branch}
-use Rattle.scl_drafts.specs.Inside.{Adds, IsGoing, alone, one_branch, statement_classes, inner_forks, inner_ifs, within}
+use Rattle.scl_drafts.specs.Inside.{Adds, IsGoing, alone, one_branch, statement_classes}
+use Rattle.scl_drafts.specs.Within.{inner_forks, inner_ifs, within}
 use Rattle.scl_drafts.proofs.Shapes.{statement_is, forks_fit, ifs_fit}
 
 none_done : {A : Type 0} (o : Outcome Token (List A)) → o ≡ next o (λ xs end. Got ([] ++ xs) end)
@@ -134,33 +136,33 @@ abbrev par_word : List Class
 par_word = TheWord word.Par ∷ []
 
 module _ (forks : ℕ) where
-  branch_starts : (text : List Token) (b : Bool) → starts text_tokens par_word text ≡ b → starts text_tokens (first (branch word.Par (within forks 32))) text
-      ≡ b
+  branch_starts : (text : List Token) (b : Bool) → starts text_tokens par_word text ≡ b
+      → starts text_tokens (first (branch word.Par (within forks if_limit))) text ≡ b
   unfolding branch
   branch_starts text b e = e
 
   pub branches_begin : (text : List Token) (left : ℕ) (lines : List (ℕ × Statements)) → left ≡ length text
-      → IsGoing (branch word.Par (within forks 32)) one_branch (read (many (branch word.Par (within forks 32))) text) lines lines left text
-  branches_begin text left lines e = going_first (branch word.Par (within forks 32)) one_branch text left lines e
+      → IsGoing (branch word.Par (within forks if_limit)) one_branch (read (many (branch word.Par (within forks if_limit))) text) lines lines left text
+  branches_begin text left lines e = going_first (branch word.Par (within forks if_limit)) one_branch text left lines e
 
   module _ (o : Outcome Token (List (Token × Statements))) (old mid : List (ℕ × Statements)) where
-    pub branches_end : (left : ℕ) (rest : List Token) → IsGoing (branch word.Par (within forks 32)) one_branch o old mid left rest
+    pub branches_end : (left : ℕ) (rest : List Token) → IsGoing (branch word.Par (within forks if_limit)) one_branch o old mid left rest
         → starts text_tokens par_word rest ≡ false → Adds (flat_map one_branch) o old mid rest
-    branches_end left rest h e = going_ends (branch word.Par (within forks 32)) one_branch o old mid left rest h (branch_starts rest false e)
+    branches_end left rest h e = going_ends (branch word.Par (within forks if_limit)) one_branch o old mid left rest h (branch_starts rest false e)
 
-    pub branches_over : (left : ℕ) (rest : List Token) → left ≡ 0 → IsGoing (branch word.Par (within forks 32)) one_branch o old mid left rest
+    pub branches_over : (left : ℕ) (rest : List Token) → left ≡ 0 → IsGoing (branch word.Par (within forks if_limit)) one_branch o old mid left rest
         → Adds (flat_map one_branch) o old mid rest
-    branches_over left rest z h = going_over (branch word.Par (within forks 32)) one_branch o old mid left rest z h
+    branches_over left rest z h = going_over (branch word.Par (within forks if_limit)) one_branch o old mid left rest z h
 
     pub branch_stops : (left : ℕ) (rest : List Token) (end : ℕ) (f : ReadFault) → 0 < left
-        → IsGoing (branch word.Par (within forks 32)) one_branch o old mid left rest → starts text_tokens par_word rest ≡ true
-        → Stops end (read (branch word.Par (within forks 32)) rest) f → Stops end o f
+        → IsGoing (branch word.Par (within forks if_limit)) one_branch o old mid left rest → starts text_tokens par_word rest ≡ true
+        → Stops end (read (branch word.Par (within forks if_limit)) rest) f → Stops end o f
     branch_stops left rest end f m h e s =
-        going_stops (branch word.Par (within forks 32)) one_branch o old mid left rest end f m h (branch_starts rest true e) s
+        going_stops (branch word.Par (within forks if_limit)) one_branch o old mid left rest end f m h (branch_starts rest true e) s
 
     pub branches_go_on : (left less : ℕ) (rest after : List Token) (new : List (ℕ × Statements)) → left ≡ suc less
-        → IsGoing (branch word.Par (within forks 32)) one_branch o old mid left rest → starts text_tokens par_word rest ≡ true
-        → Adds one_branch (read (branch word.Par (within forks 32)) rest) mid new after
-        → IsGoing (branch word.Par (within forks 32)) one_branch o old new less after
+        → IsGoing (branch word.Par (within forks if_limit)) one_branch o old mid left rest → starts text_tokens par_word rest ≡ true
+        → Adds one_branch (read (branch word.Par (within forks if_limit)) rest) mid new after
+        → IsGoing (branch word.Par (within forks if_limit)) one_branch o old new less after
     branches_go_on left less rest after new m h e a =
-        going_on (branch word.Par (within forks 32)) one_branch o old mid left less rest after new m h (branch_starts rest true e) a
+        going_on (branch word.Par (within forks if_limit)) one_branch o old mid left less rest after new m h (branch_starts rest true e) a

@@ -13,11 +13,13 @@ use Rattle.sc_text.specs.Reading.{Stops, Takes}
 use Rattle.sc_text.proofs.Steps.{wrong_at, next_stops, stops_as}
 use Rattle.drafts.specs.declared.parts.Named.{Named}
 use Rattle.drafts.specs.declared.parts.Declaration.{Declaration}
+use Rattle.scl.specs.Rules.{fork_limit, if_limit}
 use Rattle.scl_drafts.specs.declared.draft.Draft.{Draft}
 use Rattle.scl_drafts.specs.Statements.{Statements}
 use Rattle.scl_drafts.specs.Draft.{declared}
 use Rattle.scl_drafts.specs.Program.{Grows, Text, name, declaration, program, thread, scl}
-use Rattle.scl_drafts.specs.Inside.{TakesName, Adds, AddsBody, Drafts, in_braces, alone, one_declared, inner_forks, inner_ifs, within}
+use Rattle.scl_drafts.specs.Inside.{TakesName, Adds, AddsBody, Drafts, in_braces, alone, one_declared}
+use Rattle.scl_drafts.specs.Within.{inner_forks, inner_ifs, within}
 use Rattle.scl_drafts.proofs.Blocks.{each_alone}
 use Rattle.scl_drafts.proofs.Declaring.{each_declared}
 use Rattle.scl_drafts.proofs.Names.{name_got}
@@ -36,7 +38,7 @@ scl_word = TheWord word.Scl ∷ []
 -- ---- what stands in the braces
 
 abbrev inner : Grows (List (Token × (Token × Token)) × Statements)
-inner = seq (many declaration) (many (within 32 32))
+inner = seq (many declaration) (many (within fork_limit if_limit))
 
 module _ (text : List Token) where
   pub open_stops : (end : ℕ) (f : ReadFault) → Stops end (read (one {L = text_tokens} opening) text) f → Stops end (read in_braces text) f
@@ -48,21 +50,21 @@ module _ (text : List Token) where
 
     pub declarations_stop : (end : ℕ) (f : ReadFault) → Stops end (read (many declaration) inside) f → Stops end (read in_braces text) f
     declarations_stop end f s =
-        in_body end f (before_stops closing inner end inside f (pair_stops_first (many declaration) (many (within 32 32)) end inside f s))
+        in_body end f (before_stops closing inner end inside f (pair_stops_first (many declaration) (many (within fork_limit if_limit)) end inside f s))
 
     module _ (old_variables variables : List Declaration) (start : List Token)
         (a : Adds (flat_map one_declared) (read (many declaration) inside) old_variables variables start) where
-      pub statements_stop : (end : ℕ) (f : ReadFault) → Stops end (read (many (within 32 32)) start) f → Stops end (read in_braces text) f
+      pub statements_stop : (end : ℕ) (f : ReadFault) → Stops end (read (many (within fork_limit if_limit)) start) f → Stops end (read in_braces text) f
       statements_stop end f s =
           in_body end f
           (before_stops closing inner end inside f
-          (pair_stops_second (many declaration) (many (within 32 32)) end inside start a.meaning f a.is s))
+          (pair_stops_second (many declaration) (many (within fork_limit if_limit)) end inside start a.meaning f a.is s))
 
       module _ (old_statements statements : Statements) (rest : List Token)
-          (c : Adds (flat_map alone) (read (many (within 32 32)) start) old_statements statements rest) where
+          (c : Adds (flat_map alone) (read (many (within fork_limit if_limit)) start) old_statements statements rest) where
         inner_got : read inner inside ≡ Got (a.meaning, c.meaning) rest
         inner_got =
-            pair_got (many declaration) (many (within 32 32)) inside start rest a.meaning c.meaning a.is c.is
+            pair_got (many declaration) (many (within fork_limit if_limit)) inside start rest a.meaning c.meaning a.is c.is
 
         pub close_stops : (end : ℕ) (f : ReadFault) → Stops end (read (one {L = text_tokens} closing) rest) f → Stops end (read in_braces text) f
         close_stops end f s = in_body end f (before_stops_behind closing inner end inside rest (a.meaning, c.meaning) f inner_got s)

@@ -9,17 +9,18 @@ use Rattle.sc_text.specs.declared.sign.Sign.TheVariants as sign
 use Rattle.sc_text.specs.declared.token.Token.{Token}
 use Rattle.sc_text.specs.Classes.{Class, AName, TheWord, TheSign}
 use Rattle.sc_text.specs.Phrases.{Phrase}
-use Rattle.sc_text.specs.Expression.{text_tokens, after, before, expression}
+use Rattle.sc_text.specs.Expression.{text_tokens, after, before}
 use Rattle.drafts.specs.declared.parts.Named.{Named}
 use Rattle.drafts.specs.declared.parts.TextExpression.{TextExpression}
 use Rattle.drafts.specs.declared.parts.Declaration.{Declaration}
 use Rattle.drafts.specs.Parts.{named, expressed, role_of, kind_of}
-use Rattle.scl_drafts.specs.declared.statement.TextStatement.{TextStatement}
+use Rattle.scl.specs.Rules.{fork_limit, if_limit}
 use Rattle.scl_drafts.specs.Statements.{Statements, branch_of}
 use Rattle.sc_values.specs.declared.value.Kind.{Kind}
 use Rattle.sc_graph.specs.declared.program.Role.{Role}
 use Rattle.scl_drafts.specs.declared.draft.Draft.{Draft}
-use Rattle.scl_drafts.specs.Program.{Grows, name, declaration, Inner, Text, forking, statement, ifs_within, forks_within}
+use Rattle.scl_drafts.specs.Program.{Grows, name, declaration, Text}
+use Rattle.scl_drafts.specs.Within.{within}
 use Rattle.scl_drafts.specs.Draft.{declared, draft_of}
 
 -- this name is next
@@ -58,21 +59,6 @@ alone x = x ∷ []
 abbrev pub statement_classes : List Class
 statement_classes = TheWord word.If ∷ TheWord word.Fork ∷ AName ∷ TheWord word.Goto ∷ TheWord word.Pause ∷ []
 
--- the statements within one more fork, where so many may still stand in one another; and within one more if
-unfoldable pub inner_forks : ℕ → Inner
-inner_forks forks = forks_within (expression 0) 32 forks
-
-unfoldable pub inner_ifs : (forks ifs : ℕ) → Inner
-inner_ifs forks ifs = ifs_within (expression 0) (inner_forks forks) ifs
-
--- a statement, where so many forks and so many ifs may still stand in one another
-unfoldable pub within : (forks ifs : ℕ) → Grows TextStatement
-within forks ifs = statement (expression 0) (inner_forks forks) (inner_ifs forks ifs)
-
--- a statement that is no if
-unfoldable pub no_if : (forks : ℕ) → Grows TextStatement
-no_if forks = forking (expression 0) (inner_forks forks)
-
 -- a branch, by the word that opens it
 abbrev pub one_branch : Token × Statements → List (ℕ × Statements)
 one_branch b = branch_of b ∷ []
@@ -101,7 +87,7 @@ one_declared d = declared d ∷ []
 abbrev pub in_braces : Grows (List (Token × (Token × Token)) × Statements)
 in_braces =
     after (TheSign sign.OpenBrace ∷ [])
-    (before (seq (many declaration) (many (within 32 32))) (TheSign sign.CloseBrace ∷ []))
+    (before (seq (many declaration) (many (within fork_limit if_limit))) (TheSign sign.CloseBrace ∷ []))
 
 -- it was read
 pub record AddsBody (o : Outcome Token (List (Token × (Token × Token)) × Statements)) (old_variables variables : List Declaration)

@@ -2,7 +2,7 @@
 
 ghost use Rattle.std.specs.Prelude.{◌≡◌, None, IfOk, IfErr};
 ghost use Rattle.drafts.specs.Told.{told_of};
-ghost use Rattle.drafts.specs.Inside.{first_behind};
+ghost use Rattle.drafts.specs.First.{first_behind};
 ghost use Rattle.scl_drafts.specs.Flaws.{scl_flaws};
 ghost use Rattle.scl_drafts.specs.Checked.{IsFlawless, IsTextFault};
 

@@ -7,10 +7,11 @@ ghost use Rattle.grammar.specs.Read.{read, starts};
 ghost use Rattle.sc_text.specs.Classes.{TheWord};
 ghost use Rattle.sc_text.specs.Expression.{text_tokens, after, expression};
 ghost use Rattle.sc_text.specs.Reading.{Stops};
+ghost use Rattle.scl.specs.Rules.{if_limit};
 ghost use Rattle.scl_drafts.specs.Statements.{none_or_them};
 ghost use Rattle.scl_drafts.specs.Program.{block, test, choice, branch, fork};
-ghost use Rattle.scl_drafts.specs.Inside.{Adds, TakesValue, itself, alone, one_branch, statement_classes, within};
-ghost use Rattle.scl_drafts.specs.Inside.{no_if};
+ghost use Rattle.scl_drafts.specs.Inside.{Adds, TakesValue, itself, alone, one_branch, statement_classes};
+ghost use Rattle.scl_drafts.specs.Within.{no_if, within};
 
 use crate::name::name_follows;
 use crate::simple::simple;
@@ -217,8 +218,8 @@ fn fork<'a>(
     into: &mut Items<TextStatement>,
 ) -> Result<&'a [Token], ReadFault>
     ensures { MatchResult result
-        (λ rest. Adds alone (read (fork (within forks 32)) tokens.now) into.old into.new rest.now)
-        (λ fault. Stops end (read (fork (within forks 32)) tokens.now) fault) }
+        (λ rest. Adds alone (read (fork (within forks if_limit)) tokens.now) into.old into.new rest.now)
+        (λ fault. Stops end (read (fork (within forks if_limit)) tokens.now) fault) }
 {
     let mut all = Items::new(alloc);
     let more = branch(alloc, forks, Word::Fork, tokens, end, &mut all)?;
@@ -244,9 +245,9 @@ fn branches<'a>(
     into: &mut Items<(usize, Items<TextStatement>)>,
 ) -> Result<&'a [Token], ReadFault>
     ensures { MatchResult result
-        (λ rest. Adds (flat_map one_branch) (read (many (branch Word.Par (within forks 32))) tokens.now)
+        (λ rest. Adds (flat_map one_branch) (read (many (branch Word.Par (within forks if_limit))) tokens.now)
         into.old into.new rest.now)
-        (λ fault. Stops end (read (many (branch Word.Par (within forks 32))) tokens.now) fault) }
+        (λ fault. Stops end (read (many (branch Word.Par (within forks if_limit))) tokens.now) fault) }
 {
     let mut rest = tokens;
     let most = rest.len();
@@ -271,8 +272,8 @@ fn branch<'a>(
     into: &mut Items<(usize, Items<TextStatement>)>,
 ) -> Result<&'a [Token], ReadFault>
     ensures { MatchResult result
-        (λ rest. Adds one_branch (read (branch opening (within forks 32)) tokens.now) into.old into.new rest.now)
-        (λ fault. Stops end (read (branch opening (within forks 32)) tokens.now) fault) }
+        (λ rest. Adds one_branch (read (branch opening (within forks if_limit)) tokens.now) into.old into.new rest.now)
+        (λ fault. Stops end (read (branch opening (within forks if_limit)) tokens.now) fault) }
 {
     let at = place(tokens, end);
     let body = past_word(tokens, end, opening)?;

@@ -18,7 +18,7 @@ use Rattle.scl.specs.declared.statement.Statement.TheVariants as statement
 use Rattle.scl.specs.declared.statement.Statement.TheVariants.{rolls-Fork}
 use Rattle.scl.specs.declared.statement.Statement.TheFolds.{fold-roll-Statement}
 use Rattle.scl.specs.Rules as rules
-use Rattle.scl.specs.Rules.{part_of}
+use Rattle.scl.specs.Rules.{part_of, if_limit}
 use Rattle.scl_printer.specs.Layout.{line, in_row, branches_text, statement_text}
 use Rattle.scl_drafts.specs.declared.statement.TextStatement.{TextStatement}
 use Rattle.scl_drafts.specs.declared.statement.TextStatement.TheOpen as text
@@ -28,7 +28,7 @@ use Rattle.scl_drafts.specs.declared.statement.TextStatement.TheFolds.{fold-roll
 use Rattle.scl_drafts.specs.Flaws as flaws
 use Rattle.scl_drafts.specs.Statements.{Statements, branch_of}
 use Rattle.scl_drafts.specs.Program.{Grows, branch, fork}
-use Rattle.scl_drafts.specs.Inside.{within}
+use Rattle.scl_drafts.specs.Within.{within}
 use Rattle.scl_reader.specs.Resolved.{resolved, statement_of, statements_of}
 use Rattle.scl_printer_laws.proofs.Cuts.{Cuts, cuts_both, signed_at, worded_at}
 use Rattle.scl_printer_laws.proofs.Lines.{begins_at, cuts_line}
@@ -88,7 +88,7 @@ module _ (V : List Declaration) where
 
   further_read : (branches : List (List Statement)) → Every (Every (Reads V)) branches → (forks ifs before : ℕ)
       → Can V forks ifs (rules.side_by_side (rule_parts branches)) → before + length branches ≤ child_limit → (level : ℕ) (rest : List ℕ) (at : ℕ)
-      → FurtherRead (within forks 32) (branches_text (codes "} par {") (map (texts_of V) branches) level ++ line (codes "} join;") level) rest at before
+      → FurtherRead (within forks if_limit) (branches_text (codes "} par {") (map (texts_of V) branches) level ++ line (codes "} join;") level) rest at before
       branches
   further_read [] e forks ifs before can few level rest at =
       let b : ℕ = begins_at level at in
@@ -116,9 +116,9 @@ module _ (V : List Declaration) where
       let inner : ℕ = at + length opening in
       let room : before + 1 ≤ child_limit = omega (arith, few) in
       let fewer : before + 1 + length branches ≤ child_limit = omega (arith, few) in
-      let r : RowReads V (within forks 32) row ((others ++ last) ++ rest) inner b =
+      let r : RowReads V (within forks if_limit) row ((others ++ last) ++ rest) inner b =
       row_reads V b e.0 forks 32 (can_thread V forks ifs p one) (suc level) ((others ++ last) ++ rest) inner in
-      let f : FurtherRead (within forks 32) (others ++ last) rest (inner + length row) (before + 1) branches =
+      let f : FurtherRead (within forks if_limit) (others ++ last) rest (inner + length row) (before + 1) branches =
       further_read branches e.1 forks ifs (before + 1) (can_second V forks ifs (rules.thread p) kept can) fewer level rest (inner + length row) in
       let w : Token = worded_at word.Par (start + 2) in
       let o : Token = signed_at sign.OpenBrace (start + 2 + 3 + 1) in
@@ -143,7 +143,7 @@ module _ (V : List Declaration) where
           w ∷ (o ∷ (r.tokens ++ c ∷ [])),
           f.tokens,
           refl,
-          branch_is word.Par (within forks 32) (start + 2) (start + 2 + 3 + 1) f.closing r.tokens r.meaning refl
+          branch_is word.Par (within forks if_limit) (start + 2) (start + 2 + 3 + 1) f.closing r.tokens r.meaning refl
               r.spelled,
           f.spelled,
         );
@@ -199,9 +199,9 @@ module _ (V : List Declaration) where
       let few = can.branches.0.1 in
       let fewer : 0 + 1 + length branches ≤ child_limit = omega (arith, long, few) in
       let room : 0 + 1 ≤ child_limit = omega (arith, fewer) in
-      let r : RowReads V (within forks 32) row ((others ++ last) ++ rest) inner b =
+      let r : RowReads V (within forks if_limit) row ((others ++ last) ++ rest) inner b =
       row_reads V b e.0 forks 32 (can_thread V forks ifs p one) (suc level) ((others ++ last) ++ rest) inner in
-      let f : FurtherRead (within forks 32) (others ++ last) rest (inner + length row) (0 + 1) branches =
+      let f : FurtherRead (within forks if_limit) (others ++ last) rest (inner + length row) (0 + 1) branches =
       further_read branches e.1 forks ifs (0 + 1) (can_second V forks ifs (rules.thread p) kept inside) fewer level rest (inner + length row) in
       let w : Token = worded_at word.Fork start in
       let o : Token = signed_at sign.OpenBrace (start + 4 + 1) in
@@ -221,11 +221,11 @@ module _ (V : List Declaration) where
       (cuts_opening word.Fork 102 (codes "ork") refl refl refl ((row ++ (others ++ last)) ++ rest) start))
       (cuts_both row (others ++ last) rest inner r.tokens (c ∷ (f.tokens ++ joined)) r.cut f.cut))
       (within_fork forks ifs tokens m
-      (subst (λ ts. spells (fork (within forks 32)) ts m)
+      (subst (λ ts. spells (fork (within forks if_limit)) ts m)
       {x = branched ++ ((f.tokens ++ worded_at word.Join f.joining ∷ []) ++ signed_at sign.Semicolon f.ending ∷ [])} {y = tokens}
       (forked r.tokens f.tokens w o c (worded_at word.Join f.joining) (signed_at sign.Semicolon f.ending))
-      (fork_is (within forks 32) f.joining f.ending branched f.tokens (w, r.meaning) f.meaning
-      (branch_is word.Fork (within forks 32) start (start + 4 + 1) f.closing r.tokens r.meaning refl r.spelled) f.spelled)))
+      (fork_is (within forks if_limit) f.joining f.ending branched f.tokens (w, r.meaning) f.meaning
+      (branch_is word.Fork (within forks if_limit) start (start + 4 + 1) f.closing r.tokens r.meaning refl r.spelled) f.spelled)))
       (like_forked count (flaws.side_by_side 0 (flaw_parts all)) (rules.both (rules.thread p) kept)
       (like_branch 0 w r.meaning f.meaning b branches room one.lost r.like f.like))
 

@@ -32,7 +32,7 @@ use Rattle.scl_drafts.specs.declared.statement.TextStatement.TheFolds.{fold-roll
 use Rattle.scl_drafts.specs.Flaws as flaws
 use Rattle.scl_drafts.specs.Statements.{Statements, none_or_them}
 use Rattle.scl_drafts.specs.Program.{Grows, choice}
-use Rattle.scl_drafts.specs.Inside.{within}
+use Rattle.scl_drafts.specs.Within.{within}
 use Rattle.scl_reader.specs.Resolved.{resolved, statement_of, statements_of}
 use Rattle.sc_text.specs.Expression.{expression}
 use Rattle.scl_printer_laws.proofs.Longest.{Quiet}

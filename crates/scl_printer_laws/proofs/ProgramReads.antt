@@ -35,14 +35,14 @@ use Rattle.drafts.proofs.Distinct.{AreFirst, count, distinct_once, once_distinct
 use Rattle.scl.specs.declared.program.Scl.{Scl}
 use Rattle.scl.specs.declared.statement.Statement.{Statement}
 use Rattle.scl.specs.Rules as rules
-use Rattle.scl.specs.Rules.{part_of, parts_of, KeepsBody, KeepsRules}
+use Rattle.scl.specs.Rules.{part_of, parts_of, KeepsBody, KeepsRules, fork_limit, if_limit}
 use Rattle.scl_printer.specs.Layout.{line, in_row, statement_text, statements_text, declarations_text, text_of}
 use Rattle.scl_drafts.specs.declared.draft.Draft.{Draft}
 use Rattle.scl_drafts.specs.declared.statement.TextStatement.{TextStatement}
 use Rattle.scl_drafts.specs.Flaws as flaws
 use Rattle.scl_drafts.specs.Flaws.{names, repeated, scl_flaws}
 use Rattle.scl_drafts.specs.Program.{Grows, Text, name, declaration, program, thread, scl}
-use Rattle.scl_drafts.specs.Inside.{inner_forks, inner_ifs, within}
+use Rattle.scl_drafts.specs.Within.{inner_forks, inner_ifs, within}
 use Rattle.scl_drafts.specs.Draft.{declared, draft_of, IsDraft}
 use Rattle.scl_reader.specs.Read.{IsRead}
 use Rattle.scl_reader.proofs.Pieces.{every_of}
@@ -81,7 +81,7 @@ program_is s n a b c d ds ts variables all h i =
     (worded_at word.Scl a) (named_at n b ∷ inside) (named_at n b, (variables, all)) refl
     (named_at n b ∷ [], inside, refl, (refl, refl), braced)
 
-scl_is : (ts : List Token) (x : Text) → spells (program (within 32 32)) ts x → spells (scl 0) ts x
+scl_is : (ts : List Token) (x : Text) → spells (program (within fork_limit if_limit)) ts x → spells (scl 0) ts x
 unfolding scl thread within inner_forks inner_ifs
 scl_is ts x s = s
 
@@ -228,12 +228,12 @@ module _ (p : Scl) (kept : KeepsRules p.name p.variables p.body) (can : CanWrite
     statements_are : in_row (texts_of V p.body) 1 ≡ statements
     statements_are = ap (λ vs. in_row (map (statement_text vs) p.body) 1) d.means ∙ sym (text_of_row p.variables p.body 1)
 
-    body_reads : RowReads V (within 32 32) (in_row (texts_of V p.body) 1) (last ++ []) inner p.body
+    body_reads : RowReads V (within fork_limit if_limit) (in_row (texts_of V p.body) 1) (last ++ []) inner p.body
     body_reads =
         row_reads V p.body (every_reads V (first V p.body declares body_kept named labels_can can.assigned can.tests) called p.body) 32 32
         (body_can V p.body declares body_kept named labels_can can.assigned can.tests) 1 (last ++ []) inner
 
-    module _ (b : RowReads V (within 32 32) (in_row (texts_of V p.body) 1) (last ++ []) inner p.body) where
+    module _ (b : RowReads V (within fork_limit if_limit) (in_row (texts_of V p.body) 1) (last ++ []) inner p.body) where
       abbrev tokens : List Token
       tokens = scl_token ∷ (name_token ∷ (open_token ∷ ((d.tokens ++ b.tokens) ++ close_token ∷ [])))
 
@@ -265,7 +265,8 @@ module _ (p : Scl) (kept : KeepsRules p.name p.variables p.body) (can : CanWrite
         cut = text_tokens_are;
         program = meaning;
         spelled = scl_is tokens meaning
-            (program_is (within 32 32) p.name start (start + 4) (start + 4 + length p.name + 1) end d.tokens b.tokens d.meaning b.meaning d.spelled b.spelled);
+            (program_is (within fork_limit if_limit) p.name start (start + 4) (start + 4 + length p.name + 1) end d.tokens b.tokens d.meaning b.meaning
+            d.spelled b.spelled);
         drafted = refl;
       }
 

@@ -35,7 +35,7 @@ use Rattle.scl_drafts.specs.declared.statement.TextStatement.TheVariants.{rolls-
 use Rattle.scl_drafts.specs.declared.statement.TextStatement.TheVariants.{rolls-Goto as rolls-text-Goto, rolls-Pause as rolls-text-Pause}
 use Rattle.scl_drafts.specs.declared.statement.TextStatement.TheFolds.{fold-roll-TextStatement}
 use Rattle.scl_drafts.specs.Flaws as flaws
-use Rattle.scl_drafts.specs.Inside.{within}
+use Rattle.scl_drafts.specs.Within.{within}
 use Rattle.scl_reader.specs.Resolved.{resolved, statement_of}
 use Rattle.scl_printer_laws.specs.Reading.{CanWrite}
 use Rattle.scl_printer_laws.proofs.Longest.{Closes}

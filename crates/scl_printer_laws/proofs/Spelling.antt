@@ -8,11 +8,12 @@ use Rattle.sc_text.specs.declared.token.Token.{Token}
 use Rattle.sc_text.specs.Classes.{Class, TheWord, TheSign}
 use Rattle.sc_text.specs.Phrases.{Phrase}
 use Rattle.sc_text.specs.Expression.{after, before, expression}
+use Rattle.scl.specs.Rules.{if_limit}
 use Rattle.scl_drafts.specs.declared.statement.TextStatement.{TextStatement}
 use Rattle.scl_drafts.specs.Statements.{Statements, Becomes, IsLabel, named_statement, goto_statement, pause_statement, if_statement, fork_statement}
 use Rattle.scl_drafts.specs.Program.{Grows, name, semicolon, assigned, labelled, named, goto, pause, simple, block, test, choice, branch, fork}
 use Rattle.scl_drafts.specs.Program.{forking, statement, ifs_within, forks_within}
-use Rattle.scl_drafts.specs.Inside.{inner_forks, inner_ifs, within}
+use Rattle.scl_drafts.specs.Within.{inner_forks, inner_ifs, within}
 use Rattle.scl_printer_laws.proofs.Lines.{named_at}
 use Rattle.scl_printer_laws.proofs.Cuts.{signed_at, worded_at}
 use Rattle.scl_printer_laws.proofs.Levels.{Fits}
@@ -167,7 +168,7 @@ pub within_if : (forks ifs : ℕ) (ts : List Token) (s : TextStatement) → spel
 unfolding within inner_forks inner_ifs statement ifs_within
 within_if forks ifs ts s h = inl h
 
-pub within_fork : (forks ifs : ℕ) (ts : List Token) (s : TextStatement) → spells (fork (within forks 32)) ts s → spells (within (suc forks) ifs) ts s
+pub within_fork : (forks ifs : ℕ) (ts : List Token) (s : TextStatement) → spells (fork (within forks if_limit)) ts s → spells (within (suc forks) ifs) ts s
 unfolding within inner_forks inner_ifs statement forking ifs_within forks_within
 within_fork forks zero ts s h = inl h
 within_fork forks (suc i) ts s h = inr (inl h)

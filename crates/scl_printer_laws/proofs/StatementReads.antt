@@ -13,7 +13,7 @@ use Rattle.scl_printer.specs.Layout.{Piece, in_row, statement_text}
 use Rattle.scl_drafts.specs.declared.statement.TextStatement.{TextStatement}
 use Rattle.scl_drafts.specs.Flaws as flaws
 use Rattle.scl_drafts.specs.Program.{Grows}
-use Rattle.scl_drafts.specs.Inside.{within}
+use Rattle.scl_drafts.specs.Within.{within}
 use Rattle.scl_reader.specs.Resolved.{statement_of, statements_of}
 use Rattle.scl_printer_laws.proofs.Cuts.{Cuts, cuts_both, cuts_nothing}
 use Rattle.scl_printer_laws.proofs.ThreadParts.{Can, can_first, can_second, Like, like_nothing, like_both}

@@ -4,8 +4,8 @@ ghost use Rattle.std.specs.Prelude.{◌≡◌, ◌++◌, ◌∷◌, [], true, fa
 ghost use Rattle.json.specs.Print.{quoted};
 ghost use Rattle.state_traces.specs.Listed.{list_text, states_text, text_at};
 
-use serde_json::Value as Json;
 use std::alloc::{AllocError, Global};
+use trace_lines::quoted;
 
 /// Texts as JSON writes them.
 pub fn quoted_all(alloc: Global, texts: &[String]) -> Result<Vec<String>, AllocError>
@@ -16,13 +16,6 @@ pub fn quoted_all(alloc: Global, texts: &[String]) -> Result<Vec<String>, AllocE
         shown.push(quoted(alloc, text.as_str())?)?;
     }
     Ok(shown)
-}
-
-// A text as JSON writes it.
-fn quoted(alloc: Global, text: &str) -> Result<String, AllocError>
-    ensures { IfOk result (λ shown. string_bytes shown ≡ quoted text.now) }
-{
-    Json::String(String::from_str(alloc, text)?).to_string(alloc)
 }
 
 // Puts the text at this place behind a line.

@@ -1,27 +1,27 @@
 -- Where a text stops, by its one fault.
 use Rattle.std.proofs.Common.{ℕ, ◌≡◌, ◌↔◌, ◌<◌, ◌≤◌, ◌+◌, Bool, true, false, not, Option, Some, None, IsTrue, List, [], length, take, get_or, refl, sym, subst}
 use Rattle.std.proofs.lemmas.List.{take_more, take_all}
-use Rattle.sc_text.specs.declared.language.Language.{Language}
 use Rattle.sc_text.specs.declared.read_fault.FaultKind.{FaultKind}
 use Rattle.sc_text.specs.declared.read_fault.ReadFault.TheVariants as fault
 use Rattle.text_continuations.specs.Continuations.{IsFaultOf, StopsAt, is_of_grammar, AreThose, none, taken, left}
+use Rattle.text_continuations.specs.declared.grammars.Grammar.{Grammar}
 use Rattle.text_continuations.specs.Inside.{TellsFault, IsStop, Adds, added, kept}
 
-stop_is : (l : Language) (text : List ℕ) (at : ℕ) (o : Option (FaultKind × ℕ)) → TellsFault l text o → IsStop o at ↔ StopsAt l text at
-stop_is l text at None tells = (λ stop. absurd stop, λ s. absurd (tells.none s.broken at s.fault))
-stop_is l text at (Some found) tells = (
+stop_is : (g : Grammar) (text : List ℕ) (at : ℕ) (o : Option (FaultKind × ℕ)) → TellsFault g text o → IsStop o at ↔ StopsAt g text at
+stop_is g text at None tells = (λ stop. absurd stop, λ s. absurd (tells.none s.broken at s.fault))
+stop_is g text at (Some found) tells = (
   λ stop. record {
     broken = found.0;
     of_grammar = stop.1;
-    fault = subst (λ place. IsFaultOf l text (fault.Text found.0 place)) stop.0 tells.has;
+    fault = subst (λ place. IsFaultOf g text (fault.Text found.0 place)) stop.0 tells.has;
   },
   λ s. let same = tells.one s.broken at s.fault in (sym same.1, subst (λ b. IsTrue (is_of_grammar b)) same.0 s.of_grammar),
 )
 
-pub follows : (l : Language) (text : List ℕ) (at : ℕ) (o : Option (FaultKind × ℕ)) (stop : Bool) → TellsFault l text o
-    → IsTrue stop ↔ IsStop o at → IsTrue (not stop) ↔ (¬ StopsAt l text at)
-follows l text at o true tells is = (λ f. cc, λ free. absurd (free ((stop_is l text at o tells).0 (is.0 refl))))
-follows l text at o false tells is = (λ t stops. let no = is.1 ((stop_is l text at o tells).1 stops) in cc, λ free. cc)
+pub follows : (g : Grammar) (text : List ℕ) (at : ℕ) (o : Option (FaultKind × ℕ)) (stop : Bool) → TellsFault g text o
+    → IsTrue stop ↔ IsStop o at → IsTrue (not stop) ↔ (¬ StopsAt g text at)
+follows g text at o true tells is = (λ f. cc, λ free. absurd (free ((stop_is g text at o tells).0 (is.0 refl))))
+follows g text at o false tells is = (λ t stops. let no = is.1 ((stop_is g text at o tells).1 stops) in cc, λ free. cc)
 
 pub begun : {X : Type 0} (P : X → Type 0) (found : List X) → found ≡ [] → AreThose P [] found
 begun P found is = subst (AreThose P []) (sym is) none

@@ -13,12 +13,30 @@ use Rattle.sc_text.specs.declared.sign.Sign.TheVariants as sign
 use Rattle.sc_text.specs.Words.{word_text, sign_text}
 use Rattle.chart_drafts.specs.Checked as charts
 use Rattle.scl_drafts.specs.Checked as programs
+use Rattle.extended_drafts.specs.Checked as extended
+use Rattle.extended_sources.specs.FirstWord.{BeginsExtended}
+use Rattle.sc_text.specs.FirstToken.{IsIn}
 use Rattle.text_continuations.specs.declared.continuations.Continuations.{Continuations}
+use Rattle.text_continuations.specs.declared.grammars.Grammar.{Grammar}
+use Rattle.text_continuations.specs.declared.grammars.Grammar.TheVariants as grammars
 
--- the fault of a text of this language
-abbrev pub IsFaultOf : Language → List ℕ → ReadFault → Type 0
-IsFaultOf language.Chart text f = charts.IsTextFault text f
-IsFaultOf language.Scl text f = programs.IsTextFault text f
+-- the grammar by which a text is read: its first token tells
+abbrev pub IsReadBy : List ℕ → Grammar → Type 0
+IsReadBy text grammars.Chart = IsIn text language.Chart
+IsReadBy text grammars.ExtendedChart = BeginsExtended text
+IsReadBy text grammars.Scl = (¬ BeginsExtended text) × IsIn text language.Scl
+
+-- the language into whose tokens a text of this grammar is cut
+abbrev pub tokens_of : Grammar → Language
+tokens_of grammars.Chart = language.Chart
+tokens_of grammars.ExtendedChart = language.Chart
+tokens_of grammars.Scl = language.Scl
+
+-- the fault of a text of this grammar
+abbrev pub IsFaultOf : Grammar → List ℕ → ReadFault → Type 0
+IsFaultOf grammars.Chart text f = charts.IsTextFault text f
+IsFaultOf grammars.ExtendedChart text f = extended.IsTextFault text f
+IsFaultOf grammars.Scl text f = programs.IsTextFault text f
 
 -- what is broken where a text cannot go on: the grammar, or a limit
 abbrev pub is_of_grammar : FaultKind → Bool
@@ -26,15 +44,15 @@ is_of_grammar broken.Grammar = true
 is_of_grammar broken.Limit = true
 is_of_grammar other = false
 
--- the text cannot go on with what stands at this place: no text of the language does, or only texts that pass a limit
-pub record StopsAt (l : Language) (text : List ℕ) (at : ℕ) : Type 0 where
+-- the text cannot go on with what stands at this place: no text of the grammar does, or only texts that pass a limit
+pub record StopsAt (g : Grammar) (text : List ℕ) (at : ℕ) : Type 0 where
   pub broken : FaultKind
   pub of_grammar : IsTrue (is_of_grammar broken)
-  pub fault : IsFaultOf l text (fault.Text broken at)
+  pub fault : IsFaultOf g text (fault.Text broken at)
 
 -- the piece can follow these bytes, with a space between
-abbrev pub CanFollow : Language → List ℕ → List ℕ → Type 0
-CanFollow l front piece = ¬ StopsAt l (front ++ (codes " " ++ piece)) (length front + 1)
+abbrev pub CanFollow : Grammar → List ℕ → List ℕ → Type 0
+CanFollow g front piece = ¬ StopsAt g (front ++ (codes " " ++ piece)) (length front + 1)
 
 -- those of a list of which this holds, in its order
 pub data AreThose {X : Type 0} (P : X → Type 0) : List X → List X → Type 0 where
@@ -55,8 +73,8 @@ all_signs =
     ∷ sign.Less ∷ sign.LessOrEqual ∷ sign.Greater ∷ sign.GreaterOrEqual ∷ []
 
 -- what can follow these bytes: a name, a number, and which of the words and signs
-pub record AreContinuations (l : Language) (front : List ℕ) (c : Continuations) : Type 0 where
-  pub name : IsTrue c.name ↔ CanFollow l front (codes "x")
-  pub number : IsTrue c.number ↔ CanFollow l front (codes "1")
-  pub words : AreThose (λ w. CanFollow l front (word_text w)) all_words c.words
-  pub signs : AreThose (λ s. CanFollow l front (sign_text s)) all_signs c.signs
+pub record AreContinuations (g : Grammar) (front : List ℕ) (c : Continuations) : Type 0 where
+  pub name : IsTrue c.name ↔ CanFollow g front (codes "x")
+  pub number : IsTrue c.number ↔ CanFollow g front (codes "1")
+  pub words : AreThose (λ w. CanFollow g front (word_text w)) all_words c.words
+  pub signs : AreThose (λ s. CanFollow g front (sign_text s)) all_signs c.signs

@@ -1,23 +1,23 @@
 -- What private functions answer of a text.
 use Rattle.std.specs.Prelude.{ℕ, ◌≡◌, Option, Some, None, IsTrue, List, [], ◌∷◌, ◌++◌}
-use Rattle.sc_text.specs.declared.language.Language.{Language}
 use Rattle.sc_text.specs.declared.read_fault.FaultKind.{FaultKind}
 use Rattle.sc_text.specs.declared.read_fault.ReadFault.TheVariants as fault
 use Rattle.text_continuations.specs.Continuations.{IsFaultOf, is_of_grammar}
+use Rattle.text_continuations.specs.declared.grammars.Grammar.{Grammar}
 
 -- the text has no fault
-pub record HasNoFault (l : Language) (text : List ℕ) : Type 0 where
-  pub none : (b : FaultKind) (at : ℕ) → ¬ IsFaultOf l text (fault.Text b at)
+pub record HasNoFault (g : Grammar) (text : List ℕ) : Type 0 where
+  pub none : (b : FaultKind) (at : ℕ) → ¬ IsFaultOf g text (fault.Text b at)
 
 -- the text has this one fault at this place
-pub record HasFault (l : Language) (text : List ℕ) (found : FaultKind × ℕ) : Type 0 where
-  pub has : IsFaultOf l text (fault.Text found.0 found.1)
-  pub one : (b : FaultKind) (at : ℕ) → IsFaultOf l text (fault.Text b at) → (b ≡ found.0) × (at ≡ found.1)
+pub record HasFault (g : Grammar) (text : List ℕ) (found : FaultKind × ℕ) : Type 0 where
+  pub has : IsFaultOf g text (fault.Text found.0 found.1)
+  pub one : (b : FaultKind) (at : ℕ) → IsFaultOf g text (fault.Text b at) → (b ≡ found.0) × (at ≡ found.1)
 
 -- the one fault of a text, or that it has none
-abbrev pub TellsFault : Language → List ℕ → Option (FaultKind × ℕ) → Type 0
-TellsFault l text None = HasNoFault l text
-TellsFault l text (Some found) = HasFault l text found
+abbrev pub TellsFault : Grammar → List ℕ → Option (FaultKind × ℕ) → Type 0
+TellsFault g text None = HasNoFault g text
+TellsFault g text (Some found) = HasFault g text found
 
 -- the fault is one of the grammar or of a limit, at this place
 abbrev pub IsStop : Option (FaultKind × ℕ) → ℕ → Type 0

@@ -7,7 +7,8 @@ ghost use Rattle.text_continuations.specs.Continuations.{is_of_grammar};
 ghost use Rattle.text_continuations.specs.Inside.{Adds, IsStop};
 
 use crate::faults::fault_of;
-use sc_text::{FaultKind, Language, Sign, Word};
+use crate::grammars::Grammar;
+use sc_text::{FaultKind, Sign, Word};
 use sqlite_items::Items;
 use std::alloc::{AllocError, Global};
 
@@ -76,20 +77,20 @@ pub struct Continuations {
     pub signs: Items<Sign>,
 }
 
-/// Whether a piece can follow the bytes of a text of this language up to a place where a token may begin. Err: memory
+/// Whether a piece can follow the bytes of a text of this grammar up to a place where a token may begin. Err: memory
 /// was refused.
 #[tactic(auto, using(crate::proofs::Following::follows))]
 pub fn can_follow(
     alloc: Global,
-    language: Language,
+    grammar: Grammar,
     front: &str,
     piece: &str,
 ) -> Result<bool, AllocError>
-    ensures { IfOk result (λ can. IsTrue can ↔ CanFollow language front.now piece.now) }
+    ensures { IfOk result (λ can. IsTrue can ↔ CanFollow grammar front.now piece.now) }
 {
     let text = format!(in alloc; "{front} {piece}")?;
     let at = front.len() + 1;
-    let fault = fault_of(alloc, language, text.as_str())?;
+    let fault = fault_of(alloc, grammar, text.as_str())?;
     Ok(!is_stop(fault, at))
 }
 
@@ -116,14 +117,14 @@ fn is_stop(fault: Option<(FaultKind, usize)>, at: usize) -> bool
 // Adds a word, where it can follow.
 fn add_word(
     alloc: Global,
-    language: Language,
+    grammar: Grammar,
     front: &str,
     word: Word,
     found: &mut Items<Word>,
 ) -> Result<(), AllocError>
-    ensures { OnOk result (Adds (λ w. CanFollow language front.now (word_text w)) word found.old found.new) }
+    ensures { OnOk result (Adds (λ w. CanFollow grammar front.now (word_text w)) word found.old found.new) }
 {
-    if can_follow(alloc, language, front, word.text())? {
+    if can_follow(alloc, grammar, front, word.text())? {
         found.push(word)?;
     }
     Ok(())
@@ -132,54 +133,54 @@ fn add_word(
 // Adds a sign, where it can follow.
 fn add_sign(
     alloc: Global,
-    language: Language,
+    grammar: Grammar,
     front: &str,
     sign: Sign,
     found: &mut Items<Sign>,
 ) -> Result<(), AllocError>
-    ensures { OnOk result (Adds (λ s. CanFollow language front.now (sign_text s)) sign found.old found.new) }
+    ensures { OnOk result (Adds (λ s. CanFollow grammar front.now (sign_text s)) sign found.old found.new) }
 {
-    if can_follow(alloc, language, front, sign.text())? {
+    if can_follow(alloc, grammar, front, sign.text())? {
         found.push(sign)?;
     }
     Ok(())
 }
 
 // Which words can follow.
-fn words(alloc: Global, language: Language, front: &str) -> Result<Items<Word>, AllocError>
-    ensures { IfOk result (AreThose (λ w. CanFollow language front.now (word_text w)) all_words) }
+fn words(alloc: Global, grammar: Grammar, front: &str) -> Result<Items<Word>, AllocError>
+    ensures { IfOk result (AreThose (λ w. CanFollow grammar front.now (word_text w)) all_words) }
 {
     let mut found = Items::new(alloc);
     for word in WORDS {
-        add_word(alloc, language, front, word, &mut found)?;
+        add_word(alloc, grammar, front, word, &mut found)?;
     }
     Ok(found)
 }
 
 // Which signs can follow.
-fn signs(alloc: Global, language: Language, front: &str) -> Result<Items<Sign>, AllocError>
-    ensures { IfOk result (AreThose (λ s. CanFollow language front.now (sign_text s)) all_signs) }
+fn signs(alloc: Global, grammar: Grammar, front: &str) -> Result<Items<Sign>, AllocError>
+    ensures { IfOk result (AreThose (λ s. CanFollow grammar front.now (sign_text s)) all_signs) }
 {
     let mut found = Items::new(alloc);
     for sign in SIGNS {
-        add_sign(alloc, language, front, sign, &mut found)?;
+        add_sign(alloc, grammar, front, sign, &mut found)?;
     }
     Ok(found)
 }
 
-/// What can follow the bytes of a text of this language up to a place where a token may begin. Reads the text before
+/// What can follow the bytes of a text of this grammar up to a place where a token may begin. Reads the text before
 /// the place some fifty times. Err: memory was refused.
 pub fn continuations_of(
     alloc: Global,
-    language: Language,
+    grammar: Grammar,
     front: &str,
 ) -> Result<Continuations, AllocError>
-    ensures { IfOk result (AreContinuations language front.now) }
+    ensures { IfOk result (AreContinuations grammar front.now) }
 {
-    let name = can_follow(alloc, language, front, "x")?;
-    let number = can_follow(alloc, language, front, "1")?;
-    let words = words(alloc, language, front)?;
-    let signs = signs(alloc, language, front)?;
+    let name = can_follow(alloc, grammar, front, "x")?;
+    let number = can_follow(alloc, grammar, front, "1")?;
+    let words = words(alloc, grammar, front)?;
+    let signs = signs(alloc, grammar, front)?;
     Ok(Continuations {
         name,
         number,

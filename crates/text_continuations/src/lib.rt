@@ -3,5 +3,7 @@
 
 mod continuations;
 mod faults;
+mod grammars;
 
 pub use continuations::{Continuations, can_follow, continuations_of};
+pub use grammars::Grammar;

@@ -1,23 +1,26 @@
 -- Who leads, and whether anybody does, by the rows.
 use Rattle.std.proofs.Common.{◌≡◌, ◌≢◌, ℕ, zero, suc, ◌<◌, ◌≤◌, ◌⊎◌, Bool, true, false, List, length, get_or, Option, Some, None, slice_get, refl, sym, ap, ◌∙◌}
-use Rattle.std.proofs.Common.{inl, inr, ⊎_elim, arith}
-use Rattle.std.specs.Prelude.{◌↔◌, IsTrue, replicate}
+use Rattle.std.proofs.Common.{subst, inl, inr, ⊎_elim, arith}
+use Rattle.std.specs.Prelude.{◌↔◌, IfSome, IsTrue, MatchOption, replicate}
 use Rattle.std.proofs.lemmas.Option.{slice_get_within, same_Some, get_or_from_slice_get}
 use Rattle.std.proofs.lemmas.List.{length-replicate, get_or-replicate}
 use Rattle.buckets.specs.Rows.{Rows, IsIn, IsRow, AreEmpty, IsFirst, HasRooms}
 use Rattle.sc_values.specs.Runs.{IsOver}
+use Rattle.sc_graph.specs.declared.control.Status.{Status}
 use Rattle.sc_graph.specs.declared.tables.Tables.{Tables}
 use Rattle.sc_graph.specs.Machine.{machine}
 use Rattle.sc_graph.specs.Program.{Program}
 use Rattle.sc_graph.specs.Control.{status_of, is_enabled, IsEnabled}
 use Rattle.sc_graph.specs.Priority.{Leads}
 use Rattle.sc_graph.specs.Tables.{priority_of}
+use Rattle.tick_laws.proofs.Lists.{get_set_same}
 use Rattle.tick_core.specs.Claims.{Claim}
-use Rattle.tick_core.specs.State.{InTick, Holds}
+use Rattle.tick_core.specs.State.{InTick, Holds, Advances}
 use Rattle.tick_core.specs.Turns.{claim_of, IsReady, AreReady}
 use Rattle.tick_core.specs.Inside.Sorting.{row_at, step_priority, unless_claimed, ready_row, NodePriorities, OwnRows, AreSorted}
-use Rattle.tick_core.specs.Inside.Turns.{OpenAt, NothingToClaim, IsUnclaimed}
-use Rattle.tick_core.proofs.StateKept.{enabled_within, configuration}
+use Rattle.tick_core.specs.Inside.Onward.{LeadsOn}
+use Rattle.tick_core.specs.Inside.Turns.{OpenAt, NothingToClaim, IsUnclaimed, IsNext, DropsClaims, RunsBy}
+use Rattle.tick_core.proofs.StateKept.{enabled_within, configuration, has_place, alone_begins, alone_goes_on}
 use Rattle.tick_core.proofs.Opened.{none_open, some_open, open_or_not}
 
 -- of what is not so the answer is no
@@ -28,7 +31,7 @@ zero_or_more : (n : ℕ) → (n ≡ 0) ⊎ (0 < n)
 zero_or_more zero = inl refl
 zero_or_more (suc n) = inr (omega arith)
 
-ready_of : (o : Option (Option Claim)) (b : Bool) (n prior : ℕ) → unless_claimed o (row_at b n) ≡ Some prior → (o ≡ Some None) × (b ≡ true) × (n ≡ prior)
+pub ready_of : (o : Option (Option Claim)) (b : Bool) (n prior : ℕ) → unless_claimed o (row_at b n) ≡ Some prior → (o ≡ Some None) × (b ≡ true) × (n ≡ prior)
 ready_of (Some None) true n prior is = (refl, refl, same_Some n prior is)
 ready_of (Some None) false n prior is = absurd cc
 ready_of (Some (Some a)) b n prior is = absurd cc
@@ -193,3 +196,38 @@ own_none p q rows priorities are rooms empty =
         let some : get_or rows.classes t None ≡ Some prior = get_or_from_slice_get rows.classes t (Some prior) None is in
         let never : None ≡ Some prior = sym none ∙ some in
         cc
+
+-- a thread that led on behind its step steps next
+pub leads_next : (s s' : InTick) (h : Holds s) (t worker : ℕ) → Leads s.image.program s.image.tables s.present t → Advances s s' t worker → (rows : Rows)
+    → AreSorted s.image.program s.image.tables s.present s.claims rows → (r : Option Status)
+    → IfSome r (LeadsOn s.image.program s.image.tables s.present s'.present t rows) → IfSome r (IsNext s' t)
+leads_next s s' h t worker leads advances rows sorted None on = tt
+leads_next s s' h t worker leads advances rows sorted (Some st) on =
+    record {
+      next = record {
+        leads = subst (λ i. Leads i.program i.tables s'.present t) (sym advances.image_is) (on.leads s.claims sorted leads);
+        unclaimed = ap (λ xs. slice_get xs t) advances.claims_are ∙ get_set_same s.claims t None (has_place s h t leads);
+      };
+      standing = on.standing;
+    }
+
+-- steps of one worker, from where no claim is open to where nobody is enabled
+pub run_begins : (worker : ℕ) (s s' : InTick) (next : Option (ℕ × Status)) → DropsClaims s s'
+    → MatchOption next (NothingToClaim s') (λ n. IsNext s' n.0 n.1) → RunsBy worker s s' next
+run_begins worker s s' next drops is = record { goes = alone_begins worker s s' drops; next_is = is }
+
+pub run_goes_on : (worker : ℕ) (s s' s'' : InTick) (t : ℕ) (next more : Option (ℕ × Status)) → RunsBy worker s s' next → Advances s' s'' t worker
+    → MatchOption more (NothingToClaim s'') (λ n. IsNext s'' n.0 n.1) → RunsBy worker s s'' more
+run_goes_on worker s s' s'' t next more runs advances is = record { goes = alone_goes_on worker s s' s'' t runs.goes advances; next_is = is }
+
+pub run_steps : (worker : ℕ) (s s' : InTick) (next : Option (ℕ × Status)) (t : ℕ) (st : Status) → RunsBy worker s s' next → next ≡ Some (t, st)
+    → IsNext s' t st
+run_steps worker s s' next t st runs is = subst (λ o. MatchOption o (NothingToClaim s') (λ n. IsNext s' n.0 n.1)) is runs.next_is
+
+pub run_is_over : (worker : ℕ) (s s' : InTick) (next : Option (ℕ × Status)) → RunsBy worker s s' next → next ≡ None
+    → IsOver (machine s'.image.program) s'.present
+run_is_over worker s s' next runs is = go (subst (λ o. MatchOption o (NothingToClaim s') (λ n. IsNext s' n.0 n.1)) is runs.next_is)
+  where
+    go : NothingToClaim s' → IsOver (machine s'.image.program) s'.present
+    go (inl over) = over
+    go (inr all) = let claimed = all.each all.someone all.leads in absurd (runs.goes.no_claim all.someone claimed.0 claimed.1)

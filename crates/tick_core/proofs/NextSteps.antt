@@ -1,26 +1,30 @@
 -- What a step leaves of counts and rows.
-use Rattle.std.proofs.Common.{◌≡◌, ◌∙◌, ◌<◌, ℕ, List, length, Option, Some, None, slice_get, slice_set, refl, sym, ap, subst, arith}
+use Rattle.std.proofs.Common.{◌≡◌, ◌≢◌, ◌∙◌, ◌<◌, ◌≤◌, ◌⊎◌, ℕ, zero, suc, List, [], ◌∷◌, length, Option, Some, None, slice_get, slice_set, refl, sym, ap, subst}
+use Rattle.std.proofs.Common.{Contains, inl, inr, arith}
+use Rattle.std.proofs.lemmas.Option.{same_Some}
 use Rattle.std.specs.Prelude.{unwrap_or}
-use Rattle.buckets.specs.Rows.{Rows, HasRoom}
+use Rattle.buckets.specs.Rows.{Rows, HasRoom, IsIn}
 use Rattle.sc_graph.specs.declared.control.Control.{Control}
 use Rattle.sc_graph.specs.declared.control.Status.{Status}
 use Rattle.sc_graph.specs.declared.control.Status.TheVariants as status
 use Rattle.sc_graph.specs.declared.tables.Tables.{Tables}
 use Rattle.sc_graph.specs.Program.{Program}
-use Rattle.sc_graph.specs.Control.{status_of, status_enabled, IsEnabled}
+use Rattle.sc_graph.specs.Control.{status_of, status_enabled, is_enabled, IsEnabled}
+use Rattle.sc_graph.specs.Priority.{Leads}
 use Rattle.sc_graph.specs.Steps.{step}
-use Rattle.sc_graph.specs.Tables.{priority_of}
+use Rattle.sc_graph.specs.Tables.{priority, priority_of}
 use Rattle.sc_graph.specs.Tick.{IsConfiguration}
 use Rattle.sc_graph.specs.Valid.{IsValid}
-use Rattle.tick_laws.proofs.Lists.{get_set_same}
+use Rattle.tick_laws.proofs.Lists.{get_set_same, same_or_not, contains_none}
 use Rattle.tick_core.specs.Claims.{Claim}
 use Rattle.tick_core.specs.Inside.Living.{CountsLiving, counted_at}
-use Rattle.tick_core.specs.Inside.Onward.{IsOwnAffair, own_row, MovesAlone, Goes}
+use Rattle.tick_core.specs.Inside.Onward.{IsOwnAffair, own_row, MovesAlone, Goes, LeadsOn, StaysAt}
 use Rattle.tick_core.specs.Inside.Sorting.{row_at, step_priority, unless_claimed, ready_row, OwnRows, AreSorted, sorted_one, sorted_parent, sorted_all}
 use Rattle.tick_core.specs.Inside.Sorting.{ended_parent, children_at}
+use Rattle.tick_core.proofs.LeadingThreads.{ready_of}
 use Rattle.tick_core.proofs.LivingChildren.{counts_after}
 use Rattle.tick_core.proofs.OwnRoom.{has_room, kept_one}
-use Rattle.tick_core.proofs.Unmoved.{sorted_after, sorted_after_at, stays_configuration}
+use Rattle.tick_core.proofs.Unmoved.{sorted_after, sorted_after_at, stays_configuration, alike_behind}
 
 -- who comes to stand so is counted with nobody, and has no parent that waits for one less
 same_counts : (p : Program) (d : Control) (counts : List ℕ) (t : ℕ) (st : Status) → IsOwnAffair st → counted_at p d counts t st ≡ counts
@@ -90,6 +94,48 @@ module _ (p : Program) (q : Tables) (valid : IsValid p q) (c d : Control) (ok : 
             after_is ∙ (one_is (slice_set before t None) (sym (ap (λ xs. slice_get xs t) is) ∙ none)
             ∙ (sym (ap (sorted_parent row (sorted_one row rows t)) (ap (ended_parent p t) stands ∙ no_parent p t st on.own))
             ∙ sym (ap (λ ks. sorted_all row ks (sorted_parent row (sorted_one row rows t) (ended_parent p t (status_of d t)))) on.alone)))
+
+  -- where it stays in its row it leads on
+  module _ (rows : Rows) (stays : StaysAt q t rows st) (claims : List (Option Claim)) (sorted : AreSorted p q c claims rows) (leads : Leads p q c t) where
+    stood_at : priority_of q (status_of c t) ≡ priority q stays.node
+    stood_at = (ready_of (slice_get claims t) (is_enabled p c t) (priority_of q (status_of c t)) (priority q stays.node)
+        (same_Some (ready_row p q c claims t) (Some (priority q stays.node)) (sym (sorted.each t below) ∙ stays.is_in))).2
+
+    stands_at : priority_of q (status_of d t) ≡ priority q stays.node
+    stands_at = ap (priority_of q) (stands ∙ stays.is)
+
+    no_less : (u : ℕ) → IsEnabled p d u → (u ≡ t) ⊎ (u ≢ t) → priority_of q (status_of d u) ≤ priority_of q (status_of d t)
+    no_less u enabled (inl same) = omega (arith, ap (λ v. priority_of q (status_of d v)) same)
+    no_less u enabled (inr other) =
+        let was = ready_of (Some None) (is_enabled p c u) (priority_of q (status_of c u)) (priority_of q (status_of d u))
+        (sym (alike_behind p q valid c d ok t stepped u other (λ some. none_some u (sym (ap (ended_parent p t) stands ∙ no_parent p t st on.own) ∙ some))
+        (λ within. contains_none u (subst (λ ks. Contains ks u) on.alone within)))
+        ∙ ap (λ b. row_at b (priority_of q (status_of d u))) enabled) in
+        omega (arith, leads.greatest u was.1, was.2, stood_at, stands_at)
+      where
+        none_some : (w : ℕ) → None ≡ Some w → ⊥
+        none_some w never = cc
+
+    goes_on : Leads p q d t
+    goes_on = record { enabled = ap (status_enabled p d) (stands ∙ stays.is); greatest = λ u enabled. no_less u enabled (same_or_not u t) }
+
+  pub leads_on : (rows : Rows) → StaysAt q t rows st → LeadsOn p q c d t rows st
+  leads_on rows stays = record { standing = sym stands; leads = λ claims sorted leads. goes_on rows stays claims sorted leads }
+
+-- the row of a thread that stands in one
+pub own_row_at : (q : Tables) (st : Status) (prior : ℕ) → own_row q st ≡ Some prior → (rows : Rows) (t : ℕ) → IsIn rows.classes t prior → StaysAt q t rows st
+own_row_at q (status.At n) prior is rows t is_in =
+    record { node = n; is = refl; is_in = subst (IsIn rows.classes t) (sym (same_Some (priority q n) prior is)) is_in }
+own_row_at q (status.Paused n) prior is rows t is_in = absurd cc
+own_row_at q status.Absent prior is rows t is_in = absurd cc
+own_row_at q (status.Waiting j) prior is rows t is_in = absurd cc
+own_row_at q status.Ended prior is rows t is_in = absurd cc
+
+-- what stands there already, set again
+pub set_there : (classes : List (Option ℕ)) (t : ℕ) (row : Option ℕ) → slice_get classes t ≡ Some row → slice_set classes t row ≡ classes
+set_there [] t row is = absurd cc
+set_there (x ∷ classes) zero row is = ap (λ y. y ∷ classes) (sym (same_Some x row is))
+set_there (x ∷ classes) (suc t) row is = ap (λ ys. x ∷ ys) (set_there classes t row is)
 
 -- any step
 pub steps_anew : (p : Program) (q : Tables) → IsValid p q → (c d : Control) → IsConfiguration p c → (t : ℕ) → t < length p.threads → step p t c ≡ Some d

@@ -34,7 +34,7 @@ use Rattle.tick_laws.proofs.Finishing.{rests_when_over}
 use Rattle.tick_laws.proofs.Final.{one_end_of_tick}
 use Rattle.tick_core.specs.Claims.{value_by}
 use Rattle.tick_core.specs.Inside.Work.{value_at}
-use Rattle.tick_core.specs.State.{IsFresh, Advances, GoesAlone}
+use Rattle.tick_core.specs.State.{IsFresh, Advances, GoesBy}
 use Rattle.tick_core.specs.Whole.{WholeTick}
 use Rattle.tick_core.specs.Inside.Turns.{DropsClaims}
 use Rattle.tick_core.proofs.Fresh.{fresh_kept, fresh_value}
@@ -143,9 +143,9 @@ pub over_or_led : (p : Program) (q : Tables) (c : Control) (o : Option ℕ) → 
 over_or_led p q c None over = (λ h. over, λ h. refl)
 over_or_led p q c (Some t) leads = (λ h. absurd cc, λ over. let enabled = leads.enabled in let no = over t in absurd cc)
 
--- steps of worker 0 alone
-pub alone_begins : (s s' : InTick) → DropsClaims s s' → GoesAlone s s'
-alone_begins s s' drops =
+-- steps of one worker alone
+pub alone_begins : (worker : ℕ) (s s' : InTick) → DropsClaims s s' → GoesBy worker s s'
+alone_begins worker s s' drops =
     record {
       image_is = drops.image_is;
       begun_is = drops.begun_is;
@@ -158,29 +158,29 @@ alone_begins s s' drops =
     none_in : (i : ℕ) (e : Entry) → slice_get [] i ≡ Some e → ⊥
     none_in i e is = omega (arith, slice_get_within [] i e is)
 
-pub alone_goes_on : (s s' s'' : InTick) (t : ℕ) → GoesAlone s s' → Advances s' s'' t 0 → GoesAlone s s''
-alone_goes_on s s' s'' t alone advances =
+pub alone_goes_on : (worker : ℕ) (s s' s'' : InTick) (t : ℕ) → GoesBy worker s s' → Advances s' s'' t worker → GoesBy worker s s''
+alone_goes_on worker s s' s'' t alone advances =
     record {
       image_is = advances.image_is ∙ alone.image_is;
       begun_is = advances.begun_is ∙ alone.begun_is;
       more = alone.more ++ one ∷ [];
       history_is = advances.history_is ∙ (ap (λ h. h ++ one ∷ []) alone.history_is ∙ append_assoc s.history alone.more (one ∷ []));
-      alone = λ i e is. of_zero i e is;
+      alone = λ i e is. of_one i e is;
       no_claim = λ u a is. alone.no_claim u a (still_open s'.claims t u a (sym (ap (λ xs. slice_get xs u) advances.claims_are) ∙ is)).1;
     }
   where
     one : Entry
-    one = record { thread = t; worker = 0 }
+    one = record { thread = t; worker = worker }
 
-    in_more : (more : List Entry) (i : ℕ) (e : Entry) → ((k : ℕ) (x : Entry) → slice_get more k ≡ Some x → x.worker ≡ 0) → slice_get (more ++ one ∷ []) i
-        ≡ Some e → e.worker ≡ 0
+    in_more : (more : List Entry) (i : ℕ) (e : Entry) → ((k : ℕ) (x : Entry) → slice_get more k ≡ Some x → x.worker ≡ worker)
+        → slice_get (more ++ one ∷ []) i ≡ Some e → e.worker ≡ worker
     in_more [] zero e each is = let same : one ≡ e = cc in ap (λ x. x.worker) (sym same)
     in_more [] (suc i) e each is = absurd (omega (arith, slice_get_within [] i e is))
     in_more (x ∷ more) zero e each is = each zero e is
     in_more (x ∷ more) (suc i) e each is = in_more more i e (λ k y at. each (suc k) y at) is
 
-    of_zero : (i : ℕ) (e : Entry) → slice_get (alone.more ++ one ∷ []) i ≡ Some e → e.worker ≡ 0
-    of_zero i e is = in_more alone.more i e alone.alone is
+    of_one : (i : ℕ) (e : Entry) → slice_get (alone.more ++ one ∷ []) i ≡ Some e → e.worker ≡ worker
+    of_one i e is = in_more alone.more i e alone.alone is
 
 -- what the law of one end says of a tick under way
 module _ (s : InTick) (h : Holds s) where

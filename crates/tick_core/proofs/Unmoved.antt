@@ -220,6 +220,15 @@ sorted_after p q valid c d ok t t_below stepped claims rows after_rows h is own 
         all_out row (children_at p (status_of c t)) (sorted_parent row (sorted_one row rows t) (ended_parent p t (status_of d t))) u no_child
         ∙ at_parent e does same u below no_child (ended_parent p t (status_of d t)) refl
 
+-- behind a step all others can step at the same priority as before
+pub alike_behind : (p : Program) (q : Tables) → IsValid p q → (c d : Control) → IsConfiguration p c → (t : ℕ) → step p t c ≡ Some d → (u : ℕ) → u ≢ t
+    → ended_parent p t (status_of d t) ≢ Some u → ¬ Contains (children_at p (status_of c t)) u → step_priority p q d u ≡ step_priority p q c u
+alike_behind p q valid c d ok t stepped u other no_parent no_child =
+    let found : (e : Effect) × (effect p c t ≡ Some e) × (after e c ≡ d) = map_some (λ (e : Effect). after e c) (effect p c t) d stepped in
+    ap (λ x. step_priority p q x u) (sym found.2)
+    ∙ alike p q valid c ok t found.0 (what_does p c t found.0 found.1) u other
+    (λ some. no_parent (sym (ap (λ x. ended_parent p t (status_of x t)) found.2) ∙ some)) no_child
+
 -- the children of a step are threads
 pub children_in : (p : Program) → IsFormed p → (s : Status) → All (λ k. k < length p.threads) (children_at p s)
 children_in p formed (status.At n) = at_step (step_at p n) refl

@@ -64,11 +64,15 @@ pub record Advances (s s' : InTick) (t worker : ℕ) : Type 0 where
   pub history_is : s'.history ≡ s.history ++ record { thread = t; worker = worker } ∷ []
   pub claims_are : s'.claims ≡ slice_set s.claims t None
 
--- from one state to a later one by steps of worker 0 alone, after all claims were dropped
-pub record GoesAlone (s s' : InTick) : Type 0 where
+-- from one state to a later one by steps of one worker alone, after all claims were dropped
+pub record GoesBy (worker : ℕ) (s s' : InTick) : Type 0 where
   pub image_is : s'.image ≡ s.image
   pub begun_is : s'.begun ≡ s.begun
   pub more : List Entry
   pub history_is : s'.history ≡ s.history ++ more
-  pub alone : (i : ℕ) (e : Entry) → slice_get more i ≡ Some e → e.worker ≡ 0
+  pub alone : (i : ℕ) (e : Entry) → slice_get more i ≡ Some e → e.worker ≡ worker
   pub no_claim : (t : ℕ) (a : Claim) → slice_get s'.claims t ≢ Some (Some a)
+
+-- the same by steps of worker 0
+abbrev pub GoesAlone : InTick → InTick → Type 0
+GoesAlone = GoesBy 0

@@ -20,6 +20,7 @@ mod short_codes;
 mod sorting;
 mod starting;
 mod state;
+mod step_hook;
 mod stepping;
 mod waking;
 
@@ -34,3 +35,4 @@ pub use sc_graph::{Control, Status};
 pub use state::{
     BeginFault, NextStep, ParkedSpace, Receipt, StaleClaim, TickSpace, TickState, Turn, begin,
 };
+pub use step_hook::StepHook;

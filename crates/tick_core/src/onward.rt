@@ -1,8 +1,10 @@
 //! A step of a thread, with the counts and rows behind it.
 
-ghost use Rattle.std.specs.Prelude.{◌≡◌};
+ghost use Rattle.std.specs.Prelude.{◌≡◌, IfSome, slice_set};
+ghost use Rattle.std.specs.Bool.{OnTrue};
+ghost use Rattle.buckets.specs.Rows.{HasRoom};
 ghost use Rattle.sc_graph.specs.Control.{status_of};
-ghost use Rattle.tick_core.specs.Inside.Onward.{MayStep, Goes, own_row};
+ghost use Rattle.tick_core.specs.Inside.Onward.{MayStep, Goes, LeadsOn, StaysAt, own_row};
 
 use crate::joins::Joins;
 use crate::kept_claim::KeptClaim;
@@ -15,7 +17,8 @@ use sc_values::Value;
 
 /// Takes the step of an enabled thread without a claim that stands so, whose code has this value. The counts and rows
 /// are those behind it then: where the step concerns others too, whom it can have made enabled or not is counted and
-/// sorted anew.
+/// sorted anew. Gives how the thread stands where it stays in its row, so that it leads on.
+#[inline(always)]
 pub(crate) fn step_on(
     joins: &Joins,
     program: &Program,
@@ -28,16 +31,21 @@ pub(crate) fn step_on(
     thread: ThreadId,
     status: Status,
     value: Option<Value>,
-)
+) -> Option<Status>
     requires may { MayStep program.now tables.now joins.now control.old thread value claims.now claimed living.old.items
         rows.old }
     requires standing { status ≡ status_of control.old thread }
-    ensures { Goes program.now tables.now control.old control.new thread claims.now rows.old rows.new living.new.items }
+    ensures goes { Goes program.now tables.now control.old control.new thread claims.now rows.old rows.new
+        living.new.items }
+    ensures on { IfSome result (LeadsOn program.now tables.now control.old control.new thread rows.old) }
 {
     match take_step(joins, program, control, thread, status, value) {
         Some(next) => {
-            rows.set(thread, own_row(tables, next));
-            rows.settle();
+            if move_on(tables, rows, thread, next) {
+                Some(next)
+            } else {
+                None
+            }
         }
         None => {
             let children = children_at(joins, program, status);
@@ -45,6 +53,26 @@ pub(crate) fn step_on(
             sort_after(
                 program, tables, control, living, claims, claimed, rows, thread, children,
             );
+            None
+        }
+    }
+}
+
+// Puts a thread that stands so and concerns nobody else into its row. Whether it stands there already.
+#[inline(always)]
+fn move_on(tables: &Tables, rows: &mut Rows, thread: ThreadId, next: Status) -> bool
+    requires { HasRoom rows.old thread (own_row tables.now next) }
+    ensures set { rows.new ≡ record rows.old
+        { classes = slice_set rows.old.classes thread (own_row tables.now next) } }
+    ensures stays { OnTrue result (StaysAt tables.now thread rows.old next) }
+{
+    let row = own_row(tables, next);
+    match row {
+        Some(prior) if rows.is_in(thread, prior) => true,
+        _ => {
+            rows.set(thread, row);
+            rows.settle();
+            false
         }
     }
 }

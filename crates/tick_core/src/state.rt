@@ -19,6 +19,7 @@ mod claiming;
 mod ending;
 mod first_rows;
 mod parking;
+mod running;
 mod taking;
 
 use crate::claim::Claim;

@@ -17,6 +17,7 @@ use sqlite_items::Items;
 
 /// Takes the defined step of a thread that stands so, whose code has this value over the present variables. Gives where
 /// the thread comes to stand where nobody else is concerned. None: it forks or leaves others, or ends.
+#[inline(always)]
 pub(crate) fn take_step(
     joins: &Joins,
     program: &Program,
@@ -65,6 +66,7 @@ pub(crate) fn code_at(program: &Program, status: Status) -> Option<&Code>
 }
 
 // The step of a thread from a node, as of `take_step`.
+#[inline(always)]
 fn take_step_at(
     program: &Program,
     control: &mut Control,
@@ -161,6 +163,7 @@ fn go(control: &mut Control, thread: ThreadId, status: Status)
     put_status(&mut control.statuses, thread, status);
 }
 
+#[inline(never)]
 fn fork(
     program: &Program,
     control: &mut Control,
@@ -191,6 +194,7 @@ fn enter_all(program: &Program, statuses: &mut Items<Status>, children: &[Thread
 }
 
 // The children of a finished fork become absent, and the thread goes on.
+#[inline(never)]
 fn leave(control: &mut Control, thread: ThreadId, children: &[ThreadId], next: NodeId)
     ensures { control.new ≡ after (record {
       change = Keep;

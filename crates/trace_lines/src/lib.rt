@@ -15,6 +15,7 @@ mod output;
 mod outputs;
 
 pub use interface::Interface;
-pub use line::LineFault;
-pub use lines::{LINE_LIMIT, LineEnd, Lines, LinesFault};
+pub use line::{LineFault, object_of};
+pub use lines::{LINE_LIMIT, LineEnd, Lines, LinesFault, feed_in};
 pub use members::LineRoom;
+pub use outputs::quoted;

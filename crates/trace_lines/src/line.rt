@@ -111,8 +111,8 @@ fn into_object(json: Json) -> Option<Map<String, Json>>
     }
 }
 
-/// The members of the JSON object that a line is.
-pub(crate) fn object_of(alloc: Global, line: &[u8]) -> Result<Map<String, Json>, LineFault>
+/// The members of the JSON object that a line is. Err: it is none; or memory was refused. An input is never its fault.
+pub fn object_of(alloc: Global, line: &[u8]) -> Result<Map<String, Json>, LineFault>
     ensures ok { IfOk result (λ members. IsObjectOf line.now (members_view members.entries)) }
     ensures not_json { IsErrOf result LineFault.NotJson → (members : Members) → ¬ IsObjectOf line.now members }
     ensures read { result ≢ Err LineFault.Input }

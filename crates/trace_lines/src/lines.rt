@@ -179,8 +179,8 @@ impl Lines {
     }
 }
 
-// The place of the first line feed.
-fn feed_in(bytes: &[u8]) -> Option<usize>
+/// The place of the first line feed. None: there is none.
+pub fn feed_in(bytes: &[u8]) -> Option<usize>
     ensures { result ≡ position is_feed bytes.now }
 {
     memchr(b'\n', bytes)

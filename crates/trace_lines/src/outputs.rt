@@ -93,8 +93,8 @@ fn key_of(alloc: Global, later: bool, name: &str) -> Result<String, AllocError>
     Ok(key)
 }
 
-// A text as JSON writes it.
-fn quoted(alloc: Global, text: &str) -> Result<String, AllocError>
+/// A text as JSON writes it. Err: memory was refused.
+pub fn quoted(alloc: Global, text: &str) -> Result<String, AllocError>
     ensures { IfOk result (λ shown. string_bytes shown ≡ quoted text.now) }
 {
     Json::String(String::from_str(alloc, text)?).to_string(alloc)

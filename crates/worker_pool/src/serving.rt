@@ -9,7 +9,7 @@ ghost use Rattle.worker_pool.specs.Inside.Stretches.{SameTick, EndsTick};
 use crate::gate::Gate;
 use crate::weighing::{is_worth, may_share};
 use sc_graph::{Status, ThreadId};
-use tick_core::{NextStep, TickState};
+use tick_core::{NextStep, StepHook, TickState};
 
 /// The steps of a tick that the first worker takes before it shares the tick with others: all of them where there are
 /// no others or nothing is worth sharing, else as long as there is no round to share. Whether it is to be shared; if
@@ -60,13 +60,19 @@ fn round_of<'s>(state: &'s TickState<'_>, thread: ThreadId) -> &'s [ThreadId] {
 pub(crate) fn serve<G: Gate>(state: &mut TickState<'_>, gate: &G)
     ensures { EndsTick state.old state.new }
 {
-    for _ in 0..u64::MAX {
-        match state.next_step() {
-            Some(next) => take(state, next, gate),
-            None => break,
-        }
+    state.run_past(1, &Passing { gate });
+}
+
+// Lets each step pass the gate.
+#[derive(Drop)]
+struct Passing<'g, G: Gate> {
+    gate: &'g G,
+}
+
+impl<G: Gate> StepHook for Passing<'_, G> {
+    fn passing(&self, worker: u8, thread: ThreadId) {
+        self.gate.passing(worker, thread);
     }
-    state.run_alone();
 }
 
 /// The first worker takes all steps that are left of a tick.

@@ -11,6 +11,7 @@ syntax match extendedStatement "\(\<do\s\+\|,\s*\)\@<=emit\ze\s\+[A-Za-z]"
 syntax match extendedStatement "\<\(entry\|exit\)\ze\s\+do\>"
 syntax match extendedStatement "\<during\ze\s\+\(do\|if\)\>"
 syntax match extendedStatement "\(\<\(go\|strong\|weak\)\s\+\)\@<=after\>"
+syntax match extendedStatement "\(\<\(go\|strong\|weak\)\s\+after\>[^;]\{-}[A-Za-z0-9_)]\s\+\)\@<=of\>\ze\s*\(\(and\|or\|if\|do\)\>\)\@![A-Za-z0-9(]"
 highlight default link extendedStorage StorageClass
 highlight default link extendedStatement Statement
 let b:current_syntax = "extended"

@@ -1,6 +1,6 @@
 -- A step with the rows and counts that it leaves, and the steps that concern their own thread alone.
 use Rattle.std.specs.Prelude.{ℕ, ◌≡◌, ◌<◌, IsSome, None, Some, List, [], Option, length, slice_get, slice_set}
-use Rattle.buckets.specs.Rows.{Rows}
+use Rattle.buckets.specs.Rows.{Rows, IsIn}
 use Rattle.sc_values.specs.declared.value.Value.{Value}
 use Rattle.sc_graph.specs.declared.program.Step.{Step}
 use Rattle.sc_graph.specs.declared.control.Control.{Control}
@@ -9,6 +9,7 @@ use Rattle.sc_graph.specs.declared.control.Status.TheVariants as status
 use Rattle.sc_graph.specs.declared.tables.Tables.{Tables}
 use Rattle.sc_graph.specs.Program.{Program}
 use Rattle.sc_graph.specs.Control.{status_of, IsEnabled}
+use Rattle.sc_graph.specs.Priority.{Leads}
 use Rattle.sc_graph.specs.Steps.{step}
 use Rattle.sc_graph.specs.Tables.{priority}
 use Rattle.sc_graph.specs.Tick.{IsConfiguration}
@@ -41,6 +42,17 @@ pub record MovesAlone (p : Program) (c d : Control) (t : ℕ) (st : Status) : Ty
   pub statuses : d.statuses ≡ slice_set c.statuses t st
   pub own : IsOwnAffair st
   pub alone : children_at p (status_of c t) ≡ []
+
+-- thread t stands at a node, in whose row it stood before
+pub record StaysAt (q : Tables) (t : ℕ) (rows : Rows) (st : Status) : Type 0 where
+  pub node : ℕ
+  pub is : st ≡ status.At node
+  pub is_in : IsIn rows.classes t (priority q node)
+
+-- a step of thread t leads it here, and where it led, by these rows, it leads on
+pub record LeadsOn (p : Program) (q : Tables) (c d : Control) (t : ℕ) (rows : Rows) (st : Status) : Type 0 where
+  pub standing : st ≡ status_of d t
+  pub leads : (claims : List (Option Claim)) → AreSorted p q c claims rows → Leads p q c t → Leads p q d t
 
 -- thread t may step from here, without a claim, and its code has this value; counts and rows are those of the program
 pub record MayStep (p : Program) (q : Tables) (joins : List (Option ℕ)) (c : Control) (t : ℕ) (value : Option Value) (claims : List (Option Claim))

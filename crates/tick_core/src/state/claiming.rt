@@ -52,7 +52,7 @@ impl<'a> TickState<'a> {
         let claim = done.claim();
         let at = self.commits();
         let status = self.present.status(claim.thread());
-        self.advance(claim.thread(), status, claim.worker(), done.value());
+        let _next = self.advance(claim.thread(), status, claim.worker(), done.value());
         Ok(Receipt { at })
     }
 

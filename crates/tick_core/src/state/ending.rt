@@ -1,6 +1,6 @@
 //! The end of a tick.
 
-ghost use Rattle.std.specs.Prelude.{◌≡◌, ◌↔◌, ◌<◌, ◌≤◌, ◌==◌, ◌≢◌, List, Some, ℕ, IsTrue, count_by, length, slice_get};
+ghost use Rattle.std.specs.Prelude.{◌≡◌, ◌↔◌, ◌<◌, ◌==◌, ◌≢◌, Some, ℕ, IfSome, IsTrue, count_by, length, slice_get};
 ghost use Rattle.std.specs.Prelude.{slice_index};
 ghost use Rattle.sc_values.specs.Runs.{IsOver};
 ghost use Rattle.sc_graph.specs.Machine.{machine};
@@ -11,9 +11,9 @@ ghost use Rattle.sc_graph.specs.Control.{status_of};
 ghost use Rattle.sc_graph.specs.Valid.{IsValid};
 ghost use Rattle.tick_core.specs.Claims.{Claim as OpenClaim};
 ghost use Rattle.tick_core.specs.Inside.Work.{value_at};
-ghost use Rattle.tick_core.specs.State.{Advances, GoesAlone, threads_of};
+ghost use Rattle.tick_core.specs.State.{Advances, threads_of};
 ghost use Rattle.tick_core.specs.Whole.{WholeTick};
-ghost use Rattle.tick_core.specs.Inside.Turns.{DropsClaims};
+ghost use Rattle.tick_core.specs.Inside.Turns.{DropsClaims, IsNext};
 
 use crate::history::{Entry, Report};
 use crate::kept_claim::KeptClaim;
@@ -36,19 +36,8 @@ impl<'a> TickState<'a> {
         self.claimed == 0 && self.rows.is_empty()
     }
 
-    /// Drops all open claims, and then steps as worker 0 until nobody is enabled.
-    pub fn run_alone(&mut self)
-        ensures over { IsOver (machine self.new.image.program) self.new.present }
-        ensures alone { GoesAlone self.old self.new }
-    {
-        self.drop_claims();
-        while let Some(thread) = self.unclaimed() {
-            self.step_alone(thread);
-        }
-    }
-
     // Closes all claims.
-    fn drop_claims(&mut self)
+    pub(super) fn drop_claims(&mut self)
         ensures { DropsClaims self.old self.new }
     {
         if self.claimed > 0 {
@@ -67,34 +56,25 @@ impl<'a> TickState<'a> {
         }
     }
 
-    // One step of worker 0.
-    fn step_alone(&mut self, thread: ThreadId)
-        requires { Leads self.old.image.program self.old.image.tables self.old.present thread }
-        ensures step { Advances self.old self.new thread 0 }
-        ensures within { length self.new.history ≤ self.new.image.tables.budget }
-    {
-        let status = self.present.status(thread);
-        let value = present_value(self.verified, &self.variable_kinds, &self.present, status);
-        self.advance(thread, status, 0, value);
-    }
-
     // The step of a leading thread that stands so, whose code has this value: it is done, written into the history,
-    // and the thread's claim is closed.
+    // and the thread's claim is closed. Gives how the thread stands where it surely leads on.
+    #[inline(always)]
     pub(super) fn advance(
         &mut self,
         thread: ThreadId,
         status: Status,
         worker: u8,
         value: Option<Value>,
-    )
+    ) -> Option<Status>
         requires leads { Leads self.old.image.program self.old.image.tables self.old.present thread }
         requires standing { status ≡ status_of self.old.present thread }
         requires value { value ≡ value_at self.old.image.program self.old.present (status_of self.old.present thread) }
-        ensures { Advances self.old self.new thread worker }
+        ensures step { Advances self.old self.new thread worker }
+        ensures next { IfSome result (IsNext self.new thread) }
     {
         close_one(&mut self.claims, &mut self.claimed, thread);
         let image = self.verified.image();
-        step_on(
+        let next = step_on(
             &self.joins,
             image.program(),
             image.tables(),
@@ -108,6 +88,7 @@ impl<'a> TickState<'a> {
             value,
         );
         self.history.push_reserved(Entry { thread, worker });
+        next
     }
 
     /// Of a tick that is over: the configuration in which it ended, which rests and is its only
@@ -182,6 +163,7 @@ fn close_all(claims: &mut Vec<Option<KeptClaim>>)
 }
 
 /// The value of the code at which a thread stands that has this status, over the present variables.
+#[inline(always)]
 pub(crate) fn present_value(
     verified: &Verified,
     kinds: &[Kind],

@@ -46,6 +46,6 @@ impl<'a> TickState<'a> {
         ensures { Advances self.old self.new step.thread worker }
     {
         let status = self.present.status(step.thread);
-        self.advance(step.thread, status, worker, step.value);
+        let _next = self.advance(step.thread, status, worker, step.value);
     }
 }

@@ -2,7 +2,7 @@ use Rattle.std.proofs.Common.{◌≡◌, ◌∙◌, ℕ, ◌+◌, List, drop, ap
 use Rattle.std.specs.Prelude.{not}
 use Rattle.sc_text.specs.declared.read_fault.FaultKind.TheVariants as broken
 use Rattle.drafts.specs.Flaws.{flaw_if, is_among}
-use Rattle.drafts.specs.Inside.{IsIndex}
+use Rattle.drafts.specs.Index.{IsIndex}
 use Rattle.drafts.specs.Told.{told_behind}
 use Rattle.drafts.specs.declared.parts.Named.{Named}
 use Rattle.scl_drafts.specs.Flaws.{lost, names}

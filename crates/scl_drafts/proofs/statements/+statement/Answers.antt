@@ -7,8 +7,10 @@ use Rattle.sc_text.specs.declared.read_fault.ReadFault.{ReadFault}
 use Rattle.sc_text.specs.Classes.{TheWord, TheSign}
 use Rattle.sc_text.specs.Expression.{text_tokens}
 use Rattle.sc_text.specs.Reading.{Stops}
+use Rattle.scl.specs.Rules.{if_limit}
 use Rattle.scl_drafts.specs.Program.{block, branch, fork}
-use Rattle.scl_drafts.specs.Inside.{statement_classes, within}
+use Rattle.scl_drafts.specs.Inside.{statement_classes}
+use Rattle.scl_drafts.specs.Within.{within}
 use Rattle.scl_drafts.proofs.Blocks.{close_stops}
 use Rattle.scl_drafts.proofs.Forks.{join_stops, join_end_stops}
 use Rattle.scl_drafts.proofs.Loops.{within_ends, within_stops, branches_end, branch_stops}
@@ -41,8 +43,8 @@ branches-returns-in_err-rest t c =
     let some : 0 < length c.args.tokens.now - c.loop-used.used = omega arith in
     let on = c.if-not-word_follows.false in
     let more : starts text_tokens (TheWord word.Par ∷ []) c.loop-used.rest.now ≡ true = search (rules, on, c.word_follows.ensures) in
-    let stops : (f : ReadFault) → Stops c.args.end (read (branch word.Par (within c.args.forks 32)) c.loop-used.rest.now) f
-    → Stops c.args.end (read (many (branch word.Par (within c.args.forks 32))) c.args.tokens.now) f =
+    let stops : (f : ReadFault) → Stops c.args.end (read (branch word.Par (within c.args.forks if_limit)) c.loop-used.rest.now) f
+    → Stops c.args.end (read (many (branch word.Par (within c.args.forks if_limit))) c.args.tokens.now) f =
     λ f. branch_stops _ _ _ _ _ _ c.args.end f some c.loop-used.invariant more in
     search (rules, stops)
 
@@ -56,13 +58,13 @@ block-returns-in_err-after t c =
 pub fork-returns-in_err-joined : goal.fork-returns-in_err-joined
 fork-returns-in_err-joined t c =
     let stops : (f : ReadFault) → Stops c.args.end (read (one {L = text_tokens} (TheWord word.Join ∷ [])) c.in_ok-rest.rest.now) f
-    → Stops c.args.end (read (fork (within c.args.forks 32)) c.args.tokens.now) f =
+    → Stops c.args.end (read (fork (within c.args.forks if_limit)) c.args.tokens.now) f =
     λ f. join_stops _ _ _ _ _ c.in_ok-more.ensures _ _ c.in_ok-rest.ensures c.args.end f in
     search (rules, stops)
 
 pub fork-returns-in_err-after : goal.fork-returns-in_err-after
 fork-returns-in_err-after t c =
     let stops : (f : ReadFault) → Stops c.args.end (read (one {L = text_tokens} (TheSign sign.Semicolon ∷ [])) c.in_ok-joined.joined.now) f
-    → Stops c.args.end (read (fork (within c.args.forks 32)) c.args.tokens.now) f =
+    → Stops c.args.end (read (fork (within c.args.forks if_limit)) c.args.tokens.now) f =
     λ f. join_end_stops _ _ _ _ _ c.in_ok-more.ensures _ _ c.in_ok-rest.ensures _ c.in_ok-joined.ensures c.args.end f in
     search (rules, stops)

@@ -2,8 +2,10 @@ use Rattle.std.proofs.Common.{◌+◌, ◌-◌, ◌*◌}
 use Rattle.grammar.specs.Grammar.{many}
 use Rattle.grammar.specs.Read.{read}
 use Rattle.sc_text.specs.declared.word.Word.TheVariants as word
+use Rattle.scl.specs.Rules.{if_limit}
 use Rattle.scl_drafts.specs.Program.{branch}
-use Rattle.scl_drafts.specs.Inside.{IsGoing, alone, one_branch, within}
+use Rattle.scl_drafts.specs.Inside.{IsGoing, alone, one_branch}
+use Rattle.scl_drafts.specs.Within.{within}
 use Rattle.scl_drafts.proofs.statements.+statement.Given as goal
 
 -- a fork has any number of ifs in each branch
@@ -40,5 +42,5 @@ invariant-statements-loop-used l =
 
 abbrev pub invariant-branches-loop-used : goal.invariant-branches-loop-used
 invariant-branches-loop-used l =
-    IsGoing (branch word.Par (within l.fn.forks 32)) one_branch (read (many (branch word.Par (within l.fn.forks 32))) l.fn.tokens) l.fn.into l.into
+    IsGoing (branch word.Par (within l.fn.forks if_limit)) one_branch (read (many (branch word.Par (within l.fn.forks if_limit))) l.fn.tokens) l.fn.into l.into
     (l.most - l.used) l.rest

@@ -4,4 +4,4 @@ use Rattle.text_continuations.specs.Continuations.{AreThose, CanFollow}
 use Rattle.text_continuations.proofs.continuations.signs.Given as goal
 
 abbrev pub invariant-loop-sign : goal.invariant-loop-sign
-invariant-loop-sign l = AreThose (λ x. CanFollow l.language l.front (sign_text x)) (take l.sign-index l.sign-items) l.found
+invariant-loop-sign l = AreThose (λ x. CanFollow l.grammar l.front (sign_text x)) (take l.sign-index l.sign-items) l.found

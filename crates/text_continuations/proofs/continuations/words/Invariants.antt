@@ -4,4 +4,4 @@ use Rattle.text_continuations.specs.Continuations.{AreThose, CanFollow}
 use Rattle.text_continuations.proofs.continuations.words.Given as goal
 
 abbrev pub invariant-loop-word : goal.invariant-loop-word
-invariant-loop-word l = AreThose (λ x. CanFollow l.language l.front (word_text x)) (take l.word-index l.word-items) l.found
+invariant-loop-word l = AreThose (λ x. CanFollow l.grammar l.front (word_text x)) (take l.word-index l.word-items) l.found

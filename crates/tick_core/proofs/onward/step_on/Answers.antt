@@ -1,27 +1,38 @@
-use Rattle.std.proofs.Common.{◌∙◌, Option, ℕ, ap, refl, sym, subst, slice_set}
-use Rattle.buckets.specs.Rows.{HasRoom}
+use Rattle.std.proofs.Common.{refl, sym, subst}
+use Rattle.std.specs.Bool.{OnTrue}
 use Rattle.tick_core.specs.Inside.Living.{CountsLiving}
+use Rattle.tick_core.specs.Inside.Onward.{StaysAt}
 use Rattle.tick_core.proofs.LivingChildren.{counts_after}
-use Rattle.tick_core.proofs.NextSteps.{next_room, moves_on, steps_anew}
+use Rattle.tick_core.proofs.NextSteps.{next_room, moves_on, steps_anew, leads_on}
 use Rattle.tick_core.proofs.Unmoved.{stays_configuration, children_in_at}
 use Rattle.tick_core.proofs.onward.step_on.Goals as goal
 
-pub set-requires : goal.set-requires
-set-requires c =
-    subst (λ (row : Option ℕ). HasRoom c.args.rows.now c.args.thread row) (sym c.own_row.ensures)
+pub move_on-requires : goal.move_on-requires
+move_on-requires c =
     (next_room c.args.program.now c.args.tables.now c.requires.may.valid c.args.control.now c.take_step.new.control c.requires.may.configuration
     c.args.thread c.requires.may.place c.in-Some.next c.take_step.ensures.stepped c.in-Some.ensures.alone c.args.claims.now c.requires.may.unclaimed
     c.args.rows.now
     c.requires.may.own_rows)
 
-pub returns-in-Some : goal.returns-in-Some
-returns-in-Some c =
+pub returns-then-move_on-clause-goes : goal.returns-then-move_on-clause-goes
+returns-then-move_on-clause-goes c =
     moves_on c.args.program.now c.args.tables.now c.requires.may.valid c.args.control.now c.take_step.new.control c.requires.may.configuration
     c.args.thread c.requires.may.place c.in-Some.next c.take_step.ensures.stepped c.in-Some.ensures.alone c.args.claims.now c.requires.may.unclaimed
     c.args.rows.now
-    c.requires.may.own_rows c.requires.may.enabled c.args.living.now.items c.requires.may.counted c.settle.new.self
-    (c.settle.ensures ∙ (c.set.ensures
-    ∙ ap (λ (row : Option ℕ). record c.args.rows.now { classes = slice_set c.args.rows.now.classes c.args.thread row }) c.own_row.ensures))
+    c.requires.may.own_rows c.requires.may.enabled c.args.living.now.items c.requires.may.counted c.move_on.new.rows c.move_on.ensures.set
+
+pub returns-else-move_on-clause-goes : goal.returns-else-move_on-clause-goes
+returns-else-move_on-clause-goes c =
+    moves_on c.args.program.now c.args.tables.now c.requires.may.valid c.args.control.now c.take_step.new.control c.requires.may.configuration
+    c.args.thread c.requires.may.place c.in-Some.next c.take_step.ensures.stepped c.in-Some.ensures.alone c.args.claims.now c.requires.may.unclaimed
+    c.args.rows.now
+    c.requires.may.own_rows c.requires.may.enabled c.args.living.now.items c.requires.may.counted c.move_on.new.rows c.move_on.ensures.set
+
+pub returns-then-move_on-clause-on : goal.returns-then-move_on-clause-on
+returns-then-move_on-clause-on c =
+    leads_on c.args.program.now c.args.tables.now c.requires.may.valid c.args.control.now c.take_step.new.control c.requires.may.configuration
+    c.args.thread c.requires.may.place c.in-Some.next c.take_step.ensures.stepped c.in-Some.ensures.alone c.args.rows.now
+    (subst (λ b. OnTrue b (StaysAt c.args.tables.now c.args.thread c.args.rows.now c.in-Some.next)) c.if-move_on.true c.move_on.ensures.stays)
 
 pub sort_after-requires-clause-counts : goal.sort_after-requires-clause-counts
 sort_after-requires-clause-counts c =
@@ -41,8 +52,8 @@ sort_after-requires-clause-places c =
     children_in_at c.args.program.now c.args.program.now c.args.tables.now c.requires.may.valid refl c.args.status c.children_at-children.result.now
     c.children_at-children.ensures
 
-pub returns-in-None : goal.returns-in-None
-returns-in-None c =
+pub returns-in-None-clause-goes : goal.returns-in-None-clause-goes
+returns-in-None-clause-goes c =
     steps_anew c.args.program.now c.args.tables.now c.requires.may.valid c.args.control.now c.take_step.new.control c.requires.may.configuration
     c.args.thread c.requires.may.place c.take_step.ensures.stepped c.args.claims.now c.args.rows.now c.sort_after.new.rows c.count_after.new.counts.items
     (counts_after c.args.program.now c.args.tables.now c.requires.may.valid c.args.control.now c.take_step.new.control c.requires.may.configuration

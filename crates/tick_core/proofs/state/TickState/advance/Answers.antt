@@ -1,13 +1,14 @@
 use Rattle.std.proofs.Common.{◌∙◌, length, length-set, refl, sym, ap, subst, arith, None, slice_get}
-use Rattle.std.specs.Prelude.{count_by, is_some}
+use Rattle.std.specs.Prelude.{IfSome, count_by, is_some}
 use Rattle.sc_graph.specs.Control.{status_of}
 use Rattle.tick_laws.proofs.Lists.{get_set_same}
 use Rattle.tick_core.specs.Inside.Sorting.{AreSorted}
-use Rattle.tick_core.specs.Inside.Onward.{MayStep, Goes}
+use Rattle.tick_core.specs.Inside.Onward.{MayStep, Goes, LeadsOn}
 use Rattle.tick_core.specs.Inside.Work.{value_at}
 use Rattle.tick_core.specs.State.{InTick}
 use Rattle.tick_core.proofs.StateKept.{configuration, leads_at, step_is_defined, has_room, has_place, kept_advanced}
 use Rattle.tick_core.proofs.Counts.{open_advanced}
+use Rattle.tick_core.proofs.LeadingThreads.{leads_next}
 use Rattle.tick_core.proofs.state.TickState.advance.Goals as goal
 
 pub push_reserved-requires : goal.push_reserved-requires
@@ -22,8 +23,8 @@ push_reserved-requires c =
 pub close_one-requires-clause-place : goal.close_one-requires-clause-place
 close_one-requires-clause-place c = has_place _ c.self.invariant.0 c.args.thread (leads_at _ _ c.args.thread c.self.view_is c.requires.leads)
 
-pub step_on-requires-clause-may : goal.step_on-requires-clause-may
-step_on-requires-clause-may c =
+pub step_on-next-requires-clause-may : goal.step_on-next-requires-clause-may
+step_on-next-requires-clause-may c =
     let program_is = c.program.ensures ∙ ap (λ i. i.program) c.image-image.ensures.value in
     let tables_is = c.tables.ensures.value ∙ ap (λ i. i.tables) c.image-image.ensures.value in
     let leads = leads_at _ _ c.args.thread c.self.view_is c.requires.leads in
@@ -54,12 +55,12 @@ invariant_of-self c =
     let program_is = c.program.ensures ∙ ap (λ i. i.program) c.image-image.ensures.value in
     let tables_is = c.tables.ensures.value ∙ ap (λ i. i.tables) c.image-image.ensures.value in
     let leads = leads_at _ _ c.args.thread c.self.view_is c.requires.leads in
-    let steps : Goes c.self.inside.verified.now.program c.self.inside.verified.now.tables c.self.inside.present c.step_on.new.control c.args.thread
-    c.deref.result.now c.self.inside.rows c.step_on.new.rows c.step_on.new.living.items =
-    subst (λ p. Goes p c.self.inside.verified.now.tables c.self.inside.present c.step_on.new.control c.args.thread c.deref.result.now c.self.inside.rows
-    c.step_on.new.rows c.step_on.new.living.items) program_is
-    (subst (λ q. Goes c.program.result.now q c.self.inside.present c.step_on.new.control c.args.thread c.deref.result.now c.self.inside.rows
-    c.step_on.new.rows c.step_on.new.living.items) tables_is c.step_on.ensures) in (
+    let steps : Goes c.self.inside.verified.now.program c.self.inside.verified.now.tables c.self.inside.present c.step_on-next.new.control c.args.thread
+    c.deref.result.now c.self.inside.rows c.step_on-next.new.rows c.step_on-next.new.living.items =
+    subst (λ p. Goes p c.self.inside.verified.now.tables c.self.inside.present c.step_on-next.new.control c.args.thread c.deref.result.now c.self.inside.rows
+    c.step_on-next.new.rows c.step_on-next.new.living.items) program_is
+    (subst (λ q. Goes c.program.result.now q c.self.inside.present c.step_on-next.new.control c.args.thread c.deref.result.now c.self.inside.rows
+    c.step_on-next.new.rows c.step_on-next.new.living.items) tables_is c.step_on-next.ensures.goes) in (
       kept_advanced _ c.self.invariant.0 _ c.args.thread c.args.worker leads
           (record {
             image_is = refl;
@@ -71,7 +72,7 @@ invariant_of-self c =
       c.self.invariant.1,
       omega (arith, c.self.invariant.2, c.push_reserved.ensures.capacity),
       c.self.invariant.3,
-      subst (λ xs. AreSorted c.self.inside.verified.now.program c.self.inside.verified.now.tables c.step_on.new.control xs c.step_on.new.rows)
+      subst (λ xs. AreSorted c.self.inside.verified.now.program c.self.inside.verified.now.tables c.step_on-next.new.control xs c.step_on-next.new.rows)
           c.deref.ensures.value
           (steps.sorted c.self.inside.claims.items c.self.invariant.4 (c.deref.ensures.value ∙ c.close_one.ensures.closed)),
       open_advanced _ c.self.invariant.0 c.self.inside.claimed c.self.inside.level c.self.invariant.5 _ c.args.thread c.args.worker c.close_one.new.claimed
@@ -86,3 +87,28 @@ invariant_of-self c =
       steps.counts,
       c.self.invariant.7,
     )
+
+pub returns-clause-next : goal.returns-clause-next
+returns-clause-next c =
+    let program_is = c.program.ensures ∙ ap (λ i. i.program) c.image-image.ensures.value in
+    let tables_is = c.tables.ensures.value ∙ ap (λ i. i.tables) c.image-image.ensures.value in
+    let leads = leads_at _ _ c.args.thread c.self.view_is c.requires.leads in
+    let steps : Goes c.self.inside.verified.now.program c.self.inside.verified.now.tables c.self.inside.present c.step_on-next.new.control c.args.thread
+    c.deref.result.now c.self.inside.rows c.step_on-next.new.rows c.step_on-next.new.living.items =
+    subst (λ p. Goes p c.self.inside.verified.now.tables c.self.inside.present c.step_on-next.new.control c.args.thread c.deref.result.now c.self.inside.rows
+    c.step_on-next.new.rows c.step_on-next.new.living.items) program_is
+    (subst (λ q. Goes c.program.result.now q c.self.inside.present c.step_on-next.new.control c.args.thread c.deref.result.now c.self.inside.rows
+    c.step_on-next.new.rows c.step_on-next.new.living.items) tables_is c.step_on-next.ensures.goes) in
+    leads_next _ _ c.self.invariant.0 c.args.thread c.args.worker leads
+    (record {
+      image_is = refl;
+      begun_is = refl;
+      stepped = steps.stepped;
+      history_is = c.push_reserved.ensures.items;
+      claims_are = c.close_one.ensures.closed;
+    })
+    c.self.inside.rows c.self.invariant.4 c.step_on-next.result
+    (subst (λ p. IfSome c.step_on-next.result (LeadsOn p c.self.inside.verified.now.tables c.self.inside.present c.step_on-next.new.control c.args.thread
+    c.self.inside.rows)) program_is
+    (subst (λ q. IfSome c.step_on-next.result (LeadsOn c.program.result.now q c.self.inside.present c.step_on-next.new.control c.args.thread
+    c.self.inside.rows)) tables_is c.step_on-next.ensures.on))

@@ -1,0 +1,36 @@
+-- The conditions of which the transitions of a draft count ticks, in the order of the text; and what a transition asks.
+use Rattle.std.specs.Prelude.{ℕ, pos, ◌-◌, Option, Some, None, List, [], ◌∷◌, ◌++◌, map, length}
+use Rattle.sc_values.specs.declared.value.Value.TheVariants as value
+use Rattle.sc_values.specs.declared.operator.BinaryOperator.TheVariants as operator
+use Rattle.sc_values.specs.declared.expression.Expr.{Expr}
+use Rattle.sc_values.specs.declared.expression.Expr.TheVariants as expr
+use Rattle.drafts.specs.Resolved.{expression_of}
+use Rattle.extended_drafts.specs.declared.draft.DraftCount.{DraftCount}
+use Rattle.extended_drafts.specs.declared.draft.DraftDelay.{DraftDelay}
+use Rattle.extended_charts.specs.Reading.{elapsed}
+
+abbrev pub own_count : Option DraftCount → List DraftCount
+own_count None = []
+own_count (Some c) = c ∷ []
+
+-- the counts of these delays
+abbrev pub counts_of : List (Option DraftDelay) → List DraftCount
+counts_of [] = []
+counts_of (None ∷ delays) = counts_of delays
+counts_of (Some d ∷ delays) = own_count d.count ++ counts_of delays
+
+-- their conditions, over what has these names
+abbrev pub conditions : (names : List (List ℕ)) → List (Option DraftDelay) → List Expr
+conditions names delays = map (λ c. expression_of names c.condition.operations) (counts_of delays)
+
+-- the number of the first of these counts, where they are the last ones of a chart
+abbrev pub first_number : List (Option DraftDelay) → ℕ
+first_number delays = elapsed - length (counts_of delays)
+
+-- the condition was true in so many ticks, where a number names in how many it was before this one
+abbrev pub counted : (number : ℕ) → (condition ticks : Expr) → Expr
+counted number condition ticks =
+    expr.Binary operator.Or
+    (expr.Binary operator.And condition
+    (expr.Binary operator.GreaterOrEqual (expr.Load number) (expr.Binary operator.Subtract ticks (expr.Literal (value.Int (pos 1))))))
+    (expr.Binary operator.GreaterOrEqual (expr.Load number) ticks)

@@ -1,0 +1,95 @@
+//! The conditions of which ticks are counted, and what transitions ask of them.
+
+ghost use Rattle.std.specs.Prelude.{◌≡◌, ◌≤◌, ◌+◌, IfOk, length};
+ghost use Rattle.sc_values.specs.declared.expression.Expr.TheVariants as expr;
+ghost use Rattle.sc_values.specs.declared.operator.BinaryOperator.TheVariants as operator;
+ghost use Rattle.sc_graph.specs.Limits.{variable_limit};
+ghost use Rattle.drafts.specs.Flaws.{variable_names};
+ghost use Rattle.extended_reader.specs.Counts.{counts_of, conditions, first_number, counted};
+
+use drafts::Scope;
+use extended_charts::ELAPSED;
+use extended_drafts::DraftDelay;
+use sc_values::{BinaryOperator, Expr, Value};
+use sqlite_items::{Boxed, Items};
+use std::alloc::{AllocError, Global};
+
+/// The conditions of which these delays count the ticks, over these variables. Err: memory was refused.
+pub(crate) fn conditions(
+    alloc: Global,
+    scope: &Scope,
+    delays: &[Option<DraftDelay>],
+) -> Result<Items<Expr>, AllocError>
+    requires { length scope.now.variables.now ≤ variable_limit }
+    ensures { IfOk result (λ all. all ≡ conditions (variable_names scope.now.variables.now) delays.now) }
+{
+    let mut all = Items::new(alloc);
+    for delay in delays {
+        if let Some(delay) = delay {
+            if let Some(count) = &delay.count {
+                all.push(scope.resolved(alloc, &count.condition)?)?;
+            }
+        }
+    }
+    Ok(all)
+}
+
+fn one_more(count: u16) -> Result<u16, AllocError>
+    ensures { IfOk result (λ more. more ≡ count + 1) }
+{
+    match count.checked_add(1) {
+        Some(more) => Ok(more),
+        None => Err(AllocError),
+    }
+}
+
+// How many counts these delays have. Err: there are more than 65535.
+fn counts_left(delays: &[Option<DraftDelay>]) -> Result<u16, AllocError>
+    ensures { IfOk result (λ left. left ≡ length (counts_of delays.now)) }
+{
+    let mut left = 0;
+    for delay in delays {
+        if let Some(delay) = delay {
+            if delay.count.is_some() {
+                left = one_more(left)?;
+            }
+        }
+    }
+    Ok(left)
+}
+
+/// The number of the first count of these delays, which are the last ones. Err: there are more than 65535.
+pub(crate) fn first_number(delays: &[Option<DraftDelay>]) -> Result<u16, AllocError>
+    ensures { IfOk result (λ number. number ≡ first_number delays.now) }
+{
+    Ok(ELAPSED - counts_left(delays)?)
+}
+
+/// That a number names at least so many ticks. Err: memory was refused.
+pub(crate) fn at_least(alloc: Global, number: u16, ticks: Expr) -> Result<Expr, AllocError>
+    ensures { IfOk result (λ made. made ≡ expr.Binary operator.GreaterOrEqual (expr.Load number) ticks) }
+{
+    let number = Boxed::new(alloc, Expr::Load(number))?;
+    let ticks = Boxed::new(alloc, ticks)?;
+    Ok(Expr::Binary(BinaryOperator::GreaterOrEqual, number, ticks))
+}
+
+/// That the condition was true in so many ticks, where a number names in how many it was before this one. Err: memory
+/// was refused.
+pub(crate) fn counted(
+    alloc: Global,
+    number: u16,
+    condition: Expr,
+    ticks: Expr,
+) -> Result<Expr, AllocError>
+    ensures { IfOk result (λ made. made ≡ counted number condition ticks) }
+{
+    let all = Boxed::new(alloc, ticks.copied(alloc)?)?;
+    let one = Boxed::new(alloc, Expr::Literal(Value::Int(1)))?;
+    let others = Expr::Binary(BinaryOperator::Subtract, all, one);
+    let before = Boxed::new(alloc, at_least(alloc, number, others)?)?;
+    let condition = Boxed::new(alloc, condition)?;
+    let with_this = Boxed::new(alloc, Expr::Binary(BinaryOperator::And, condition, before))?;
+    let without = Boxed::new(alloc, at_least(alloc, number, ticks)?)?;
+    Ok(Expr::Binary(BinaryOperator::Or, with_this, without))
+}

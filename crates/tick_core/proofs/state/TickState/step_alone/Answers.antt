@@ -1,8 +1,0 @@
-use Rattle.tick_core.proofs.StateKept.{configuration, room_left}
-use Rattle.tick_core.proofs.state.TickState.step_alone.Goals as goal
-
-pub present_value-value-requires-clause-configuration : goal.present_value-value-requires-clause-configuration
-present_value-value-requires-clause-configuration c = configuration _ c.self.invariant.0
-
-pub returns-clause-within : goal.returns-clause-within
-returns-clause-within c = room_left _ _ _ c.args.thread 0 c.self.view_is c.self.invariant.0 c.requires c.advance.ensures
