@@ -1,3 +1,2 @@
 pub mod FirstWord
 pub mod Sources
-pub mod Inside

@@ -100,7 +100,7 @@ abbrev pub PassesNone : List ℕ → Type 0
 PassesNone text = (piece rest : List ℕ) → text ≡ piece ++ rest → ¬ IsPassed piece
 
 -- the text begins with this word, and no name goes on
-pub record IsNext (w : Word) (text : List ℕ) : Type 0 where
+pub record IsNext (w text : List ℕ) : Type 0 where
   pub rest : List ℕ
-  pub parts : text ≡ word_text w ++ rest
-  pub longest : IsLongest (word_text w) rest
+  pub parts : text ≡ w ++ rest
+  pub longest : IsLongest w rest

@@ -1,11 +1,10 @@
-//! Which language a text is in: its first token tells.
+//! Whether the first token of a text is a word, and by that which language the text is in.
 
 ghost use Rattle.std.specs.Prelude.{◌≡◌, ◌<◌, ◌↔◌, IsTrue, length, MatchOption};
 ghost use Rattle.std.specs.List.{prefix_len};
 ghost use Rattle.sc_text.specs.Inside.{BeginsComment};
 ghost use Rattle.sc_text.specs.Pieces.{is_blank, is_word_byte, stays_in_line};
-ghost use Rattle.sc_text.specs.declared.word.Word.TheVariants as word;
-ghost use Rattle.sc_text.specs.FirstToken.{BeginsWith, IsIn};
+ghost use Rattle.sc_text.specs.FirstToken.{BeginsWith, IsIn, is_word};
 ghost use Rattle.sc_text.specs.Inside.{IsNext, Passes, PassesNone};
 
 use crate::Language;
@@ -15,21 +14,23 @@ use crate::Language;
 pub fn language_of(text: &str) -> Language
     ensures { IsIn text.now result }
 {
-    if begins_with_chart(text.as_bytes()) {
+    if begins_with(text.as_bytes(), b"chart") {
         Language::Chart
     } else {
         Language::Scl
     }
 }
 
-fn begins_with_chart(text: &[u8]) -> bool
-    ensures { IsTrue result ↔ BeginsWith word.Chart text.now }
+/// Whether the first token of these bytes is the word. What stands behind it is not looked at.
+pub fn begins_with(text: &[u8], word: &[u8]) -> bool
+    requires { IsTrue (is_word word.now) }
+    ensures { IsTrue result ↔ BeginsWith word.now text.now }
 {
     let mut at = 0;
     while at < text.len() {
         match passed(&text[at..]) {
             Some(length) => at += length,
-            None => return is_chart_next(&text[at..]),
+            None => return is_next(&text[at..], word),
         }
     }
     false
@@ -74,10 +75,11 @@ fn line_length(text: &[u8]) -> usize
 }
 
 // Whether the text begins with the word, and no name goes on.
-fn is_chart_next(text: &[u8]) -> bool
-    ensures { IsTrue result ↔ IsNext word.Chart text.now }
+fn is_next(text: &[u8], word: &[u8]) -> bool
+    requires { IsTrue (is_word word.now) }
+    ensures { IsTrue result ↔ IsNext word.now text.now }
 {
-    match text.strip_prefix(b"chart") {
+    match text.strip_prefix(word) {
         Some([next, ..]) => !goes_on(*next),
         Some([]) => true,
         None => false,

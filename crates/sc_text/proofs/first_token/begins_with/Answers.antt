@@ -1,10 +1,9 @@
 use Rattle.std.proofs.Common.{List, ℕ, drop, subst, IsTrue}
 use Rattle.std.specs.Prelude.{◌↔◌}
-use Rattle.sc_text.specs.declared.word.Word.TheVariants as word
 use Rattle.sc_text.specs.Inside.{IsNext, Passes, PassesNone}
 use Rattle.sc_text.proofs.Scanning.{slice_rest}
 use Rattle.sc_text.proofs.FirstToken.{step, step_within, next_tells, at_end}
-use Rattle.sc_text.proofs.first_token.begins_with_chart.Goals as goal
+use Rattle.sc_text.proofs.first_token.begins_with.Goals as goal
 
 pub loop-at-preserved : goal.loop-at-preserved
 loop-at-preserved c =
@@ -12,15 +11,15 @@ loop-at-preserved c =
     subst (λ t. Passes t c.in-Some.length) (slice_rest c.loop-at.at c.args.text.now) c.in-Some.ensures in
     record {
       within = step_within c.loop-at.at c.in-Some.length c.args.text.now c.loop-at.invariant.within passed;
-      same = step c.loop-at.at c.in-Some.length c.args.text.now c.loop-at.invariant.same passed;
+      same = step c.args.word.now c.requires c.loop-at.at c.in-Some.length c.args.text.now c.loop-at.invariant.same passed;
     }
 
 pub returns-in-None : goal.returns-in-None
 returns-in-None c =
     let rest : List ℕ = drop c.loop-at.at c.args.text.now in
     let same = slice_rest c.loop-at.at c.args.text.now in
-    next_tells c.args.text.now rest c.is_chart_next.result c.loop-at.invariant.same (subst PassesNone same c.in-None.ensures)
-    (subst (λ t. IsTrue c.is_chart_next.result ↔ IsNext word.Chart t) same c.is_chart_next.ensures)
+    next_tells c.args.word.now c.args.text.now rest c.is_next.result c.loop-at.invariant.same (subst PassesNone same c.in-None.ensures)
+    (subst (λ t. IsTrue c.is_next.result ↔ IsNext c.args.word.now t) same c.is_next.ensures)
 
 pub returns : goal.returns
-returns c = at_end c.loop-at.at c.args.text.now c.loop-at-test.false c.loop-at.invariant.same
+returns c = at_end c.args.word.now c.requires c.loop-at.at c.args.text.now c.loop-at-test.false c.loop-at.invariant.same

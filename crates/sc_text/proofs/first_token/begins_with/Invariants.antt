@@ -1,11 +1,11 @@
 use Rattle.std.proofs.Common.{◌-◌, ◌≤◌, length, drop}
-use Rattle.extended_sources.proofs.FirstWord.{IsSame}
-use Rattle.extended_sources.proofs.first_word.begins_extended.Given as goal
+use Rattle.sc_text.proofs.FirstToken.{IsSame}
+use Rattle.sc_text.proofs.first_token.begins_with.Given as goal
 
 abbrev pub invariant-loop-at : goal.invariant-loop-at
 invariant-loop-at l = record {
   within : l.at ≤ length l.text;
-  same : IsSame l.text (drop l.at l.text);
+  same : IsSame l.word l.text (drop l.at l.text);
 }
 
 abbrev pub decreases-loop-at : goal.decreases-loop-at
