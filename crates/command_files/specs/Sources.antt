@@ -102,6 +102,11 @@ ProgramLacksImage bytes other = ⊥
 abbrev pub BytesLackCompiled : List ℕ → LoadFault → Type 0
 BytesLackCompiled bytes f = BytesLackProgram bytes f ⊎ ProgramLacksImage bytes f
 
+-- why bytes have no image that could be given: they spell none; or memory was refused, which says nothing of them
+abbrev pub BytesLackImage : List ℕ → LoadFault → Type 0
+BytesLackImage bytes fault.Memory = Unit {0}
+BytesLackImage bytes other = BytesLackCompiled bytes other
+
 -- no program could be had from the file of this name, for this fault
 abbrev pub FileLacksProgram : Option Contents → List ℕ → LoadFault → Type 0
 FileLacksProgram files name f = SourceLacks BytesLackProgram files name f

@@ -10,8 +10,7 @@ use Rattle.state_paths.specs.Paths.{paths_of}
 use Rattle.bytecode.specs.Image.{Image}
 use Rattle.bytecode.specs.Spells.{Spells}
 use Rattle.command_files.specs.declared.fault.LoadFault.{LoadFault}
-use Rattle.command_files.specs.declared.fault.LoadFault.TheVariants as fault
-use Rattle.command_files.specs.Sources.{SpellsImage, BytesLackCompiled}
+use Rattle.command_files.specs.Sources.{SpellsImage, BytesLackImage}
 use Rattle.command_files.specs.Standing.{BytesLackSource, StandsFor}
 use Rattle.embedded_machine.specs.Opened.{ChartStates, OpenedImage, no_states}
 
@@ -56,16 +55,11 @@ pub record SpellsItsImage (text bytes : List ℕ) : Type 0 where
   pub stands : StandsFor text source
   pub image : SpellsSourceImage source bytes
 
--- why a source has no image that could be given: it spells none, for this fault; or memory was refused for its bytes
-abbrev pub SourceLacksImage : List ℕ → LoadFault → Type 0
-SourceLacksImage source fault.Memory = Unit {0}
-SourceLacksImage source other = BytesLackCompiled source other
-
 -- this text stands for a source that has no image which could be given
 pub record StandsForNone (text : List ℕ) (f : LoadFault) : Type 0 where
   pub source : List ℕ
   pub stands : StandsFor text source
-  pub lacks : SourceLacksImage source f
+  pub lacks : BytesLackImage source f
 
 -- why a text has no image that could be given: it stands for no source, or for one that has none
 abbrev pub IsNoImageOf : List ℕ → LoadFault → Type 0

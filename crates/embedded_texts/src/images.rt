@@ -1,7 +1,8 @@
 //! Images from texts and from bytes.
 
 ghost use Rattle.std.specs.Prelude.{◌≡◌, IfErr, IfOk};
-ghost use Rattle.embedded_texts.specs.Texts.{IsNoImageOf, SourceLacksImage, SpellsItsImage, SpellsSourceImage};
+ghost use Rattle.command_files.specs.Sources.{BytesLackImage};
+ghost use Rattle.embedded_texts.specs.Texts.{IsNoImageOf, SpellsItsImage, SpellsSourceImage};
 ghost use Rattle.embedded_machine.specs.Ticks.{SpellValid};
 
 use bytecode::{decode_either, encode};
@@ -23,10 +24,10 @@ pub fn image_of_text(alloc: Global, text: &[u8]) -> Result<Vec<u8>, LoadFault>
 }
 
 // The bytes of the image of what this source spells.
-#[tactic(auto, using(crate::proofs::Refused::no_image))]
+#[tactic(auto, using(command_files::proofs::Lacking::lacks_image))]
 fn image_of_source(alloc: Global, source: &[u8]) -> Result<Vec<u8>, LoadFault>
     ensures compiled { IfOk result (λ bytes. SpellsSourceImage source.now bytes.items) }
-    ensures fault { IfErr result (λ fault. SourceLacksImage source.now fault) }
+    ensures fault { IfErr result (λ fault. BytesLackImage source.now fault) }
 {
     let verified = compile_bytes(alloc, source)?;
     let bytes = encode(alloc, verified.image())?;

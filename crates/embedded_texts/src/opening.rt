@@ -29,7 +29,7 @@ pub fn opened_image(alloc: Global, bytes: &[u8]) -> Result<Opened, LoadFault>
 /// The image of the program, or of the chart, that this text spells, with the states of the chart; of an extended
 /// chart's, those of the chart to which it is reduced. Err: it spells none, or why it has no image; or memory was
 /// refused.
-#[tactic(auto, using(crate::proofs::Refused::no_image, crate::proofs::Refused::none_as_written))]
+#[tactic(auto, using(command_files::proofs::Lacking::lacks_image, crate::proofs::Refused::none_as_written))]
 pub fn opened_text(alloc: Global, text: &[u8]) -> Result<Opened, LoadFault>
     ensures opened { IfOk result (IsOpenedText text.now) }
     ensures fault { IfErr result (IsNoImageOf text.now) }

@@ -22,5 +22,5 @@ mod way;
 pub use counting::counts;
 pub use fault::GraphFault;
 pub use graph::graph_of;
-pub use numbers::{NodeCounts, NodeNumbers};
+pub use numbers::NodeCounts;
 pub use way::Way;

@@ -21,7 +21,7 @@ pub struct NodeCounts {
 
 /// The numbers that come next: of a node of the thread, of a thread, and of that thread's first node.
 #[derive(Clone, Copy, Debug)]
-pub struct NodeNumbers {
+pub(crate) struct NodeNumbers {
     pub node: NodeId,
     pub thread: ThreadId,
     pub base: NodeId,

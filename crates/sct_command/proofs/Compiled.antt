@@ -8,7 +8,7 @@ use Rattle.command_files.specs.declared.fault.LoadFault.{LoadFault}
 use Rattle.command_files.specs.declared.fault.LoadFault.TheVariants as load
 use Rattle.command_files.specs.Counting.{files_failed}
 use Rattle.command_files.specs.Files.{Contents, HasBytes, Stores}
-use Rattle.command_files.specs.Sources.{BytesLackCompiled, FileLacksCompiled, SpellsImage}
+use Rattle.command_files.specs.Sources.{BytesLackImage, FileLacksCompiled, SpellsImage}
 use Rattle.command_files.specs.Standing.{BytesLackSource, HasSource}
 use Rattle.command_files.specs.Storing.{IsNotStored}
 use Rattle.sct_command.proofs.Told.{quiet_bytes}
@@ -16,24 +16,15 @@ use Rattle.sct_command.specs.declared.fault.Fault.{Fault}
 use Rattle.sct_command.specs.declared.fault.Fault.TheVariants as fault
 use Rattle.sct_command.specs.Beside.{AreWarnings, AreWarningsOf, IsReported, SaysOfFault}
 use Rattle.sct_command.specs.Explaining.{IsReport, IsReportOf}
-use Rattle.sct_command.specs.Inside.Held.{IsHeldReport, IsMemory, IsSpelt, KeepsProgram, LacksImage, RefusesProgram, SaysOfBytes}
+use Rattle.sct_command.specs.Inside.Held.{IsHeldReport, IsMemory, IsSpelt, KeepsProgram, RefusesProgram, SaysOfBytes}
 use Rattle.sct_command.specs.Keeping.{KeepsImage, RefusesKeeping}
 use Rattle.sct_command.specs.Sources.{AreOfProgram, Compiles, RefusesCompile, RefusesWriting}
 use Rattle.sct_command.specs.Writing.{RefusesToWrite, Writes}
 
 -- ---- bytes that spell no image
 
-pub lacks_image : (bytes : List ℕ) (f : LoadFault) → BytesLackCompiled bytes f → LacksImage bytes f
-lacks_image bytes load.Memory none = tt
-lacks_image bytes (load.Image g) none = none
-lacks_image bytes (load.Rule g) none = none
-lacks_image bytes (load.Text g) none = none
-lacks_image bytes (load.Program g) none = none
-lacks_image bytes (load.File g) none = none
-lacks_image bytes (load.Source g) none = none
-
 -- no file failed because of them
-pub quiet_image : (bytes : List ℕ) (f : LoadFault) → LacksImage bytes f → files_failed f ≡ 0
+pub quiet_image : (bytes : List ℕ) (f : LoadFault) → BytesLackImage bytes f → files_failed f ≡ 0
 quiet_image bytes load.Memory none = refl
 quiet_image bytes (load.Image g) none = refl
 quiet_image bytes (load.Rule g) none = refl
@@ -42,7 +33,7 @@ quiet_image bytes (load.Program g) none = refl
 quiet_image bytes (load.File g) none = quiet_bytes bytes (load.File g) none
 quiet_image bytes (load.Source g) none = refl
 
-file_lacks : (files : Option Contents) (name bytes : List ℕ) (f : LoadFault) → HasSource files name bytes → LacksImage bytes f
+file_lacks : (files : Option Contents) (name bytes : List ℕ) (f : LoadFault) → HasSource files name bytes → BytesLackImage bytes f
     → FileLacksCompiled files name f
 file_lacks files name bytes load.Memory held none = inl tt
 file_lacks files name bytes (load.Image g) held none = no_compiled files name bytes (load.Image g) held none
@@ -159,7 +150,7 @@ compiles (Ok done) files middle after from to bytes old new same held made =
 compiles (Err f) files middle after from to bytes old new same held made = tt
 
 not_compiled : (files : Option Contents) (from to bytes : List ℕ) (f : LoadFault) → HasSource files from bytes
-    → LacksImage bytes f ⊎ IsNotStored to f → FileLacksCompiled files from f ⊎ IsNotStored to f
+    → BytesLackImage bytes f ⊎ IsNotStored to f → FileLacksCompiled files from f ⊎ IsNotStored to f
 not_compiled files from to bytes f held (inl none) = inl (file_lacks files from bytes f held none)
 not_compiled files from to bytes f held (inr none) = inr none
 
@@ -195,16 +186,16 @@ spells (Ok done) bytes image old new is written =
 spells (Err f) bytes image old new is written = tt
 
 refuses_image : (f : Fault) (bytes : List ℕ) (image : Image) (old new : Option (List ℕ)) → SpellsImage bytes image
-    → RefusesToWrite (λ b. Spells 2 b image) IsMemory old new f → RefusesToWrite (IsSpelt bytes) (LacksImage bytes) old new f
+    → RefusesToWrite (λ b. Spells 2 b image) IsMemory old new f → RefusesToWrite (IsSpelt bytes) (BytesLackImage bytes) old new f
 refuses_image fault.Write bytes image old new is part =
     record { text = part.text; is = record { image = image; source = is; spelt = part.is }; in_part = part.in_part }
-refuses_image (fault.Files f) bytes image old new is (memory, same) = (subst (LacksImage bytes) (sym memory) tt, same)
+refuses_image (fault.Files f) bytes image old new is (memory, same) = (subst (BytesLackImage bytes) (sym memory) tt, same)
 refuses_image (fault.Play f cause) bytes image old new is refused = absurd refused
 refuses_image fault.Tests bytes image old new is refused = absurd refused
 refuses_image (fault.Place shown) bytes image old new is refused = absurd refused
 
 pub refuses_spelling : {T : Type 0} (r : Result T Fault) (bytes : List ℕ) (image : Image) (old new : Option (List ℕ)) → SpellsImage bytes image
-    → IfErr r (RefusesToWrite (λ b. Spells 2 b image) IsMemory old new) → IfErr r (RefusesToWrite (IsSpelt bytes) (LacksImage bytes) old new)
+    → IfErr r (RefusesToWrite (λ b. Spells 2 b image) IsMemory old new) → IfErr r (RefusesToWrite (IsSpelt bytes) (BytesLackImage bytes) old new)
 refuses_spelling (Ok done) bytes image old new is refused = tt
 refuses_spelling (Err f) bytes image old new is refused = refuses_image f bytes image old new is refused
 
@@ -220,7 +211,7 @@ writes_program (Ok done) files from bytes old new held written =
 writes_program (Err f) files from bytes old new held written = tt
 
 refuses_program : (f : Fault) (files : Option Contents) (from bytes : List ℕ) (old new : Option (List ℕ)) → HasSource files from bytes
-    → RefusesToWrite (IsSpelt bytes) (LacksImage bytes) old new f → RefusesWriting files from old new f
+    → RefusesToWrite (IsSpelt bytes) (BytesLackImage bytes) old new f → RefusesWriting files from old new f
 refuses_program fault.Write files from bytes old new held part =
     record { text = part.text; is = of_program files from bytes part.text held part.is; in_part = part.in_part }
 refuses_program (fault.Files f) files from bytes old new held (none, same) = (file_lacks files from bytes f held none, same)
@@ -229,6 +220,6 @@ refuses_program fault.Tests files from bytes old new held refused = absurd refus
 refuses_program (fault.Place shown) files from bytes old new held refused = absurd refused
 
 pub refuses_writing : {T : Type 0} (r : Result T Fault) (files : Option Contents) (from bytes : List ℕ) (old new : Option (List ℕ))
-    → HasSource files from bytes → IfErr r (RefusesToWrite (IsSpelt bytes) (LacksImage bytes) old new) → IfErr r (RefusesWriting files from old new)
+    → HasSource files from bytes → IfErr r (RefusesToWrite (IsSpelt bytes) (BytesLackImage bytes) old new) → IfErr r (RefusesWriting files from old new)
 refuses_writing (Ok done) files from bytes old new held refused = tt
 refuses_writing (Err f) files from bytes old new held refused = refuses_program f files from bytes old new held refused

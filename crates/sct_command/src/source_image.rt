@@ -2,10 +2,10 @@
 
 ghost use Rattle.std.specs.Prelude.{◌≡◌, ◌+◌, [], IfErr, IfOk, OnOk, string_bytes};
 ghost use Rattle.command_files.specs.Counting.{files_failed};
-ghost use Rattle.command_files.specs.Sources.{SpellsImage};
+ghost use Rattle.command_files.specs.Sources.{BytesLackImage, SpellsImage};
 ghost use Rattle.command_files.specs.Standing.{FileLacksSource, HasSource};
 ghost use Rattle.sct_command.specs.Beside.{IsReported};
-ghost use Rattle.sct_command.specs.Inside.Held.{IsHeldReport, LacksImage};
+ghost use Rattle.sct_command.specs.Inside.Held.{IsHeldReport};
 
 use crate::report::report_of;
 use command_files::{Files, LoadFault, bytes_of, compile_bytes, reduced_source};
@@ -34,7 +34,7 @@ fn say_report(
 
 /// The image of the text that these bytes are, which are those of the file of this name. Err: why there is none, of
 /// which a report is `said` where words are wanted and memory is there for them.
-#[tactic(auto, using(crate::proofs::Compiled::lacks_image))]
+#[tactic(auto, using(command_files::proofs::Lacking::lacks_image))]
 pub(crate) fn image_told(
     alloc: Global,
     name: &str,
@@ -44,7 +44,7 @@ pub(crate) fn image_told(
 ) -> Result<Boxed<Verified>, LoadFault>
     requires none { string_bytes said.now ≡ [] }
     ensures spelt { IfOk result (SpellsImage bytes.now) }
-    ensures lacks { IfErr result (LacksImage bytes.now) }
+    ensures lacks { IfErr result (BytesLackImage bytes.now) }
     ensures quiet { OnOk result (string_bytes said.new ≡ []) }
     ensures reported { IfErr result (λ fault. IsHeldReport name.now bytes.now wanted fault (string_bytes said.new)) }
 {

@@ -3,9 +3,10 @@
 ghost use Rattle.std.specs.Prelude.{◌≡◌, ◌+◌, [], IfErr, OnErr, OnOk, string_bytes};
 ghost use Rattle.std.specs.Str.{IsUtf8};
 ghost use Rattle.bytecode.specs.Spells.{Spells};
+ghost use Rattle.command_files.specs.Sources.{BytesLackImage};
 ghost use Rattle.sct_command.specs.Beside.{AreWarnings, AreWarningsOf, SaysOfFault};
 ghost use Rattle.sct_command.specs.Failing.{files_failed, reads_failed, writes_failed};
-ghost use Rattle.sct_command.specs.Inside.Held.{IsMemory, IsSpelt, LacksImage, SaysOfBytes};
+ghost use Rattle.sct_command.specs.Inside.Held.{IsMemory, IsSpelt, SaysOfBytes};
 ghost use Rattle.sct_command.specs.Sources.{AreOfProgram, RefusesWriting};
 ghost use Rattle.sct_command.specs.Writing.{RefusesToWrite, Writes};
 
@@ -75,7 +76,7 @@ fn write_held<W: Sink>(
     requires none { string_bytes said.now ≡ [] }
     ensures done { OnOk result (Writes (IsSpelt bytes.now) (W.taken output.old) (W.taken output.new)) }
     ensures refused { IfErr result
-        (RefusesToWrite (IsSpelt bytes.now) (LacksImage bytes.now) (W.taken output.old) (W.taken output.new)) }
+        (RefusesToWrite (IsSpelt bytes.now) (BytesLackImage bytes.now) (W.taken output.old) (W.taken output.new)) }
     ensures none_failed { OnOk result (W.failures output.new ≡ W.failures output.old) }
     ensures failed { IfErr result (λ fault. W.failures output.new ≡ W.failures output.old + writes_failed fault) }
     ensures unread { IfErr result (λ fault. reads_failed fault ≡ 0) }

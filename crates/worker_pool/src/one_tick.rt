@@ -9,22 +9,19 @@ ghost use Rattle.worker_pool.specs.Inside.Stretches.{EndsTick};
 use crate::gate::Gate;
 use crate::of_image::OfImage;
 use crate::serving::{alone, stretch};
-use crate::settling::settle;
 use crate::shared::Shared;
-use crate::shared_tick::SharedTick;
 use crate::team::Team;
 use std::alloc::{AllocError, Global};
 use std::marker::Brand;
 use std::sync::Wait;
 use std::thread;
 use std::thread::{Scope, Threads};
-use tick_core::{BeginFault, Control, Inputs, Report, TickState, begin, copied};
+use tick_core::{BeginFault, Control, Inputs, Report, TickState, begin};
 use verifier::Verified;
 
 /// Runs a tick from a configuration that rests to its one end, with 1 to 8 workers: the configuration after it, and
 /// the report of its steps. The caller's thread serves as worker 1, and the others are started at the first round
-/// that is
-/// worth sharing. Each step passes the gate. `Input` and `Memory` as of `begin`; the configuration is untouched.
+/// that is worth sharing. Each step passes the gate. `Input` and `Memory` as of `begin`; the configuration is untouched.
 pub fn run_tick<'x, R: Threads + Wait + Sync, G: Gate + Sync>(
     rt: &R,
     alloc: Global,
@@ -88,52 +85,54 @@ where
     requires workers { workers ≤ 8 }
     ensures { IfOk result (EndsTick state.entry) }
 {
-    let Ok(begun) = copied(alloc, state.begun()) else {
-        return Ok(alone(state, gate));
-    };
     let Ok((shared, passes)) = Shared::<'x, J, G>::open(alloc, verified, gate) else {
         return Ok(alone(state, gate));
     };
     let Some(team) = Team::of(&shared, passes, workers) else {
         return Ok(alone(state, gate));
     };
-    let work = TickWork {
-        team,
-        shared_tick: SharedTick::of(state),
-    };
-    settle(alloc, verified, meet(rt, work), begun)
+    meet(rt, alloc, team, state)
 }
 
-// A team, and the tick that it is to share.
-#[derive(Drop)]
-struct TickWork<'r, 'x, J: OfImage, G: Gate> {
+// Shares the tick with a team, and waits for all workers.
+fn meet<'r, 'x, J, R, G>(
+    rt: &R,
+    alloc: Global,
     team: Team<'r, 'x, J, G>,
-    shared_tick: SharedTick<'x, J>,
-}
-
-// Shares the tick, and waits for all workers.
-fn meet<'r, 'x, J, R, G>(rt: &R, work: TickWork<'r, 'x, J, G>) -> Option<SharedTick<'x, J>>
+    state: TickState<'x>,
+) -> Result<TickState<'x>, AllocError>
 where
     J: OfImage + Send + Sync,
     R: Threads + Wait + Sync,
     G: Gate + Sync,
+    requires { state.image ≡ J.image }
+    ensures { IfOk result (EndsTick state.entry) }
 {
-    thread::scope(thread::scope_env(), rt, |scope| meet_in(rt, scope, work))
+    thread::scope(
+        thread::scope_env(),
+        rt,
+        move |scope| -> Result<TickState<'x>, AllocError>
+            ensures { IfOk result (EndsTick state.entry) }
+        { meet_in(rt, scope, alloc, team, state) },
+    )
 }
 
 fn meet_in<'s, 'r: 's, 'x: 's, E: 's, J, R, G>(
     rt: &'s R,
     scope: &'s Scope<'s, E>,
-    work: TickWork<'r, 'x, J, G>,
-) -> Option<SharedTick<'x, J>>
+    alloc: Global,
+    team: Team<'r, 'x, J, G>,
+    state: TickState<'x>,
+) -> Result<TickState<'x>, AllocError>
 where
     J: OfImage + Send + Sync + 's,
     R: Wait + Sync,
     G: Gate + Sync + 's,
+    requires { state.image ≡ J.image }
+    ensures { IfOk result (EndsTick state.entry) }
 {
-    let TickWork { team, shared_tick } = work;
     let mut team = team;
-    let back = team.share(rt, scope, shared_tick);
+    let ended = team.complete_wide(rt, scope, alloc, state);
     team.close(rt);
-    back
+    ended
 }

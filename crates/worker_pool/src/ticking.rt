@@ -19,8 +19,7 @@ use tick_core::{BeginFault, Control, Inputs, TickSpace, TickState, copied};
 
 impl<'r, 'x, J: OfImage, G: Gate> Team<'r, 'x, J, G> {
     /// Runs a tick of the shared image from a configuration that rests and is given up, in the space that an earlier
-    /// one
-    /// left, to where nobody is enabled. Each step passes the gate. `Input` as of `begin`. A tick that is not shared
+    /// one left, to where nobody is enabled. Each step passes the gate. `Input` as of `begin`. A tick that is not shared
     /// takes no memory; one is shared with others where there is memory for it.
     pub fn tick<'s, R, E>(
         &mut self,
@@ -74,8 +73,8 @@ impl<'r, 'x, J: OfImage, G: Gate> Team<'r, 'x, J, G> {
         }
     }
 
-    // The same where there is a round to share. Where memory is refused the first worker goes on alone.
-    fn complete_wide<'s, R, E>(
+    /// The same where there is a round to share. Where memory is refused the first worker goes on alone.
+    pub(crate) fn complete_wide<'s, R, E>(
         &mut self,
         rt: &'s R,
         scope: &'s Scope<'s, E>,

@@ -5,17 +5,12 @@ use Rattle.bytecode.specs.Spells.{Spells}
 use Rattle.command_files.specs.declared.fault.LoadFault.{LoadFault}
 use Rattle.command_files.specs.declared.fault.LoadFault.TheVariants as load
 use Rattle.command_files.specs.Files.{Contents}
-use Rattle.command_files.specs.Sources.{BytesLackCompiled, SpellsImage}
+use Rattle.command_files.specs.Sources.{BytesLackImage, SpellsImage}
 use Rattle.command_files.specs.Storing.{IsNotStored}
 use Rattle.sct_command.specs.Explaining.{IsReport}
 use Rattle.sct_command.specs.Keeping.{KeepsImage, KeepsPart}
 use Rattle.sct_command.specs.declared.fault.Fault.{Fault}
 use Rattle.sct_command.specs.declared.fault.Fault.TheVariants as fault
-
--- they spell no image, for this fault. A refusal of memory says nothing of them
-abbrev pub LacksImage : (bytes : List ℕ) → LoadFault → Type 0
-LacksImage bytes load.Memory = Unit {0}
-LacksImage bytes f = BytesLackCompiled bytes f
 
 -- they spell an image, which was kept
 pub record KeepsProgram (bytes : List ℕ) (files files' : Option Contents) (to : List ℕ) (old new : Option (List ℕ)) : Type 0 where
@@ -29,7 +24,7 @@ abbrev pub RefusesProgram : (bytes : List ℕ) → Option Contents → Option Co
 RefusesProgram bytes files files' to old new fault.Write =
     (image : Image) × SpellsImage bytes image × KeepsPart image files files' to old new
 RefusesProgram bytes files files' to old new (fault.Files f) =
-    (LacksImage bytes f ⊎ IsNotStored to f) × (files' ≡ files) × (new ≡ old)
+    (BytesLackImage bytes f ⊎ IsNotStored to f) × (files' ≡ files) × (new ≡ old)
 RefusesProgram bytes files files' to old new other = ⊥
 
 -- the image that they spell is this one in version 2
