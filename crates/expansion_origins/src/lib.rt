@@ -14,4 +14,4 @@ pub use around::{Around, Sort};
 pub use laws::origins_tell_expansion;
 pub use origins::Origins;
 pub use regions::expansion_origins;
-pub use transitions::{Choice, Ends};
+pub use transitions::Ends;

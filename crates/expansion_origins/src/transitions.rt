@@ -14,7 +14,7 @@ use std::alloc::AllocError;
 
 /// Which transitions of a state are meant.
 #[derive(Clone, Copy, Debug)]
-pub enum Choice {
+pub(crate) enum Choice {
     All,
     /// The immediate strong aborts, which are tested where their superstate is entered.
     AtEntry,
