@@ -10,7 +10,7 @@ ghost use Rattle.sc_graph.specs.Valid.{IsFormed};
 use crate::instants::asked_by_instants;
 use crate::next::entry;
 use conflict_edges::Edges;
-use program_edges::{Extreme, Places, extremes_of};
+use program_edges::{Extreme, NotedPlaces, extremes_of};
 use sc_graph::{Links, NodeId, Program, VariableId};
 use std::alloc::{AllocError, Global};
 
@@ -44,7 +44,7 @@ pub(crate) fn protocol_kept(
         → slice_index table.now n < slice_index table.now m)) }
 {
     let users = edges.users();
-    let mut places = Places::none(alloc, program.thread_count())?;
+    let mut places = NotedPlaces::none(alloc, program.thread_count())?;
     for x in 0..program.variable_count() {
         let inits = users.inits.of(x);
         let updates = users.updates.of(x);
@@ -73,7 +73,7 @@ fn kept_over(
     program: &Program,
     edges: &Edges,
     table: &[u32],
-    places: &mut Places,
+    places: &mut NotedPlaces,
     x: VariableId,
     inits: &[NodeId],
     updates: &[NodeId],
@@ -104,7 +104,7 @@ fn kept_between(
     program: &Program,
     edges: &Edges,
     table: &[u32],
-    places: &mut Places,
+    places: &mut NotedPlaces,
     firsts: &[NodeId],
     seconds: &[NodeId],
 ) -> Result<bool, AllocError>

@@ -6,7 +6,7 @@ ghost use Rattle.program_edges.specs.Extremes.{StandFor};
 ghost use Rattle.program_edges.specs.Inside.TakingIn.{Beats, OwnedAlike, TakesIn};
 
 use crate::numbers::Numbers;
-use crate::places::Places;
+use crate::noted_places::NotedPlaces;
 use sc_graph::{NodeId, Program};
 use sqlite_items::Items;
 use std::alloc::{AllocError, Global};
@@ -25,7 +25,7 @@ pub fn extremes_of<N: Numbers>(
     numbers: &N,
     extreme: Extreme,
     nodes: &[NodeId],
-    places: &mut Places,
+    places: &mut NotedPlaces,
 ) -> Result<Items<NodeId>, AllocError>
     ensures { IfOk result (StandFor program.now (N.table numbers.now) extreme nodes.now) }
 {
@@ -40,7 +40,7 @@ pub fn extremes_of<N: Numbers>(
 // its thread at the place that is noted for it.
 fn take_in<N: Numbers>(
     chosen: &mut Items<NodeId>,
-    places: &mut Places,
+    places: &mut NotedPlaces,
     program: &Program,
     numbers: &N,
     extreme: Extreme,

@@ -10,8 +10,8 @@ mod conflicts;
 mod extremes;
 mod next;
 mod node_lists;
+mod noted_places;
 mod numbers;
-mod places;
 mod search;
 mod users;
 
@@ -22,6 +22,6 @@ pub use extremes::{Extreme, extremes_of};
 pub use next::{NextNodes, children_of, next_nodes, successors};
 pub use node_lists::NodeLists;
 pub use numbers::Numbers;
-pub use places::Places;
+pub use noted_places::NotedPlaces;
 pub use search::{Sought, find_instant};
 pub use users::{Use, Users};

@@ -17,15 +17,15 @@ use std::collections::BTreeMap;
 /// Labels, and a table of their places by their names, where one was made. It is in the order of the names, so that
 /// no names can crowd it.
 #[derive(Drop)]
-pub(crate) struct Places {
+pub(crate) struct LabelPlaces {
     pub(crate) labels: Labels,
     table: Option<BTreeMap<Name, usize>>,
     ghost same: { ArePlaces labels table },
 }
 
-impl Places {
+impl LabelPlaces {
     /// The places of these labels. Where none is looked up, no table is made.
-    pub(crate) fn of(alloc: Global, labels: Labels, are_sought: bool) -> Result<Places, AllocError>
+    pub(crate) fn of(alloc: Global, labels: Labels, are_sought: bool) -> Result<LabelPlaces, AllocError>
         ensures { IfOk result (λ places. places.labels ≡ labels) }
     {
         let table = if are_sought {
@@ -33,7 +33,7 @@ impl Places {
         } else {
             None
         };
-        Ok(Places { labels, table })
+        Ok(LabelPlaces { labels, table })
     }
 
     /// What stands at each place.

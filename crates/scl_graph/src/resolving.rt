@@ -12,7 +12,7 @@ use crate::gathering::{gather, gather_forked};
 use crate::hops::{Hop, at_place, least_goto, settled};
 use crate::labels::Labels;
 use crate::landing::Landing;
-use crate::places::Places;
+use crate::places::LabelPlaces;
 use crate::spots::Spot;
 use crate::tallies::Tally;
 use crate::totals::Totals;
@@ -25,7 +25,7 @@ use std::alloc::{AllocError, Global};
 /// The labels of a program, and the node behind each.
 #[derive(Drop)]
 pub(crate) struct Resolved {
-    places: Places,
+    places: LabelPlaces,
     table: Vec<Hop>,
 }
 
@@ -91,7 +91,7 @@ pub(crate) fn resolve(
         (IsUnresolved body.now) }
 {
     let labels = labels_of(alloc, body, tallies, totals)?;
-    let places = Places::of(alloc, labels, totals.jumps > 0)?;
+    let places = LabelPlaces::of(alloc, labels, totals.jumps > 0)?;
     let table = settled(alloc, places.hops(alloc)?)?;
     match least_name(&places.labels, table.as_slice()) {
         Some(label) => Err(GraphFault::EmptyLoop(label)),

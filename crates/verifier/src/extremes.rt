@@ -5,7 +5,7 @@ ghost use Rattle.program_edges.specs.Extremes.{StandFor};
 ghost use Rattle.verifier.specs.Inside.Chosen.{ExtremesOf};
 ghost use Rattle.verifier.specs.Inside.Each.{EachOf};
 
-use program_edges::{Extreme, NodeLists, Places, Users, extremes_of};
+use program_edges::{Extreme, NodeLists, NotedPlaces, Users, extremes_of};
 use sc_graph::{NodeId, Program, Tables};
 use sqlite_items::Items;
 use std::alloc::{AllocError, Global};
@@ -62,7 +62,7 @@ fn extremes_of_all(
     ensures { IfOk result (EachOf (StandFor program.now tables.now.priorities extreme) (length program.now.variables)
         users.now) }
 {
-    let mut places = Places::none(alloc, program.thread_count())?;
+    let mut places = NotedPlaces::none(alloc, program.thread_count())?;
     let mut lists = Items::new(alloc);
     for x in 0..program.variable_count() {
         let list = extremes_of(alloc, program, tables, extreme, users.of(x), &mut places)?;

@@ -6,14 +6,14 @@ use std::alloc::{AllocError, Global};
 
 /// A place in a list for each thread.
 #[derive(Drop)]
-pub struct Places {
+pub struct NotedPlaces {
     by_thread: Vec<usize>,
 }
 
-impl Places {
+impl NotedPlaces {
     /// The place 0 for each of so many threads. Err: memory was refused.
-    pub fn none(alloc: Global, threads: u16) -> Result<Places, AllocError> {
-        Ok(Places {
+    pub fn none(alloc: Global, threads: u16) -> Result<NotedPlaces, AllocError> {
+        Ok(NotedPlaces {
             by_thread: vec![in alloc; 0; threads as usize]?,
         })
     }

@@ -1,6 +1,6 @@
 use Rattle.std.proofs.Common.{◌≡◌, ◌++◌, drop, map}
 use Rattle.scl_graph.specs.Inside.Settling.{hop_of}
-use Rattle.scl_graph.proofs.places.Places.hops.Given as goal
+use Rattle.scl_graph.proofs.places.LabelPlaces.hops.Given as goal
 
 abbrev pub invariant-loop-label : goal.invariant-loop-label
 invariant-loop-label l =
