@@ -111,7 +111,7 @@ where
     thread::scope(
         thread::scope_env(),
         rt,
-        move |scope| -> Result<TickState<'x>, AllocError>
+        move |scope| -> Result<TickState, AllocError>
             ensures { IfOk result (EndsTick state.entry) }
         { meet_in(rt, scope, alloc, team, state) },
     )
