@@ -22,7 +22,7 @@ use Rattle.chart_drafts.specs.Phrase.{Gives}
 use Rattle.chart_drafts.proofs.Parts.{seq_gives, made_gives, made_stops, after_gives, after_stops_second, maybe_none, maybe_some, maybe_stops, left_read}
 use Rattle.chart_drafts.proofs.Parts.{right_read, gives_as}
 use Rattle.chart_drafts.proofs.RowReading.{listed_goes, listed_stops}
-use Rattle.extended_drafts.specs.declared.draft.Combination.{Combination}
+use Rattle.extended_drafts.specs.declared.draft.CompoundSign.{CompoundSign}
 use Rattle.extended_drafts.specs.declared.draft.EffectEnd.{EffectEnd}
 use Rattle.extended_drafts.specs.declared.draft.EffectEnd.TheVariants as ends
 use Rattle.extended_drafts.specs.Draft.{combination, effect_with}
@@ -33,7 +33,7 @@ use Rattle.extended_drafts.proofs.Shapes.{becoming_is, combined_is, next_effect_
 abbrev e0 : Grows Phrase
 e0 = expression 0
 
-pub combining_gives : (text a b rest : List Token) (o : BinaryOperator × ℕ) (at : ℕ) (v : TextExpression) (c : Combination) → Gives (read combiner text) o a
+pub combining_gives : (text a b rest : List Token) (o : BinaryOperator × ℕ) (at : ℕ) (v : TextExpression) (c : CompoundSign) → Gives (read combiner text) o a
     → Gives (read equals a) at b → Gives (read (placed e0) b) v rest → c ≡ combination o at v → Gives (read (combining e0) text) c rest
 unfolding combining
 combining_gives text a b rest o at v c p q r e =
@@ -76,7 +76,7 @@ module _ (text : List Token) where
   unfolding becoming
   becoming_stops end f e s = stops_as end _ _ f (is_becoming e) (made_stops to_value becomes text end f s)
 
-  pub combined_gives : (c : Combination) (rest : List Token) → starts text_tokens (the_sign sign.Becomes) text ≡ false
+  pub combined_gives : (c : CompoundSign) (rest : List Token) → starts text_tokens (the_sign sign.Becomes) text ≡ false
       → starts text_tokens combining_signs text ≡ true → Gives (read (combining e0) text) c rest
       → Gives (read (effect_end e0) text) (ends.Combined c) rest
   unfolding combined

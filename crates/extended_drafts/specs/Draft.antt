@@ -25,7 +25,7 @@ use Rattle.chart_drafts.specs.declared.draft.DraftState.{DraftState}
 use Rattle.chart_drafts.specs.Draft.{effect_of, transition_of, state_of, region_of, chart_of}
 use Rattle.extended_drafts.specs.declared.draft.ItemBody.{ItemBody}
 use Rattle.extended_drafts.specs.declared.draft.DraftItem.{DraftItem}
-use Rattle.extended_drafts.specs.declared.draft.Combination.{Combination}
+use Rattle.extended_drafts.specs.declared.draft.CompoundSign.{CompoundSign}
 use Rattle.extended_drafts.specs.declared.draft.EffectEnd.{EffectEnd}
 use Rattle.extended_drafts.specs.declared.draft.EffectEnd.TheVariants as ends
 use Rattle.extended_drafts.specs.declared.draft.DraftEntry.{DraftEntry}
@@ -72,11 +72,11 @@ combined_by (token.Sign sign.Minus) = operator.Subtract
 combined_by (token.Sign sign.Star) = operator.Multiply
 combined_by k = operator.Add
 
-abbrev pub combination : BinaryOperator × ℕ → ℕ → TextExpression → Combination
+abbrev pub combination : BinaryOperator × ℕ → ℕ → TextExpression → CompoundSign
 combination operator equals e = record { operator = operator.0; at = operator.1; equals = equals; operand = e }
 
 -- What a name becomes that is combined with an operand: it is the left one, and stands at the operator. It starts at the `=`
-abbrev pub combined : Named → Combination → TextExpression
+abbrev pub combined : Named → CompoundSign → TextExpression
 combined n c =
     record { start = c.equals; operations = text.Load n.name c.at ∷ (c.operand.operations ++ text.Binary c.operator ∷ []) }
 

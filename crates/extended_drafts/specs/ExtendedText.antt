@@ -35,7 +35,7 @@ use Rattle.chart_drafts.specs.ChartText.{Grows, the_word, the_sign, name, last_n
 use Rattle.chart_drafts.specs.ChartText.{tested_words, flag, listed, braced}
 use Rattle.extended_drafts.specs.declared.draft.ItemBody.{ItemBody}
 use Rattle.extended_drafts.specs.declared.draft.DraftItem.{DraftItem}
-use Rattle.extended_drafts.specs.declared.draft.Combination.{Combination}
+use Rattle.extended_drafts.specs.declared.draft.CompoundSign.{CompoundSign}
 use Rattle.extended_drafts.specs.declared.draft.EffectEnd.{EffectEnd}
 use Rattle.extended_drafts.specs.declared.draft.EffectEnd.TheVariants as ends
 use Rattle.extended_drafts.specs.declared.draft.DraftEntry.{DraftEntry}
@@ -107,10 +107,10 @@ combiner = made (λ t. (combined_by t.kind, t.at)) (one combining_signs)
 abbrev pub equals : Grows ℕ
 equals = made (λ t. t.at) (one (the_sign sign.Becomes))
 
-unfoldable pub combining : Grows Phrase → Grows Combination
+unfoldable pub combining : Grows Phrase → Grows CompoundSign
 combining e = made (λ x. combination x.0 x.1.0 x.1.1) (seq combiner (seq equals (placed e)))
 
-abbrev pub to_combination : Combination → EffectEnd
+abbrev pub to_combination : CompoundSign → EffectEnd
 to_combination c = ends.Combined c
 
 unfoldable pub combined : Grows Phrase → Grows EffectEnd

@@ -27,7 +27,7 @@ pub struct DraftItem {
 
 /// An operator and the `=` behind it, with their places, and the right operand.
 #[derive(Debug, Drop)]
-pub struct Combination {
+pub struct CompoundSign {
     pub operator: BinaryOperator,
     pub at: usize,
     pub equals: usize,
@@ -39,7 +39,7 @@ pub struct Combination {
 #[derive(Debug, Drop)]
 pub enum EffectEnd {
     Value(TextExpression),
-    Combined(Combination),
+    Combined(CompoundSign),
     Name(Named),
 }
 

@@ -10,7 +10,7 @@ ghost use Rattle.extended_drafts.specs.Draft.{emitted, combined_by, combined, ef
 ghost use Rattle.extended_drafts.specs.ExtendedText.{combining_signs, combiner, equals, combining};
 ghost use Rattle.extended_drafts.specs.ExtendedText.{effect_end, effect, next_effect, some_effects, effects, deed};
 
-use crate::draft::{Combination, EffectEnd};
+use crate::draft::{CompoundSign, EffectEnd};
 use crate::words::last_name;
 use chart_drafts::DraftEffect;
 use chart_drafts::text_parts::{Ahead, name, placed, skip_sign, value};
@@ -82,7 +82,7 @@ fn equals(ahead: &mut Ahead, end: usize) -> Result<usize, ReadFault>
 
 // An operator, `=`, and the right operand.
 #[tactic(auto, using(crate::proofs::EffectParts::combining_gives, chart_drafts::proofs::Parts::made_stops, chart_drafts::proofs::Parts::seq_stops_first, chart_drafts::proofs::Parts::seq_stops_second), unfolding(crate::specs::ExtendedText::combining))]
-fn combining(alloc: Global, ahead: &mut Ahead, end: usize) -> Result<Combination, ReadFault>
+fn combining(alloc: Global, ahead: &mut Ahead, end: usize) -> Result<CompoundSign, ReadFault>
     ensures { MatchResult result
         (λ x. Gives (read (combining (expression 0)) ahead.old.tokens.now) x ahead.new.tokens.now)
         (λ fault. Stops end (read (combining (expression 0)) ahead.old.tokens.now) fault) }
@@ -90,7 +90,7 @@ fn combining(alloc: Global, ahead: &mut Ahead, end: usize) -> Result<Combination
     let (operator, at) = combiner(ahead, end)?;
     let equals = equals(ahead, end)?;
     let operand = placed(alloc, ahead, end)?;
-    Ok(Combination {
+    Ok(CompoundSign {
         operator,
         at,
         equals,
@@ -134,7 +134,7 @@ fn emitted(alloc: Global, word: Named, signal: Named) -> Result<TextExpression, 
 }
 
 // What a name becomes that is combined with an operand. Err: memory was refused.
-fn combined(alloc: Global, variable: Named, by: Combination) -> Result<TextExpression, AllocError>
+fn combined(alloc: Global, variable: Named, by: CompoundSign) -> Result<TextExpression, AllocError>
     ensures { IfOk result (λ e. e ≡ combined variable by) }
 {
     let mut operations = Items::new(alloc);

@@ -20,7 +20,7 @@ mod words;
 
 pub use checked::{extended_told_flaws, read_checked_extended};
 pub use draft::{
-    Combination, DraftCount, DraftDelay, DraftEntry, DraftItem, DraftRows, EffectEnd,
+    CompoundSign, DraftCount, DraftDelay, DraftEntry, DraftItem, DraftRows, EffectEnd,
     ExtendedDraft, ItemBody, StateActions, StateBody,
 };
 pub use laws::{extended_drafts_are_shaped, extended_texts_are_told};

@@ -4,3 +4,4 @@ pub mod Whole
 pub mod Reading
 mod OneAnswer
 pub mod Exactly
+pub mod Counting

@@ -13,11 +13,14 @@ abbrev pub own_count : Option DraftCount → List DraftCount
 own_count None = []
 own_count (Some c) = c ∷ []
 
+abbrev pub own_counts : Option DraftDelay → List DraftCount
+own_counts None = []
+own_counts (Some d) = own_count d.count
+
 -- the counts of these delays
 abbrev pub counts_of : List (Option DraftDelay) → List DraftCount
 counts_of [] = []
-counts_of (None ∷ delays) = counts_of delays
-counts_of (Some d ∷ delays) = own_count d.count ++ counts_of delays
+counts_of (d ∷ delays) = own_counts d ++ counts_of delays
 
 -- their conditions, over what has these names
 abbrev pub conditions : (names : List (List ℕ)) → List (Option DraftDelay) → List Expr

@@ -63,37 +63,37 @@ durings_of names (e ∷ entries) =
 
 -- ---- transitions
 
--- so many ticks went by since the state was entered, all or those of a count, which is the first of those that are left
-abbrev pub waited : (names : List (List ℕ)) → (left : List (Option DraftDelay)) → (ticks : Expr) → Option DraftCount → Expr
-waited names left ticks None = expr.Binary operator.GreaterOrEqual (expr.Load elapsed) ticks
-waited names left ticks (Some c) = counted (first_number left) (condition_of names c.condition) ticks
+-- so many ticks went by since the state was entered, all or those of a count, which has this number
+abbrev pub waited : (names : List (List ℕ)) → (number : ℕ) → (ticks : Expr) → Option DraftCount → Expr
+waited names number ticks None = expr.Binary operator.GreaterOrEqual (expr.Load elapsed) ticks
+waited names number ticks (Some c) = counted number (condition_of names c.condition) ticks
 
-abbrev pub waited_by : (names : List (List ℕ)) → (left : List (Option DraftDelay)) → DraftDelay → Expr
-waited_by names left d = waited names left (condition_of names d.until) d.count
+abbrev pub waited_by : (names : List (List ℕ)) → (number : ℕ) → DraftDelay → Expr
+waited_by names number d = waited names number (condition_of names d.until) d.count
 
 -- the trigger of a transition that waits so many ticks
-abbrev pub waited_trigger : (names : List (List ℕ)) → (left : List (Option DraftDelay)) → DraftDelay → Option TextExpression → Option Expr
-waited_trigger names left d None = Some (waited_by names left d)
-waited_trigger names left d (Some e) = Some (expr.Binary operator.And (waited_by names left d) (condition_of names e))
+abbrev pub waited_trigger : (names : List (List ℕ)) → (number : ℕ) → DraftDelay → Option TextExpression → Option Expr
+waited_trigger names number d None = Some (waited_by names number d)
+waited_trigger names number d (Some e) = Some (expr.Binary operator.And (waited_by names number d) (condition_of names e))
 
 -- the trigger of one that waits for this: ticks behind a word, and the trigger of a termination behind none
-abbrev pub until_trigger : (names : List (List ℕ)) → (left : List (Option DraftDelay)) → Option Named → DraftDelay → Option TextExpression → Option Expr
-until_trigger names left None d t = Some (condition_of names d.until)
-until_trigger names left (Some word) d t = waited_trigger names left d t
+abbrev pub until_trigger : (names : List (List ℕ)) → (number : ℕ) → Option Named → DraftDelay → Option TextExpression → Option Expr
+until_trigger names number None d t = Some (condition_of names d.until)
+until_trigger names number (Some word) d t = waited_trigger names number d t
 
--- the trigger of a transition that waits, or not
-abbrev pub trigger_of : (names : List (List ℕ)) → (left : List (Option DraftDelay)) → Option DraftDelay → Option TextExpression → Option Expr
-trigger_of names left None t = option_map (condition_of names) t
-trigger_of names left (Some d) t = until_trigger names left d.word d t
+-- the trigger of a transition that waits, or not, where its count has this number
+abbrev pub trigger_of : (names : List (List ℕ)) → (number : ℕ) → Option DraftDelay → Option TextExpression → Option Expr
+trigger_of names number None t = option_map (condition_of names) t
+trigger_of names number (Some d) t = until_trigger names number d.word d t
 
 abbrev pub first_delay : List (Option DraftDelay) → Option DraftDelay
 first_delay [] = None
 first_delay (d ∷ delays) = d
 
--- of a state of a region, whose states have these names, where these delays are left
+-- of a state of a region, whose states have these names, where these delays are left: its count is the first one left
 abbrev pub delayed_transition : (names states : List (List ℕ)) → (left : List (Option DraftDelay)) → DraftTransition → Transition
 delayed_transition names states left t =
-    record (transition_of names states t) { trigger = trigger_of names left (first_delay left) t.trigger }
+    record (transition_of names states t) { trigger = trigger_of names (first_number left) (first_delay left) t.trigger }
 
 -- ---- rows
 

@@ -28,10 +28,7 @@ pub fn extended_of(alloc: Global, draft: &ExtendedDraft) -> Result<ExtendedChart
     let declared = sorted(alloc, items)?;
     let scope = Scope::of(alloc, declared.as_slice())?;
     let delays = draft.rows.delays.as_slice();
-    let mut rows = RowsLeft {
-        entries: draft.rows.entries.as_slice(),
-        delays,
-    };
+    let mut rows = RowsLeft::of(draft.rows.entries.as_slice(), delays)?;
     let texts = draft.core.regions.as_slice();
     let regions = regions(alloc, &scope, &mut rows, DEPTH_LIMIT, texts)?;
     Ok(ExtendedChart {

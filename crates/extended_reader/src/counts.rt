@@ -5,10 +5,9 @@ ghost use Rattle.sc_values.specs.declared.expression.Expr.TheVariants as expr;
 ghost use Rattle.sc_values.specs.declared.operator.BinaryOperator.TheVariants as operator;
 ghost use Rattle.sc_graph.specs.Limits.{variable_limit};
 ghost use Rattle.drafts.specs.Flaws.{variable_names};
-ghost use Rattle.extended_reader.specs.Counts.{counts_of, conditions, first_number, counted};
+ghost use Rattle.extended_reader.specs.Counts.{counts_of, conditions, counted};
 
 use drafts::Scope;
-use extended_charts::ELAPSED;
 use extended_drafts::DraftDelay;
 use sc_values::{BinaryOperator, Expr, Value};
 use sqlite_items::{Boxed, Items};
@@ -43,26 +42,19 @@ fn one_more(count: u16) -> Result<u16, AllocError>
     }
 }
 
-// How many counts these delays have. Err: there are more than 65535.
-fn counts_left(delays: &[Option<DraftDelay>]) -> Result<u16, AllocError>
-    ensures { IfOk result (λ left. left ≡ length (counts_of delays.now)) }
+/// How many counts these delays have. Err: there are more than 65535.
+pub(crate) fn counts_in(delays: &[Option<DraftDelay>]) -> Result<u16, AllocError>
+    ensures { IfOk result (λ counts. counts ≡ length (counts_of delays.now)) }
 {
-    let mut left = 0;
+    let mut counts = 0;
     for delay in delays {
         if let Some(delay) = delay {
             if delay.count.is_some() {
-                left = one_more(left)?;
+                counts = one_more(counts)?;
             }
         }
     }
-    Ok(left)
-}
-
-/// The number of the first count of these delays, which are the last ones. Err: there are more than 65535.
-pub(crate) fn first_number(delays: &[Option<DraftDelay>]) -> Result<u16, AllocError>
-    ensures { IfOk result (λ number. number ≡ first_number delays.now) }
-{
-    Ok(ELAPSED - counts_left(delays)?)
+    Ok(counts)
 }
 
 /// That a number names at least so many ticks. Err: memory was refused.

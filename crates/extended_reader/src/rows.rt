@@ -1,19 +1,41 @@
 //! What is left of the rows of a draft, as its states and transitions are gone over.
 
-ghost use Rattle.std.specs.Prelude.{◌≡◌};
-ghost use Rattle.extended_reader.specs.Inside.{rows_in};
-ghost use Rattle.extended_reader.specs.Resolved.{first_actions, behind_state};
+ghost use Rattle.std.specs.Prelude.{◌≡◌, ◌≤◌, ◌+◌, IfOk, length};
+ghost use Rattle.std.specs.Option.{option_copied};
+ghost use Rattle.extended_reader.specs.Counts.{own_counts, counts_of, first_number};
+ghost use Rattle.extended_reader.specs.Inside.{HaveCounts, rows_in};
+ghost use Rattle.extended_reader.specs.Resolved.{first_actions, first_delay, behind_state, behind_transition};
 
+use crate::counts::counts_in;
+use extended_charts::ELAPSED;
 use extended_drafts::{DraftDelay, DraftEntry, StateActions};
+use std::alloc::AllocError;
 
-/// The rows of the states and the transitions that are left.
+/// The rows of the states and the transitions that are left, and how many counts these transitions have.
 #[derive(Drop)]
 pub(crate) struct RowsLeft<'a> {
     pub(crate) entries: &'a [StateActions],
     pub(crate) delays: &'a [Option<DraftDelay>],
+    counts: u16,
+    ghost counted: { HaveCounts delays.now counts },
 }
 
 impl<'a> RowsLeft<'a> {
+    /// These rows, of which all are left. Err: they have more than 65535 counts.
+    pub(crate) fn of(
+        entries: &'a [StateActions],
+        delays: &'a [Option<DraftDelay>],
+    ) -> Result<RowsLeft<'a>, AllocError>
+        ensures { IfOk result (λ rows. rows_in rows ≡ record { entries = entries.now; delays = delays.now }) }
+    {
+        let counts = counts_in(delays)?;
+        Ok(RowsLeft {
+            entries,
+            delays,
+            counts,
+        })
+    }
+
     /// Takes the actions of a state off the front.
     pub(crate) fn actions(&mut self) -> &'a [DraftEntry]
         ensures row { result.now ≡ first_actions self.old.entries.now }
@@ -26,5 +48,39 @@ impl<'a> RowsLeft<'a> {
             }
             [] => &[],
         }
+    }
+
+    /// The number of the first count that is left.
+    pub(crate) fn number(&self) -> u16
+        ensures { result ≡ first_number self.now.delays.now }
+    {
+        ELAPSED - self.counts
+    }
+
+    /// Takes what a transition waits for off the front.
+    #[tactic(auto, using(crate::proofs::Counting::own_within, crate::proofs::Counting::fewer_behind))]
+    pub(crate) fn delay(&mut self) -> Option<&'a DraftDelay>
+        ensures row { option_copied result ≡ first_delay self.old.delays.now }
+        ensures left { rows_in self.new ≡ behind_transition (rows_in self.old) }
+    {
+        match self.delays {
+            [first, behind @ ..] => {
+                self.counts = counts_behind(first, self.counts);
+                self.delays = behind;
+                first.as_ref()
+            }
+            [] => None,
+        }
+    }
+}
+
+// How many counts are left behind a delay, of so many with its own.
+fn counts_behind(delay: &Option<DraftDelay>, counts: u16) -> u16
+    requires { length (own_counts delay.now) ≤ counts }
+    ensures { length (own_counts delay.now) + result ≡ counts }
+{
+    match delay {
+        Some(delay) if delay.count.is_some() => counts - 1,
+        _ => counts,
     }
 }

@@ -4,11 +4,12 @@ ghost use Rattle.std.specs.Prelude.{◌≡◌, ◌≤◌, IfOk, OnOk, length};
 ghost use Rattle.sc_graph.specs.Limits.{variable_limit};
 ghost use Rattle.drafts.specs.Flaws.{variable_names};
 ghost use Rattle.chart_drafts.specs.Flaws.{state_names};
+ghost use Rattle.extended_reader.specs.Counts.{first_number};
 ghost use Rattle.extended_reader.specs.Inside.{rows_in};
 ghost use Rattle.extended_reader.specs.Resolved.{waited, waited_trigger, until_trigger, trigger_of, delayed_transition};
 ghost use Rattle.extended_reader.specs.Resolved.{all_transitions, behind_transition, behind_transitions, first_delay};
 
-use crate::counts::{at_least, counted, first_number};
+use crate::counts::{at_least, counted};
 use crate::rows::RowsLeft;
 use crate::states::StateScope;
 use chart_drafts::DraftTransition;
@@ -73,20 +74,13 @@ fn next_trigger(
 ) -> Result<Option<Expr>, AllocError>
     requires { length scope.now.variables.now ≤ variable_limit }
     ensures made { IfOk result (λ one. one ≡ trigger_of (variable_names scope.now.variables.now)
-        rows.old.delays.now (first_delay rows.old.delays.now) text.now) }
+        (first_number rows.old.delays.now) (first_delay rows.old.delays.now) text.now) }
     ensures left { OnOk result (rows_in rows.new ≡ behind_transition (rows_in rows.old)) }
 {
-    let left = rows.delays;
-    match left {
-        [Some(delay), behind @ ..] => {
-            rows.delays = behind;
-            until_trigger(alloc, scope, left, delay, text)
-        }
-        [None, behind @ ..] => {
-            rows.delays = behind;
-            trigger(alloc, scope, text)
-        }
-        [] => trigger(alloc, scope, text),
+    let number = rows.number();
+    match rows.delay() {
+        Some(delay) => until_trigger(alloc, scope, number, delay, text),
+        None => trigger(alloc, scope, text),
     }
 }
 
@@ -94,16 +88,16 @@ fn next_trigger(
 fn until_trigger(
     alloc: Global,
     scope: &Scope,
-    left: &[Option<DraftDelay>],
+    number: u16,
     delay: &DraftDelay,
     text: &Option<TextExpression>,
 ) -> Result<Option<Expr>, AllocError>
     requires { length scope.now.variables.now ≤ variable_limit }
     ensures { IfOk result (λ one. one ≡
-        until_trigger (variable_names scope.now.variables.now) left.now delay.now.word delay.now text.now) }
+        until_trigger (variable_names scope.now.variables.now) number delay.now.word delay.now text.now) }
 {
     match delay.word {
-        Some(_) => waited_trigger(alloc, scope, left, delay, text),
+        Some(_) => waited_trigger(alloc, scope, number, delay, text),
         None => Ok(Some(scope.resolved(alloc, &delay.until)?)),
     }
 }
@@ -112,16 +106,16 @@ fn until_trigger(
 fn waited_trigger(
     alloc: Global,
     scope: &Scope,
-    left: &[Option<DraftDelay>],
+    number: u16,
     delay: &DraftDelay,
     text: &Option<TextExpression>,
 ) -> Result<Option<Expr>, AllocError>
     requires { length scope.now.variables.now ≤ variable_limit }
     ensures { IfOk result (λ one. one ≡
-        waited_trigger (variable_names scope.now.variables.now) left.now delay.now text.now) }
+        waited_trigger (variable_names scope.now.variables.now) number delay.now text.now) }
 {
     let ticks = scope.resolved(alloc, &delay.until)?;
-    let waited = waited(alloc, scope, left, ticks, &delay.count)?;
+    let waited = waited(alloc, scope, number, ticks, &delay.count)?;
     match text {
         Some(condition) => {
             let condition = scope.resolved(alloc, condition)?;
@@ -137,18 +131,18 @@ fn waited_trigger(
 fn waited(
     alloc: Global,
     scope: &Scope,
-    left: &[Option<DraftDelay>],
+    number: u16,
     ticks: Expr,
     count: &Option<DraftCount>,
 ) -> Result<Expr, AllocError>
     requires { length scope.now.variables.now ≤ variable_limit }
     ensures { IfOk result (λ one. one ≡
-        waited (variable_names scope.now.variables.now) left.now ticks count.now) }
+        waited (variable_names scope.now.variables.now) number ticks count.now) }
 {
     match count {
         Some(count) => {
             let condition = scope.resolved(alloc, &count.condition)?;
-            counted(alloc, first_number(left)?, condition, ticks)
+            counted(alloc, number, condition, ticks)
         }
         None => at_least(alloc, ELAPSED, ticks),
     }

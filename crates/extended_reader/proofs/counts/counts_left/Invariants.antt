@@ -1,6 +1,0 @@
-use Rattle.std.proofs.Common.{◌≡◌, ◌+◌, length, drop}
-use Rattle.extended_reader.specs.Counts.{counts_of}
-use Rattle.extended_reader.proofs.counts.counts_left.Given as goal
-
-abbrev pub invariant-loop-delay : goal.invariant-loop-delay
-invariant-loop-delay l = l.left + length (counts_of (drop l.delay-index l.delays)) ≡ length (counts_of l.delays)
