@@ -13,6 +13,7 @@ use Rattle.sc_text.proofs.Shapes.{expression_is}
 use Rattle.sc_text.proofs.Steps.{one_taken, stops_as}
 use Rattle.sc_text.proofs.Nesting.{deep_at}
 use Rattle.drafts.specs.declared.parts.Named.{Named}
+use Rattle.core_charts.specs.Rules.{inner_depth_limit}
 use Rattle.chart_drafts.specs.declared.draft.DraftTransition.{DraftTransition}
 use Rattle.chart_drafts.specs.declared.draft.DraftRegion.{DraftRegion}
 use Rattle.chart_drafts.specs.declared.draft.DraftState.{DraftState}
@@ -215,7 +216,7 @@ abbrev pub Parts : Type 0
 Parts = List DraftItem × (List DraftRegion × DraftRows)
 
 abbrev pub chart_of : Grows (Named × Parts)
-chart_of = seq (after (the_word word.Chart) name) (braced (parts e0 (within e0 31)))
+chart_of = seq (after (the_word word.Chart) name) (braced (parts e0 (within e0 inner_depth_limit)))
 
 abbrev to_draft : Named × (Named × Parts) → ExtendedDraft
 to_draft x = draft_of x.0 x.1.0 x.1.1

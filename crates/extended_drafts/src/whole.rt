@@ -5,6 +5,7 @@ ghost use Rattle.grammar.specs.Grammar.{seq};
 ghost use Rattle.grammar.specs.Read.{read, read_all};
 ghost use Rattle.sc_text.specs.Expression.{after, expression};
 ghost use Rattle.sc_text.specs.Reading.{Stops};
+ghost use Rattle.core_charts.specs.Rules.{inner_depth_limit};
 ghost use Rattle.chart_drafts.specs.ChartText.{the_word, name, braced};
 ghost use Rattle.chart_drafts.specs.Phrase.{Gives};
 ghost use Rattle.extended_drafts.specs.Draft.{draft_of};
@@ -74,9 +75,9 @@ fn chart(
 ) -> Result<(Named, (Items<DraftItem>, (Items<DraftRegion>, DraftRows))), ReadFault>
     ensures { MatchResult result
         (λ x. Gives (read (seq (after (the_word Word.Chart) name) (braced (parts (expression 0)
-        (within (expression 0) 31)))) ahead.old.tokens.now) x ahead.new.tokens.now)
+        (within (expression 0) inner_depth_limit)))) ahead.old.tokens.now) x ahead.new.tokens.now)
         (λ fault. Stops end (read (seq (after (the_word Word.Chart) name) (braced (parts (expression 0)
-        (within (expression 0) 31)))) ahead.old.tokens.now) fault) }
+        (within (expression 0) inner_depth_limit)))) ahead.old.tokens.now) fault) }
 {
     let named = title(ahead, end, Word::Chart)?;
     let parts = braced_parts(alloc, ahead, end)?;
@@ -90,9 +91,9 @@ fn braced_parts(
     end: usize,
 ) -> Result<(Items<DraftItem>, (Items<DraftRegion>, DraftRows)), ReadFault>
     ensures { MatchResult result
-        (λ x. Gives (read (braced (parts (expression 0) (within (expression 0) 31)))
+        (λ x. Gives (read (braced (parts (expression 0) (within (expression 0) inner_depth_limit)))
         ahead.old.tokens.now) x ahead.new.tokens.now)
-        (λ fault. Stops end (read (braced (parts (expression 0) (within (expression 0) 31)))
+        (λ fault. Stops end (read (braced (parts (expression 0) (within (expression 0) inner_depth_limit)))
         ahead.old.tokens.now) fault) }
 {
     skip_sign(ahead, end, Sign::OpenBrace)?;
@@ -108,9 +109,10 @@ fn parts(
     end: usize,
 ) -> Result<(Items<DraftItem>, (Items<DraftRegion>, DraftRows)), ReadFault>
     ensures { MatchResult result
-        (λ x. Gives (read (parts (expression 0) (within (expression 0) 31))
+        (λ x. Gives (read (parts (expression 0) (within (expression 0) inner_depth_limit))
         ahead.old.tokens.now) x ahead.new.tokens.now)
-        (λ fault. Stops end (read (parts (expression 0) (within (expression 0) 31)) ahead.old.tokens.now) fault) }
+        (λ fault. Stops end (read (parts (expression 0) (within (expression 0) inner_depth_limit)) ahead.old.tokens.now)
+            fault) }
 {
     let items = items(alloc, ahead, end)?;
     let regions = regions(alloc, INNER_LEVELS, ahead, end)?;
