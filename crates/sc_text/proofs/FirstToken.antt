@@ -12,8 +12,7 @@ use Rattle.sc_text.proofs.Faces.{face, letter_only, letter_above, blank_below}
 use Rattle.sc_text.proofs.Rows.{Stops, no_longer}
 use Rattle.sc_text.proofs.Cutting.{blank_piece, comment_piece}
 use Rattle.sc_text.proofs.Meanings.{blank_passes, comment_passes}
-use Rattle.sc_text.specs.FirstToken.{BeginsWith, at_once, passes, is_word}
-use Rattle.sc_text.specs.Inside.{IsNext, Passes, PassesNone}
+use Rattle.sc_text.specs.FirstToken.{BeginsWith, at_once, passes, is_word, IsNext, Passes, PassesNone}
 use Rattle.sc_text.proofs.OneLongest.{one_longest, same_rest}
 
 -- ---- white space and comments

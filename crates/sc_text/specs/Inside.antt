@@ -87,20 +87,3 @@ token_at at (Some k) = record { kind = k; at = at } ∷ []
 -- no reserved word
 abbrev pub IsFree : List ℕ → Type 0
 IsFree bytes = (w : Word) → bytes ≢ word_text w
-
--- the first n bytes are white space, or a comment
-pub record Passes (text : List ℕ) (n : ℕ) : Type 0 where
-  pub some : 0 < n
-  pub within : n ≤ length text
-  pub piece : IsLongest (take n text) (drop n text)
-  pub passed : IsPassed (take n text)
-
--- the text begins neither with white space nor with a comment
-abbrev pub PassesNone : List ℕ → Type 0
-PassesNone text = (piece rest : List ℕ) → text ≡ piece ++ rest → ¬ IsPassed piece
-
--- the text begins with this word, and no name goes on
-pub record IsNext (w text : List ℕ) : Type 0 where
-  pub rest : List ℕ
-  pub parts : text ≡ w ++ rest
-  pub longest : IsLongest w rest

@@ -4,8 +4,7 @@ ghost use Rattle.std.specs.Prelude.{◌≡◌, ◌<◌, ◌↔◌, IsTrue, lengt
 ghost use Rattle.std.specs.List.{prefix_len};
 ghost use Rattle.sc_text.specs.Inside.{BeginsComment};
 ghost use Rattle.sc_text.specs.Pieces.{is_blank, is_word_byte, stays_in_line};
-ghost use Rattle.sc_text.specs.FirstToken.{BeginsWith, IsIn, is_word};
-ghost use Rattle.sc_text.specs.Inside.{IsNext, Passes, PassesNone};
+ghost use Rattle.sc_text.specs.FirstToken.{BeginsWith, IsIn, IsNext, Passes, PassesNone, is_word};
 
 use crate::Language;
 
@@ -28,7 +27,7 @@ pub fn begins_with(text: &[u8], word: &[u8]) -> bool
 {
     let mut at = 0;
     while at < text.len() {
-        match passed(&text[at..]) {
+        match passed_length(&text[at..]) {
             Some(length) => at += length,
             None => return is_next(&text[at..], word),
         }
@@ -36,8 +35,8 @@ pub fn begins_with(text: &[u8], word: &[u8]) -> bool
     false
 }
 
-// How many bytes of white space, or of a comment, begin the text. None: neither does.
-fn passed(text: &[u8]) -> Option<usize>
+/// How many bytes of white space, or of a comment, begin the text. None: neither does.
+pub fn passed_length(text: &[u8]) -> Option<usize>
     requires { 0 < length text.now }
     ensures { MatchOption result (PassesNone text.now) (λ n. Passes text.now n) }
 {
@@ -74,8 +73,8 @@ fn line_length(text: &[u8]) -> usize
     text.len()
 }
 
-// Whether the text begins with the word, and no name goes on.
-fn is_next(text: &[u8], word: &[u8]) -> bool
+/// Whether the text begins with the word, and no name goes on.
+pub fn is_next(text: &[u8], word: &[u8]) -> bool
     requires { IsTrue (is_word word.now) }
     ensures { IsTrue result ↔ IsNext word.now text.now }
 {

@@ -18,7 +18,7 @@ mod token;
 mod word;
 
 pub use expressions::{OPEN_LIMIT, expression};
-pub use first_token::{begins_with, language_of};
+pub use first_token::{begins_with, is_next, language_of, passed_length};
 pub use language::Language;
 pub use laws::{expressions_are_told, texts_are_cut_once};
 pub use operation::TextOperation;

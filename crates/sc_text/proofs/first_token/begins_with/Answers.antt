@@ -1,6 +1,6 @@
 use Rattle.std.proofs.Common.{List, ℕ, drop, subst, IsTrue}
 use Rattle.std.specs.Prelude.{◌↔◌}
-use Rattle.sc_text.specs.Inside.{IsNext, Passes, PassesNone}
+use Rattle.sc_text.specs.FirstToken.{IsNext, Passes, PassesNone}
 use Rattle.sc_text.proofs.Scanning.{slice_rest}
 use Rattle.sc_text.proofs.FirstToken.{step, step_within, next_tells, at_end}
 use Rattle.sc_text.proofs.first_token.begins_with.Goals as goal

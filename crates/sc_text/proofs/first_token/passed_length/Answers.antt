@@ -1,6 +1,6 @@
 use Rattle.std.proofs.Common.{sym}
 use Rattle.sc_text.proofs.FirstToken.{blank_first, comment_first, neither}
-use Rattle.sc_text.proofs.first_token.passed.Goals as goal
+use Rattle.sc_text.proofs.first_token.passed_length.Goals as goal
 
 pub returns-then-is_blank : goal.returns-then-is_blank
 returns-then-is_blank c = blank_first c.args.text.now c.requires (sym c.if-is_blank.ensures)
