@@ -1,4 +1,3 @@
-mod Naming
 mod Lists
 mod Expressions
 mod Taken

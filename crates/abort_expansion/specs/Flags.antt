@@ -1,19 +1,17 @@
 -- What a superstate is given: a flag for its strong aborts, one for its weak aborts, and a termination counter, each a
 -- local variable; and the names of all that expansion adds. Superstates are numbered from 1 in the order of the text.
-use Rattle.std.specs.Prelude.{ℕ, ◌+◌, Bool, true, false, ◌||◌, ◌&&◌, Option, Some, None, List, [], ◌∷◌, ◌++◌, codes, decimal}
+use Rattle.std.specs.Prelude.{ℕ, ◌+◌, Bool, true, false, ◌||◌, ◌&&◌, Option, Some, None, List, [], ◌∷◌, ◌++◌, codes}
 use Rattle.std.specs.List.{list_any}
 use Rattle.sc_values.specs.declared.value.Kind.TheVariants as of_kind
 use Rattle.sc_graph.specs.declared.program.Variable.{Variable}
 use Rattle.sc_graph.specs.declared.program.Role.TheVariants as role
+use Rattle.sc_text.specs.MadeNames.{numbered}
 use Rattle.core_charts.specs.declared.region.Transition.{Transition}
 use Rattle.core_charts.specs.Tests.{is_join}
 use Rattle.core_charts.specs.Aborts.{has_strong, has_weak, has_aborts}
 use Rattle.abort_expansion.specs.declared.flags.Flags.{Flags}
 
 -- ---- names, of superstate s
-
-abbrev pub numbered : List ℕ → ℕ → List ℕ
-numbered word s = word ++ decimal s
 
 abbrev pub strong_flag_name : ℕ → List ℕ
 strong_flag_name = numbered (codes "_s")

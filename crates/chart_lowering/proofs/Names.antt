@@ -1,24 +1,15 @@
 -- The names of labels: they are names of SCL, and of different numbers different.
-use Rattle.std.proofs.Common.{◌≡◌, ℕ, ◌<◌, ◌≤◌, ◌^◌, true, IsTrue, ◌||◌, length, ◌∷◌, arith}
+use Rattle.std.proofs.Common.{◌≡◌, ℕ, ◌<◌, ◌^◌, ◌∷◌}
 use Rattle.std.specs.Prelude.{decimal}
-use Rattle.std.specs.List.{list_all}
-use Rattle.std.proofs.lemmas.Bool.{le-leb}
 use Rattle.std.proofs.lemmas.Fmt.{decimal_injective}
-use Rattle.sc_values.specs.Name.{is_letter, is_digit, is_name}
 use Rattle.sc_text.specs.declared.language.Language.TheVariants as language
 use Rattle.sc_text.specs.Parts.{IsNameIn}
-use Rattle.sc_text.proofs.AddedNames.{digits_in_name, digits_few, added_is_named}
+use Rattle.sc_text.proofs.AddedNames.{added_is_named}
 use Rattle.chart_lowering.specs.Lowering.{label_name}
 
 -- a number that a machine word holds
 abbrev pub IsCountable : ℕ → Type 0
 IsCountable n = n < 2 ^ 64
-
-pub label_is_name : (n : ℕ) → IsCountable n → IsTrue (is_name (label_name n))
-label_is_name n small =
-    let digits : list_all (λ byte. is_letter byte || is_digit byte) (decimal n) ≡ true = digits_in_name n small in
-    let few : length (decimal n) ≤ 20 = digits_few n small in
-    rw digits (le-leb (length (label_name n)) 64 (omega (arith, few)))
 
 pub label_in_scl : (n : ℕ) → IsNameIn language.Scl (label_name n)
 label_in_scl n = added_is_named (76 ∷ decimal n)

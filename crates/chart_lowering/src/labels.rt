@@ -3,9 +3,8 @@
 ghost use Rattle.std.specs.Prelude.{◌≡◌, ◌+◌, ◌<◌, ◌^◌, IfOk};
 ghost use Rattle.chart_lowering.specs.Lowering.{label_name, label, goto};
 
-use arrayvec::ArrayString;
-use itoa::Buffer;
-use sc_values::{NAME_LIMIT, Name};
+use sc_text::numbered;
+use sc_values::Name;
 use scl::Statement;
 use std::alloc::AllocError;
 
@@ -13,14 +12,7 @@ use std::alloc::AllocError;
 pub(crate) fn label_name(number: u64) -> Name
     ensures { result ≡ label_name number }
 {
-    let mut digits = Buffer::new();
-    let mut text = ArrayString::<NAME_LIMIT>::new();
-    text.push_str("_L");
-    text.push_str(digits.format(number));
-    match Name::of(text.as_str()) {
-        Some(name) => name,
-        None => unreachable!(),
-    }
+    numbered("_L", number)
 }
 
 /// The label of this number.

@@ -13,7 +13,8 @@ use Rattle.core_charts.specs.declared.region.TransitionKind.TheVariants as kind
 use Rattle.extended_charts.specs.declared.extended.ExtendedRegion.{ExtendedRegion}
 use Rattle.extended_charts.specs.declared.extended.ExtendedState.{ExtendedState}
 use Rattle.extended_charts.specs.declared.extended.ExtendedRegion.TheViews.{roll-ExtendedState}
-use Rattle.extended_charts.specs.Making.{numbered, always, made_state, region}
+use Rattle.sc_text.specs.MadeNames.{numbered}
+use Rattle.extended_charts.specs.Making.{always, made_state, region}
 use Rattle.extended_charts.specs.Exits.{LeftRegion, LeftState, region_step, state_step, all_behind}
 
 abbrev taken : TransitionKind → Expr → List Effect → (target : ℕ) → Transition

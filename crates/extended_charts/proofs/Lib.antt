@@ -1,4 +1,3 @@
-pub mod NumberedNames
 pub mod Folded
 pub mod Left
 pub mod HeldStates

@@ -19,7 +19,8 @@ use Rattle.extended_charts.specs.declared.reading.Reading.TheVariants as reading
 use Rattle.extended_charts.specs.Reading.{elapsed, replaced_step}
 use Rattle.extended_charts.specs.Counts.{counting, count_region}
 use Rattle.extended_charts.specs.Clocks.{all_states}
-use Rattle.extended_charts.specs.Making.{numbered, always, passing, region}
+use Rattle.sc_text.specs.MadeNames.{numbered}
+use Rattle.extended_charts.specs.Making.{always, passing, region}
 use Rattle.extended_charts.specs.Registers.{register_region}
 use Rattle.extended_charts.specs.Signals.{reset, signal_region}
 use Rattle.extended_charts.specs.Initial.{settings}

@@ -20,7 +20,8 @@ use Rattle.extended_charts.specs.declared.extended.ExtendedRegion.TheViews.{roll
 use Rattle.extended_charts.specs.declared.extended.ExtendedRegion.TheFolds.{fold-ExtendedRegion, fold-ExtendedState}
 use Rattle.extended_charts.specs.declared.reading.Reading.TheVariants as reading
 use Rattle.extended_charts.specs.Reading.{is_count, count_variable}
-use Rattle.extended_charts.specs.Making.{has_some, numbered, local, copy, always, made_state, passing, all_passing, region}
+use Rattle.sc_text.specs.MadeNames.{numbered}
+use Rattle.extended_charts.specs.Making.{has_some, local, copy, always, made_state, passing, all_passing, region}
 use Rattle.extended_charts.specs.Durings.{ways_on}
 use Rattle.extended_charts.specs.Signals.{emission, reset}
 use Rattle.extended_charts.specs.Clocks.{timed_by, one_more}

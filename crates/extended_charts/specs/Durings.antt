@@ -14,7 +14,8 @@ use Rattle.extended_charts.specs.declared.extended.ExtendedState.{ExtendedState}
 use Rattle.extended_charts.specs.declared.extended.ExtendedRegion.TheOpen.{ExtendedState-F}
 use Rattle.extended_charts.specs.declared.extended.ExtendedRegion.TheViews.{roll-ExtendedRegion, roll-ExtendedState}
 use Rattle.extended_charts.specs.declared.extended.ExtendedRegion.TheFolds.{fold-ExtendedRegion, fold-ExtendedState}
-use Rattle.extended_charts.specs.Making.{has_some, numbered, always, made_state, passing, region}
+use Rattle.sc_text.specs.MadeNames.{numbered}
+use Rattle.extended_charts.specs.Making.{has_some, always, made_state, passing, region}
 
 -- ---- one action
 

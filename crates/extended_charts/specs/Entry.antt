@@ -10,7 +10,8 @@ use Rattle.extended_charts.specs.declared.extended.ExtendedRegion.{ExtendedRegio
 use Rattle.extended_charts.specs.declared.extended.ExtendedState.{ExtendedState}
 use Rattle.extended_charts.specs.declared.extended.ExtendedRegion.TheOpen.{ExtendedRegion-F, ExtendedState-F}
 use Rattle.extended_charts.specs.declared.extended.ExtendedRegion.TheFolds.{fold-ExtendedRegion, fold-ExtendedState}
-use Rattle.extended_charts.specs.Making.{has_some, numbered, always}
+use Rattle.sc_text.specs.MadeNames.{numbered}
+use Rattle.extended_charts.specs.Making.{has_some, always}
 
 -- a state in whose regions all entry actions are made
 pub record Entered : Type 0 where

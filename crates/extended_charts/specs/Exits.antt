@@ -15,7 +15,8 @@ use Rattle.extended_charts.specs.declared.extended.ExtendedRegion.TheOpen.{Exten
 use Rattle.extended_charts.specs.declared.extended.ExtendedRegion.TheViews.{roll-ExtendedState}
 use Rattle.extended_charts.specs.declared.extended.ExtendedRegion.TheFolds.{fold-ExtendedRegion, fold-ExtendedState}
 use Rattle.extended_charts.specs.declared.leaving.Leaving.{Leaving}
-use Rattle.extended_charts.specs.Making.{has_some, always, made_state, numbered, region, integers, one}
+use Rattle.sc_text.specs.MadeNames.{numbered}
+use Rattle.extended_charts.specs.Making.{has_some, always, made_state, region, integers, one}
 
 -- ---- where a region is
 

@@ -1,5 +1,5 @@
 -- The names, literals, variables, transitions and states that reductions make. A made name has two underscores inside.
-use Rattle.std.specs.Prelude.{ℕ, zero, suc, pos, ◌==◌, neg_ℤ, int_lt, Bool, true, false, Option, None, List, [], ◌∷◌, ◌++◌, codes, decimal, if◌then◌else◌}
+use Rattle.std.specs.Prelude.{ℕ, zero, suc, pos, ◌==◌, neg_ℤ, int_lt, Bool, true, false, Option, None, List, [], ◌∷◌, ◌++◌, codes, if◌then◌else◌}
 use Rattle.std.specs.Int.{int_wrap, w32}
 use Rattle.sc_values.specs.declared.value.Value.{Value}
 use Rattle.sc_values.specs.declared.value.Value.TheVariants as value
@@ -26,9 +26,6 @@ one true = 1
 one false = 0
 
 -- ---- names
-
-abbrev pub numbered : List ℕ → ℕ → List ℕ
-numbered word n = word ++ decimal n
 
 -- ---- literals and variables
 

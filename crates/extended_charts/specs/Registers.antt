@@ -9,7 +9,8 @@ use Rattle.extended_charts.specs.declared.extended.Declared.{Declared}
 use Rattle.extended_charts.specs.declared.extended.ExtendedChart.{ExtendedChart}
 use Rattle.extended_charts.specs.declared.extended.ExtendedRegion.{ExtendedRegion}
 use Rattle.extended_charts.specs.declared.extended.ExtendedState.{ExtendedState}
-use Rattle.extended_charts.specs.Making.{has_some, numbered, local, copy, passing, all_passing, region}
+use Rattle.sc_text.specs.MadeNames.{numbered}
+use Rattle.extended_charts.specs.Making.{has_some, local, copy, passing, all_passing, region}
 
 -- ---- variables
 

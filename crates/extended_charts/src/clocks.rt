@@ -7,11 +7,11 @@ ghost use Rattle.extended_charts.specs.Clocks.{one_more, clock_region, with_cloc
 
 use crate::extended::{ELAPSED, ExtendedChart, ExtendedRegion, ExtendedState};
 use crate::making::{alone, always, copy, integers, local, made_state, one, sum, variable};
-use crate::names::plain;
 use crate::reading::Reading;
 use chart_elements::next;
 use core_charts::{Effect, Transition, copied_effects};
 use sc_graph::VariableId;
+use sc_text::plain;
 use sc_values::{BinaryOperator, Expr, Kind, Value};
 use sqlite_items::{Boxed, Items};
 use std::alloc::{AllocError, Global};

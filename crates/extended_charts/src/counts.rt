@@ -12,12 +12,12 @@ use crate::extended::{Declared, ExtendedChart, ExtendedRegion, ExtendedState};
 use crate::making::{
     all_passing, alone, always, copy, count, has_some, local, made_state, passing, sum, variable,
 };
-use crate::names::{numbered, plain};
 use crate::reading::{Reading, count_variable, is_count};
 use crate::signals::{emission, reset};
 use chart_elements::next;
 use core_charts::{Effect, Transition, copied_effects};
 use sc_graph::VariableId;
+use sc_text::{numbered, plain};
 use sc_values::{Expr, Kind, Value};
 use sqlite_items::Items;
 use std::alloc::{AllocError, Global};
@@ -71,9 +71,12 @@ fn next_count(count: VariableId) -> Result<VariableId, AllocError>
 fn own_variables(alloc: Global, number: u32) -> Result<Items<Declared>, AllocError>
     ensures { IfOk result (λ made. made ≡ own_variables number) }
 {
-    let mut made = alone(alloc, local(numbered("count__", number), Kind::Int, None))?;
-    made.push(local(numbered("total__", number), Kind::Int, None))?;
-    made.push(local(numbered("entered__", number), Kind::Bool, None))?;
+    let mut made = alone(
+        alloc,
+        local(numbered("count__", number as u64), Kind::Int, None),
+    )?;
+    made.push(local(numbered("total__", number as u64), Kind::Int, None))?;
+    made.push(local(numbered("entered__", number as u64), Kind::Bool, None))?;
     Ok(made)
 }
 
@@ -279,7 +282,13 @@ fn counting(
     let behind = next(place)?;
     let ways = counting_ways(alloc, count, condition, behind)?;
     let regions = Items::new(alloc);
-    Ok(made_state(alloc, numbered("step__", place), place == 0, regions, ways))
+    Ok(made_state(
+        alloc,
+        numbered("step__", place as u64),
+        place == 0,
+        regions,
+        ways,
+    ))
 }
 
 fn all_counting(

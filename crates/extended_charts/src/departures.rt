@@ -7,10 +7,10 @@ ghost use Rattle.extended_charts.specs.Exits.{led_out, left_by, left_transitions
 use crate::extended::ExtendedState;
 use crate::leaving::Leaving;
 use crate::making::{alone, always, has_some, made_state, sum};
-use crate::names::numbered;
 use chart_elements::next;
 use core_charts::{Effect, Transition, copied_effects};
 use sc_graph::VariableId;
+use sc_text::numbered;
 use sc_values::{BinaryOperator, Expr, Value};
 use sqlite_items::{Boxed, Items};
 use std::alloc::{AllocError, Global};
@@ -88,7 +88,7 @@ fn departures(
 fn behind(alloc: Global, place: u32, transitions: Items<Transition>) -> ExtendedState
     ensures { result ≡ behind place transitions }
 {
-    let name = numbered("leave__", place);
+    let name = numbered("leave__", place as u64);
     made_state(alloc, name, false, Items::new(alloc), transitions)
 }
 

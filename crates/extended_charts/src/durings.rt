@@ -8,9 +8,9 @@ ghost use Rattle.extended_charts.specs.Durings.{acting_region, acting_state, wit
 use crate::copies::copied_trigger;
 use crate::extended::{During, ExtendedChart, ExtendedRegion, ExtendedState};
 use crate::making::{alone, always, count, has_some, made_state, passing, sum};
-use crate::names::{numbered, plain};
 use chart_elements::next;
 use core_charts::{Effect, Transition, TransitionKind, copied_effects, copied_transitions};
+use sc_text::{numbered, plain};
 use sc_values::Expr;
 use sqlite_items::Items;
 use std::alloc::{AllocError, Global};
@@ -56,7 +56,7 @@ pub(crate) fn ways_on(
 fn step(alloc: Global, place: u32, during: &During) -> Result<ExtendedState, AllocError>
     ensures { IfOk result (λ made. made ≡ step place during.now) }
 {
-    let name = numbered("step__", place);
+    let name = numbered("step__", place as u64);
     let behind = next(place)?;
     let transitions = ways_on(alloc, &during.trigger, during.effects.as_slice(), behind)?;
     Ok(made_state(alloc, name, place == 0, Items::new(alloc), transitions))

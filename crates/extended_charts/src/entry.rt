@@ -6,8 +6,8 @@ ghost use Rattle.extended_charts.specs.Entry.{entered, without_entry};
 
 use crate::extended::{ExtendedRegion, ExtendedState};
 use crate::making::{alone, always, has_some};
-use crate::names::numbered;
 use core_charts::{Effect, Region, State, Transition, copied_effects};
+use sc_text::numbered;
 use sqlite_items::Items;
 use std::alloc::{AllocError, Global};
 
@@ -92,7 +92,7 @@ fn entering(
     alone(
         alloc,
         State {
-            name: numbered("enter__", number),
+            name: numbered("enter__", number as u64),
             is_initial,
             is_final: false,
             regions: Items::new(alloc),

@@ -7,8 +7,8 @@ ghost use Rattle.extended_charts.specs.Holds.{held_region, held_state, held_insi
 use crate::copies::copied_trigger;
 use crate::extended::{ExtendedChart, ExtendedRegion, ExtendedState};
 use crate::making::{alone, always, made_state};
-use crate::names::plain;
 use core_charts::{Transition, TransitionKind, copied_effects};
+use sc_text::plain;
 use sc_values::Expr;
 use sqlite_items::Items;
 use std::alloc::{AllocError, Global};

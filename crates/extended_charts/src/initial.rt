@@ -5,9 +5,9 @@ ghost use Rattle.extended_charts.specs.Initial.{is_default, setting, settings, f
 
 use crate::extended::{Declared, ExtendedChart, ExtendedRegion};
 use crate::making::{all_passing, alone, has_some, literal, made_state, variable};
-use crate::names::plain;
 use core_charts::Effect;
 use sc_graph::VariableId;
+use sc_text::plain;
 use sc_values::Value;
 use sqlite_items::Items;
 use std::alloc::{AllocError, Global};

@@ -18,7 +18,6 @@ mod initial;
 mod laws;
 mod leaving;
 mod making;
-mod names;
 mod reading;
 mod reduction;
 mod registers;

@@ -6,10 +6,10 @@ ghost use Rattle.extended_charts.specs.Making.{has_some, one, literal, local, in
 ghost use Rattle.extended_charts.specs.Making.{passing, all_passing};
 
 use crate::extended::{Declared, ExtendedRegion, ExtendedState};
-use crate::names::numbered;
 use chart_elements::next;
 use core_charts::{Effect, Transition, TransitionKind};
 use sc_graph::{Role, Variable, VariableId};
+use sc_text::numbered;
 use sc_values::{Expr, Kind, Name, UnaryOperator, Value};
 use sqlite_items::{Boxed, Items};
 use std::alloc::{AllocError, Global};
@@ -49,7 +49,7 @@ pub(crate) fn integers(alloc: Global, word: &str, count: u32) -> Result<Items<De
 {
     let mut made = Items::new(alloc);
     for before in 0..count {
-        made.push(local(numbered(word, before + 1), Kind::Int, None))?;
+        made.push(local(numbered(word, (before + 1) as u64), Kind::Int, None))?;
     }
     Ok(made)
 }
@@ -110,7 +110,7 @@ pub(crate) fn passing(
 ) -> Result<ExtendedState, AllocError>
     ensures { IfOk result (λ made. made ≡ passing immediate place effects target) }
 {
-    let name = numbered("step__", place);
+    let name = numbered("step__", place as u64);
     let transitions = alone(alloc, always(immediate, effects, target))?;
     Ok(made_state(alloc, name, place == 0, Items::new(alloc), transitions))
 }

@@ -6,10 +6,10 @@ ghost use Rattle.extended_charts.specs.Registers.{storing, handing, ring, regist
 
 use crate::extended::{Declared, ExtendedChart, ExtendedRegion, ExtendedState};
 use crate::making::{all_passing, copy, has_some, local, passing, variable};
-use crate::names::{numbered, plain};
 use chart_elements::next;
 use core_charts::Effect;
 use sc_graph::VariableId;
+use sc_text::{numbered, plain};
 use sc_values::{Kind, Value};
 use sqlite_items::Items;
 use std::alloc::{AllocError, Global};
@@ -70,7 +70,11 @@ fn before_variables(
     let mut number = 1;
     for x in befores {
         let kind = kind_of(variables, *x);
-        made.push(local(numbered("pre__", number), kind, initial_of(variables, *x)))?;
+        made.push(local(
+            numbered("pre__", number as u64),
+            kind,
+            initial_of(variables, *x),
+        ))?;
         number = next(number)?;
     }
     Ok(made)
@@ -86,7 +90,11 @@ fn registers(
     let mut made = Items::new(alloc);
     let mut number = 1;
     for x in befores {
-        made.push(local(numbered("register__", number), kind_of(variables, *x), None))?;
+        made.push(local(
+            numbered("register__", number as u64),
+            kind_of(variables, *x),
+            None,
+        ))?;
         number = next(number)?;
     }
     Ok(made)

@@ -5,10 +5,10 @@ ghost use Rattle.extended_charts.specs.Signals.{emission, reset, resets, signal_
 
 use crate::extended::{ExtendedChart, ExtendedRegion};
 use crate::making::{all_passing, alone, has_some, passing};
-use crate::names::plain;
 use chart_elements::next;
 use core_charts::Effect;
 use sc_graph::VariableId;
+use sc_text::plain;
 use sc_values::{BinaryOperator, Expr, Value};
 use sqlite_items::{Boxed, Items};
 use std::alloc::{AllocError, Global};

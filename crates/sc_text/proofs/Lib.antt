@@ -13,8 +13,9 @@ pub mod EachPart
 pub mod WritablePhrases
 pub mod Meanings
 pub mod AddedNames
+pub mod MadeNames
 pub mod EachItem
-mod FirstToken
+pub mod FirstToken
 pub mod OneLongest
 pub mod OneMeaning
 pub mod OneCut

@@ -8,6 +8,7 @@ pub mod Classes
 pub mod Phrases
 pub mod Expression
 pub mod FirstToken
+pub mod MadeNames
 pub mod Reading
 pub mod Levels
 pub mod Laws

@@ -1,17 +1,17 @@
-//! The names that reductions make: they have two underscores inside.
+//! Names that are made beside those of a text.
 
 ghost use Rattle.std.specs.Prelude.{◌≡◌, ◌≤◌, IsTrue, length};
 ghost use Rattle.sc_values.specs.Name.{is_name};
-ghost use Rattle.extended_charts.specs.Making.{numbered};
+ghost use Rattle.sc_text.specs.MadeNames.{numbered};
 
 use arrayvec::ArrayString;
 use itoa::Buffer;
 use sc_values::{NAME_LIMIT, Name};
 
 /// This word, and a number behind it.
-pub(crate) fn numbered(word: &str, number: u32) -> Name
+pub fn numbered(word: &str, number: u64) -> Name
     requires named { IsTrue (is_name word.now) }
-    requires short { length word.now ≤ 16 }
+    requires short { length word.now ≤ 44 }
     ensures { result ≡ numbered word.now number }
 {
     let mut digits = Buffer::new();
@@ -25,7 +25,7 @@ pub(crate) fn numbered(word: &str, number: u32) -> Name
 }
 
 /// This word.
-pub(crate) fn plain(word: &str) -> Name
+pub fn plain(word: &str) -> Name
     requires { IsTrue (is_name word.now) }
     ensures { result ≡ word.now }
 {

@@ -1,4 +1,4 @@
--- The names that reductions make are names.
+-- A word with a number behind it is a name.
 use Rattle.std.proofs.Common.{◌≡◌, ℕ, ◌+◌, ◌<◌, ◌≤◌, ◌^◌, Bool, true, false, IsTrue, ◌||◌, ◌&&◌, List, [], ◌∷◌, ◌++◌, length, refl, ap, ◌∙◌, arith}
 use Rattle.std.specs.Prelude.{decimal, nat_le}
 use Rattle.std.specs.List.{list_all}
@@ -7,11 +7,7 @@ use Rattle.std.proofs.lemmas.List.{length-append}
 use Rattle.std.proofs.lemmas.List.Folds.{list_all-append}
 use Rattle.sc_values.specs.Name.{is_letter, is_digit, is_name}
 use Rattle.sc_text.proofs.AddedNames.{digits_in_name, digits_few}
-use Rattle.extended_charts.specs.Making.{numbered}
-
--- a number that a machine word holds
-abbrev pub IsCountable : ℕ → Type 0
-IsCountable n = n < 2 ^ 32
+use Rattle.sc_text.specs.MadeNames.{numbered}
 
 -- a word, and digits behind it
 word_and_digits : (word digits : List ℕ) → list_all (λ byte. is_letter byte || is_digit byte) digits ≡ true
@@ -29,14 +25,13 @@ and_second true true c h = refl
 and_second true false c h = absurd cc
 and_second false b c h = absurd cc
 
-pub numbered_is_name : (word : List ℕ) (n : ℕ) → IsCountable n → IsTrue (is_name word) → length word ≤ 16 → IsTrue (is_name (numbered word n))
+pub numbered_is_name : (word : List ℕ) (n : ℕ) → n < 2 ^ 64 → IsTrue (is_name word) → length word ≤ 44 → IsTrue (is_name (numbered word n))
 numbered_is_name [] n small named short = absurd cc
 numbered_is_name (first ∷ rest) n small named short =
     let Letters : List ℕ → Bool = list_all (λ byte. is_letter byte || is_digit byte) in
     let fits : Bool = nat_le (length (first ∷ rest)) 64 in
-    let wide : n < 2 ^ 64 = omega (arith, small) in
-    let digits : Letters (decimal n) ≡ true = digits_in_name n wide in
-    let few : length (decimal n) ≤ 20 = digits_few n wide in
+    let digits : Letters (decimal n) ≡ true = digits_in_name n small in
+    let few : length (decimal n) ≤ 20 = digits_few n small in
     let size : length (rest ++ decimal n) ≡ length rest + length (decimal n) = length-append rest (decimal n) in
     let begins : is_letter first ≡ true = and_first (is_letter first) (Letters rest) fits named in
     let letters : Letters (rest ++ decimal n) ≡ true = word_and_digits rest (decimal n) digits (and_second (is_letter first) (Letters rest) fits named) in
