@@ -34,7 +34,8 @@ impl<'a> StateScope<'a> {
     /// The number of the state of this name, or 0 where there is none.
     #[tactic(auto, using(crate::proofs::Numbers::number_fits))]
     pub fn number(&self, name: Name) -> u32
-        ensures { result ≡ number_of (state_names self.now.states.now) name }
+        ensures is { result ≡ number_of (state_names self.now.states.now) name }
+        ensures few { result ≤ state_text_limit }
     {
         match self.index.place(name) {
             Some(at) => at as u32,
