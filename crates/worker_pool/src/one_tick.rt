@@ -10,6 +10,7 @@ use crate::gate::Gate;
 use crate::of_image::OfImage;
 use crate::serving::{alone, stretch};
 use crate::shared::Shared;
+use crate::shared_tick::SharedTick;
 use crate::team::Team;
 use std::alloc::{AllocError, Global};
 use std::marker::Brand;
@@ -91,7 +92,7 @@ where
     let Some(team) = Team::of(&shared, passes, workers) else {
         return Ok(alone(state, gate));
     };
-    meet(rt, alloc, team, state)
+    meet(rt, alloc, team, SharedTick::of(state))
 }
 
 // Shares the tick with a team, and waits for all workers.
@@ -99,21 +100,20 @@ fn meet<'r, 'x, J, R, G>(
     rt: &R,
     alloc: Global,
     team: Team<'r, 'x, J, G>,
-    state: TickState<'x>,
+    shared_tick: SharedTick<'x, J>,
 ) -> Result<TickState<'x>, AllocError>
 where
     J: OfImage + Send + Sync,
     R: Threads + Wait + Sync,
     G: Gate + Sync,
-    requires { state.image ≡ J.image }
-    ensures { IfOk result (EndsTick state.entry) }
+    ensures { IfOk result (EndsTick shared_tick.entry) }
 {
     thread::scope(
         thread::scope_env(),
         rt,
         move |scope| -> Result<TickState, AllocError>
-            ensures { IfOk result (EndsTick state.entry) }
-        { meet_in(rt, scope, alloc, team, state) },
+            ensures { IfOk result (EndsTick shared_tick.entry) }
+        { meet_in(rt, scope, alloc, team, shared_tick) },
     )
 }
 
@@ -122,17 +122,16 @@ fn meet_in<'s, 'r: 's, 'x: 's, E: 's, J, R, G>(
     scope: &'s Scope<'s, E>,
     alloc: Global,
     team: Team<'r, 'x, J, G>,
-    state: TickState<'x>,
+    shared_tick: SharedTick<'x, J>,
 ) -> Result<TickState<'x>, AllocError>
 where
     J: OfImage + Send + Sync + 's,
     R: Wait + Sync,
     G: Gate + Sync + 's,
-    requires { state.image ≡ J.image }
-    ensures { IfOk result (EndsTick state.entry) }
+    ensures { IfOk result (EndsTick shared_tick.entry) }
 {
     let mut team = team;
-    let ended = team.complete_wide(rt, scope, alloc, state);
+    let ended = team.complete_wide(rt, scope, alloc, shared_tick.into_state());
     team.close(rt);
     ended
 }
