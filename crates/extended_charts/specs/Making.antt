@@ -9,6 +9,7 @@ use Rattle.sc_values.specs.declared.operator.UnaryOperator.TheVariants as unary
 use Rattle.sc_values.specs.declared.expression.Expr.{Expr}
 use Rattle.sc_values.specs.declared.expression.Expr.TheVariants as expr
 use Rattle.sc_graph.specs.declared.program.Role.TheVariants as role
+use Rattle.sc_text.specs.MadeNames.{numbered}
 use Rattle.core_charts.specs.declared.region.Effect.{Effect}
 use Rattle.core_charts.specs.declared.region.Transition.{Transition}
 use Rattle.core_charts.specs.declared.region.TransitionKind.TheVariants as kind
