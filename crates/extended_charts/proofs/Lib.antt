@@ -1,5 +1,6 @@
 pub mod Folded
 pub mod Left
+pub mod PastStates
 pub mod HeldStates
 pub mod ActingStates
 pub mod CountedStates
@@ -11,8 +12,10 @@ pub mod PlainValues
 pub mod PlainClocks
 pub mod PlainExits
 pub mod PlainDurings
+pub mod PlainHistories
 pub mod PlainHolds
 pub mod PlainEntry
 pub mod Plain
 mod ReductionRows
 mod ExitRows
+mod HistoryRows

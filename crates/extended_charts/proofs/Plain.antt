@@ -9,7 +9,7 @@ use Rattle.core_charts.specs.Chart.{Chart}
 use Rattle.core_charts.specs.Rules.{IsChart, kinds_of, depth_limit}
 use Rattle.extended_charts.specs.declared.extended.ExtendedChart.{ExtendedChart}
 use Rattle.extended_charts.specs.declared.extended.ExtendedRegion.{ExtendedRegion}
-use Rattle.extended_charts.specs.Making.{integers}
+use Rattle.extended_charts.specs.Making.{has_some, integers}
 use Rattle.extended_charts.specs.Reading.{elapsed}
 use Rattle.extended_charts.specs.Constants.{named_values, without_constants}
 use Rattle.extended_charts.specs.Registers.{with_registers}
@@ -17,6 +17,7 @@ use Rattle.extended_charts.specs.Signals.{with_signals}
 use Rattle.extended_charts.specs.Counts.{with_counts}
 use Rattle.extended_charts.specs.Clocks.{clocked, with_clocks}
 use Rattle.extended_charts.specs.Exits.{left_region, outer_regions, with_exits}
+use Rattle.extended_charts.specs.Histories.{recalling, with_histories}
 use Rattle.extended_charts.specs.Durings.{acting_region, with_durings}
 use Rattle.extended_charts.specs.Holds.{held_region, with_holds}
 use Rattle.extended_charts.specs.Initial.{framed, with_settings}
@@ -27,6 +28,7 @@ use Rattle.extended_charts.proofs.PlainParts.{both_same}
 use Rattle.extended_charts.proofs.PlainValues.{nothing_set, nothing_named, RegionSame, StateSame, values_stay}
 use Rattle.extended_charts.proofs.PlainClocks.{RegionUntimed, StateUntimed, no_clocks_in, nothing_timed}
 use Rattle.extended_charts.proofs.PlainExits.{RegionUnleft, StateUnleft, none_inside, outer_stay, nothing_left}
+use Rattle.extended_charts.proofs.PlainHistories.{RegionKeeps, StateKeeps, none_kept_in, nothing_recalled}
 use Rattle.extended_charts.proofs.PlainDurings.{RegionActs, StateActs, nothing_acts}
 use Rattle.extended_charts.proofs.PlainHolds.{RegionHeld, StateHeld, nothing_held}
 use Rattle.extended_charts.proofs.PlainEntry.{RegionStands, StateStands, regions_stand, all_stand}
@@ -81,10 +83,17 @@ durings_stay c h =
     let each = each_region c.variables RegionActs StateActs (nothing_acts c.variables) depth_limit c.regions h.regions in
     ap (λ rs. record (of_chart c) { regions = rs }) (both_same acting_region of_region c.regions each)
 
+histories_stay : (c : Chart) → IsChart features.Extended c → with_histories (of_chart c) ≡ of_chart c
+histories_stay c h =
+    let each = each_region c.variables RegionKeeps StateKeeps (nothing_recalled c.variables) depth_limit c.regions h.regions in
+    ap (λ kept. if has_some kept then recalling kept (of_chart c) else of_chart c) (none_kept_in c.regions each)
+
 pub nothing_is_added : (c : Chart) → IsChart features.Extended c → with_entry (of_chart c) ≡ of_chart c
 nothing_is_added c h =
-    ap (λ e. with_settings (with_holds (with_exits (with_clocks (with_counts (with_registers (with_signals (with_durings e)))))))) (constants_stay c h)
-    ∙ ap (λ e. with_settings (with_holds (with_exits (with_clocks (with_counts (with_registers (with_signals e))))))) (durings_stay c h)
+    ap (λ e. with_settings (with_holds (with_exits (with_clocks (with_counts (with_durings (with_histories (with_registers (with_signals e)))))))))
+    (constants_stay c h)
+    ∙ ap (λ e. with_settings (with_holds (with_exits (with_clocks (with_counts (with_durings e)))))) (histories_stay c h)
+    ∙ ap (λ e. with_settings (with_holds (with_exits (with_clocks (with_counts e))))) (durings_stay c h)
     ∙ ap (λ e. with_settings (with_holds (with_exits e))) (clocks_stay c h)
     ∙ ap (λ e. with_settings (with_holds e)) (exits_stay c h)
     ∙ ap with_settings (holds_stay c h)

@@ -7,6 +7,7 @@ pub mod Registers
 pub mod Counts
 pub mod Clocks
 pub mod Exits
+pub mod Histories
 pub mod Holds
 pub mod Initial
 pub mod Entry

@@ -1,6 +1,6 @@
--- The chart to which an extended chart is reduced. The passes come in this order: constants, during actions, signals, what
--- variables were before, the ticks since a state was entered, exit actions, terminations with triggers, initial values, entry
--- actions. No pass behind that of during actions keeps any.
+-- The chart to which an extended chart is reduced. The passes come in this order: constants, signals, what variables were
+-- before, histories, during actions, counts, the ticks since a state was entered, exit actions, terminations with triggers,
+-- initial values, entry actions. No pass behind that of during actions keeps any.
 use Rattle.std.specs.Prelude.{◌≡◌, map}
 use Rattle.core_charts.specs.declared.features.Features.TheVariants as features
 use Rattle.core_charts.specs.Chart.{Chart}
@@ -10,9 +10,10 @@ use Rattle.extended_charts.specs.declared.rows.AuthorRows.{AuthorRows}
 use Rattle.extended_charts.specs.declared.fault.ReduceFault.{ReduceFault}
 use Rattle.extended_charts.specs.declared.fault.ReduceFault.TheVariants as fault
 use Rattle.extended_charts.specs.Constants.{without_constants}
-use Rattle.extended_charts.specs.Durings.{with_durings}
 use Rattle.extended_charts.specs.Signals.{with_signals}
 use Rattle.extended_charts.specs.Registers.{with_registers}
+use Rattle.extended_charts.specs.Histories.{with_histories}
+use Rattle.extended_charts.specs.Durings.{with_durings}
 use Rattle.extended_charts.specs.Counts.{with_counts}
 use Rattle.extended_charts.specs.Clocks.{with_clocks}
 use Rattle.extended_charts.specs.Exits.{with_exits}
@@ -21,10 +22,14 @@ use Rattle.extended_charts.specs.Initial.{with_settings}
 use Rattle.extended_charts.specs.Entry.{without_entry}
 use Rattle.extended_charts.specs.Rows.{rows_of}
 
+-- the chart whose triggers and effects name nothing but variables, ticks and counts
+abbrev pub with_variables : ExtendedChart → ExtendedChart
+with_variables c = with_registers (with_signals (without_constants c))
+
 -- the chart that has nothing but entry actions left
 abbrev pub with_entry : ExtendedChart → ExtendedChart
 with_entry c =
-    with_settings (with_holds (with_exits (with_clocks (with_counts (with_registers (with_signals (with_durings (without_constants c))))))))
+    with_settings (with_holds (with_exits (with_clocks (with_counts (with_durings (with_histories (with_variables c)))))))
 
 -- the chart of one that has nothing but entry actions
 abbrev pub chart_of : ExtendedChart → Chart

@@ -2,7 +2,8 @@
 
 ghost use Rattle.std.specs.Prelude.{◌≡◌, IfOk};
 
-use crate::extended::Declared;
+use crate::extended::{Declared, During};
+use core_charts::copied_effects;
 use sc_graph::Variable;
 use sc_values::Expr;
 use sqlite_items::Items;
@@ -19,6 +20,28 @@ pub(crate) fn copied_trigger(
         Some(expression) => Ok(Some(expression.copied(alloc)?)),
         None => Ok(None),
     }
+}
+
+/// A copy of a during action. Err: memory was refused.
+pub(crate) fn copied_during(alloc: Global, during: &During) -> Result<During, AllocError>
+    ensures { IfOk result (λ copy. copy ≡ during.now) }
+{
+    Ok(During {
+        immediate: during.immediate,
+        trigger: copied_trigger(alloc, &during.trigger)?,
+        effects: copied_effects(alloc, during.effects.as_slice())?,
+    })
+}
+
+/// A copy of during actions. Err: memory was refused.
+pub(crate) fn copied_durings(alloc: Global, durings: &[During]) -> Result<Items<During>, AllocError>
+    ensures { IfOk result (λ copy. copy ≡ durings.now) }
+{
+    let mut copy = Items::new(alloc);
+    for during in durings {
+        copy.push(copied_during(alloc, during)?)?;
+    }
+    Ok(copy)
 }
 
 /// A copy of declarations. Err: memory was refused.

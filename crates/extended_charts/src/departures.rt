@@ -34,7 +34,8 @@ fn integer(number: u32) -> Result<Expr, AllocError>
     }
 }
 
-fn is_at(alloc: Global, variable: VariableId, number: u32) -> Result<Expr, AllocError>
+/// Whether the variable is this number. Err: memory was refused, or no int has it.
+pub(crate) fn is_at(alloc: Global, variable: VariableId, number: u32) -> Result<Expr, AllocError>
     ensures { IfOk result (λ made. made ≡ is_at variable number) }
 {
     let noted = Boxed::new(alloc, Expr::Load(variable))?;

@@ -5,7 +5,7 @@ ghost use Rattle.extended_charts.specs.Durings.{ways_on, step, steps, immediate_
 ghost use Rattle.extended_charts.specs.Durings.{with_region, weak_for, weakened, tested_behind};
 ghost use Rattle.extended_charts.specs.Durings.{acting_region, acting_state, with_durings};
 
-use crate::copies::copied_trigger;
+use crate::copies::copied_during;
 use crate::extended::{During, ExtendedChart, ExtendedRegion, ExtendedState};
 use crate::making::{alone, always, count, has_some, made_state, passing, sum};
 use chart_elements::next;
@@ -73,16 +73,6 @@ fn steps(alloc: Global, first: u32, durings: &[During]) -> Result<Items<Extended
         place = next(place)?;
     }
     Ok(made)
-}
-
-fn copied_during(alloc: Global, during: &During) -> Result<During, AllocError>
-    ensures { IfOk result (λ copy. copy ≡ during.now) }
-{
-    Ok(During {
-        immediate: during.immediate,
-        trigger: copied_trigger(alloc, &during.trigger)?,
-        effects: copied_effects(alloc, during.effects.as_slice())?,
-    })
 }
 
 fn immediate_ones(alloc: Global, durings: &[During]) -> Result<Items<During>, AllocError>

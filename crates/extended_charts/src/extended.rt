@@ -73,6 +73,7 @@ pub struct ExtendedState {
     /// What is done while the state goes on, before it is left by other than strong aborts.
     pub during: Items<During>,
     pub regions: Items<ExtendedRegion>,
-    /// In the order of the text. Their targets are places among the states of the region, from 0.
+    /// In the order of the text. Their targets are places among the states of the region, from 0; and behind these the
+    /// same places once more, for transitions by history.
     pub transitions: Items<Transition>,
 }

@@ -1,5 +1,5 @@
 //! Extended charts, and their reduction to charts: constants, signals, what variables were in the tick before, the
-//! ticks since a state was entered, counts of those in which something holds, entry, exit and during actions,
+//! ticks since a state was entered, counts of those in which something holds, histories, entry, exit and during actions,
 //! terminations with triggers and initial values.
 #![tactic(auto)]
 
@@ -13,12 +13,14 @@ mod entry;
 mod exits;
 mod extended;
 mod fault;
+mod histories;
 mod holds;
 mod initial;
 mod laws;
 mod leaving;
 mod making;
 mod reading;
+mod recalls;
 mod reduction;
 mod registers;
 mod rows;
@@ -34,6 +36,7 @@ pub use extended::{
     Constant, Declared, During, ELAPSED, ExtendedChart, ExtendedRegion, ExtendedState,
 };
 pub use fault::ReduceFault;
+pub use histories::with_histories;
 pub use holds::with_holds;
 pub use initial::with_settings;
 pub use laws::{charts_stay, signals_are_updated};

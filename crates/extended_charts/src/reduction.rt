@@ -3,7 +3,7 @@
 ghost use Rattle.std.specs.Prelude.{◌≡◌, IfOk, MatchResult, SomeIff, map};
 ghost use Rattle.core_charts.specs.declared.features.Features.TheVariants as features;
 ghost use Rattle.core_charts.specs.Rules.{IsChart};
-ghost use Rattle.extended_charts.specs.Reduction.{with_entry, chart_of, IsReduction, LacksChart};
+ghost use Rattle.extended_charts.specs.Reduction.{with_variables, with_entry, chart_of, IsReduction, LacksChart};
 
 use crate::clocks::with_clocks;
 use crate::constants::without_constants;
@@ -13,6 +13,7 @@ use crate::entry::without_entry;
 use crate::exits::with_exits;
 use crate::extended::{Declared, ExtendedChart};
 use crate::fault::ReduceFault;
+use crate::histories::with_histories;
 use crate::holds::with_holds;
 use crate::initial::with_settings;
 use crate::registers::with_registers;
@@ -36,15 +37,23 @@ pub fn reduce(alloc: Global, chart: &ExtendedChart) -> Result<(Chart, AuthorRows
     }
 }
 
+// The chart whose triggers and effects name nothing but variables, ticks and counts.
+fn with_variables(alloc: Global, chart: &ExtendedChart) -> Result<ExtendedChart, AllocError>
+    ensures { IfOk result (λ made. made ≡ with_variables chart.now) }
+{
+    let valued = without_constants(alloc, chart)?;
+    let signalled = with_signals(alloc, valued)?;
+    with_registers(alloc, signalled)
+}
+
 // The chart that has nothing but entry actions left.
 fn with_entry(alloc: Global, chart: &ExtendedChart) -> Result<ExtendedChart, AllocError>
     ensures { IfOk result (λ made. made ≡ with_entry chart.now) }
 {
-    let valued = without_constants(alloc, chart)?;
-    let acting = with_durings(alloc, valued)?;
-    let signalled = with_signals(alloc, acting)?;
-    let registered = with_registers(alloc, signalled)?;
-    let counted = with_counts(alloc, registered)?;
+    let named = with_variables(alloc, chart)?;
+    let recalling = with_histories(alloc, named)?;
+    let acting = with_durings(alloc, recalling)?;
+    let counted = with_counts(alloc, acting)?;
     let clocked = with_clocks(alloc, counted)?;
     let left = with_exits(alloc, clocked)?;
     let held = with_holds(alloc, left)?;
