@@ -2,7 +2,7 @@
 -- state in which it was last. A transition by history tells that it asks for that. As a state is entered to which one leads,
 -- it hands this over to its regions. Each of these keeps in which of its states it is, and begins in one more state, which
 -- goes to the state that was kept, where it is asked to.
-use Rattle.std.specs.Prelude.{ℕ, zero, suc, ◌+◌, ◌-◌, ◌==◌, nat_eq, nat_lt, not, Bool, true, false, Option, Some, None, List, [], ◌∷◌, ◌++◌, map, length}
+use Rattle.std.specs.Prelude.{ℕ, suc, ◌+◌, ◌-◌, nat_eq, nat_lt, not, Bool, true, false, Option, Some, None, List, [], ◌∷◌, ◌++◌, map, length}
 use Rattle.std.specs.Prelude.{codes, if◌then◌else◌}
 use Rattle.std.specs.List.{list_any}
 use Rattle.sc_values.specs.declared.value.Value.TheVariants as value
