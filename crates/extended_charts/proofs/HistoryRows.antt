@@ -5,6 +5,7 @@ use Rattle.std.specs.Prelude.{codes}
 use Rattle.sc_values.specs.declared.operator.BinaryOperator.TheVariants as operator
 use Rattle.sc_values.specs.declared.expression.Expr.{Expr}
 use Rattle.sc_values.specs.declared.expression.Expr.TheVariants as expr
+use Rattle.sc_text.specs.MadeNames.{numbered}
 use Rattle.core_charts.specs.declared.region.Effect.{Effect}
 use Rattle.core_charts.specs.declared.region.Transition.{Transition}
 use Rattle.core_charts.specs.declared.region.TransitionKind.{TransitionKind}
@@ -13,7 +14,7 @@ use Rattle.extended_charts.specs.declared.recalls.Kept.TheVariants as kept
 use Rattle.extended_charts.specs.declared.extended.ExtendedRegion.{ExtendedRegion}
 use Rattle.extended_charts.specs.declared.extended.ExtendedState.{ExtendedState}
 use Rattle.extended_charts.specs.declared.extended.ExtendedRegion.TheViews.{roll-ExtendedState}
-use Rattle.extended_charts.specs.Making.{numbered, copy, always, made_state, region}
+use Rattle.extended_charts.specs.Making.{copy, always, made_state, region}
 use Rattle.extended_charts.specs.Signals.{reset}
 use Rattle.extended_charts.specs.Exits.{set, is_at}
 use Rattle.extended_charts.specs.Histories.{PastRegion, PastState, region_step, state_step, asks}

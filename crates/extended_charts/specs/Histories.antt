@@ -10,6 +10,7 @@ use Rattle.sc_values.specs.declared.value.Kind.TheVariants as of_kind
 use Rattle.sc_values.specs.declared.operator.BinaryOperator.TheVariants as operator
 use Rattle.sc_values.specs.declared.expression.Expr.{Expr}
 use Rattle.sc_values.specs.declared.expression.Expr.TheVariants as expr
+use Rattle.sc_text.specs.MadeNames.{numbered}
 use Rattle.core_charts.specs.declared.region.Effect.{Effect}
 use Rattle.core_charts.specs.declared.region.Transition.{Transition}
 use Rattle.extended_charts.specs.declared.recalls.Kept.{Kept}
@@ -23,7 +24,7 @@ use Rattle.extended_charts.specs.declared.extended.ExtendedState.{ExtendedState}
 use Rattle.extended_charts.specs.declared.extended.ExtendedRegion.TheOpen.{ExtendedRegion-F, ExtendedState-F}
 use Rattle.extended_charts.specs.declared.extended.ExtendedRegion.TheViews.{roll-ExtendedState}
 use Rattle.extended_charts.specs.declared.extended.ExtendedRegion.TheFolds.{fold-ExtendedRegion, fold-ExtendedState}
-use Rattle.extended_charts.specs.Making.{has_some, numbered, local, copy, always, made_state, region}
+use Rattle.extended_charts.specs.Making.{has_some, local, copy, always, made_state, region}
 use Rattle.extended_charts.specs.Signals.{reset}
 use Rattle.extended_charts.specs.Exits.{set, is_at}
 

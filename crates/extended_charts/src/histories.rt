@@ -9,7 +9,6 @@ use crate::copies::copied_durings;
 use crate::departures::{is_at, set};
 use crate::extended::{ExtendedChart, ExtendedRegion, ExtendedState};
 use crate::making::{alone, always, copy, count, has_some, made_state, sum, variable};
-use crate::names::numbered;
 use crate::recalls::{
     asking, is_by_history, is_recalled, kept_in, recalled_among, region_kept, state_kept,
     variables_for,
@@ -18,6 +17,7 @@ use crate::signals::reset;
 use chart_elements::next;
 use core_charts::{Effect, Transition, copied_effects};
 use sc_graph::VariableId;
+use sc_text::numbered;
 use sc_values::{BinaryOperator, Expr, Value};
 use sqlite_items::{Boxed, Items};
 use std::alloc::{AllocError, Global};
@@ -194,7 +194,7 @@ fn resuming(
     let Some(past) = own else {
         return Ok(Items::new(alloc));
     };
-    let name = numbered("resume__", count(states)?);
+    let name = numbered("resume__", count(states)? as u64);
     let mut ways = resumptions(alloc, past, states)?;
     ways.push(always(true, Items::new(alloc), initial_among(states)?))?;
     alone(

@@ -7,9 +7,9 @@ ghost use Rattle.extended_charts.specs.Histories.{variable_for, variables_for};
 
 use crate::extended::{Declared, ExtendedRegion, ExtendedState};
 use crate::making::{alone, count, has_some, local};
-use crate::names::numbered;
 use chart_elements::next;
 use core_charts::Transition;
+use sc_text::numbered;
 use sc_values::Kind;
 use sqlite_items::Items;
 use std::alloc::{AllocError, Global};
@@ -159,9 +159,9 @@ fn variable_for(number: u32, kept: Kept) -> Declared
     ensures { result ≡ variable_for number kept }
 {
     match kept {
-        Kept::Asked => local(numbered("asked__", number), Kind::Bool, None),
-        Kept::Entered => local(numbered("history__", number), Kind::Bool, None),
-        Kept::Last => local(numbered("last__", number), Kind::Int, None),
+        Kept::Asked => local(numbered("asked__", number as u64), Kind::Bool, None),
+        Kept::Entered => local(numbered("history__", number as u64), Kind::Bool, None),
+        Kept::Last => local(numbered("last__", number as u64), Kind::Int, None),
     }
 }
 
