@@ -2,8 +2,7 @@
 use Rattle.std.proofs.Common.{◌≡◌, ◌≤◌, ◌+◌, ℕ, Option, List, ◌∷◌, length, arith}
 use Rattle.std.proofs.lemmas.List.{length-append}
 use Rattle.extended_drafts.specs.declared.draft.DraftDelay.{DraftDelay}
-use Rattle.extended_reader.specs.Counts.{own_counts, counts_of}
-use Rattle.extended_reader.specs.Inside.{HaveCounts}
+use Rattle.extended_reader.specs.Counts.{HaveCounts, own_counts, counts_of}
 
 module _ (d : Option DraftDelay) (delays : List (Option DraftDelay)) (counts : ℕ) (h : HaveCounts (d ∷ delays) counts) where
   pub own_within : length (own_counts d) ≤ counts

@@ -15,6 +15,7 @@ use Rattle.chart_reader.proofs.Narrow as core_regions
 use Rattle.extended_drafts.specs.declared.draft.DraftItem.{DraftItem}
 use Rattle.extended_drafts.specs.declared.draft.StateActions.{StateActions}
 use Rattle.extended_drafts.specs.declared.draft.DraftDelay.{DraftDelay}
+use Rattle.extended_drafts.specs.declared.draft.DraftRows.{DraftRows}
 use Rattle.extended_drafts.specs.declared.draft.ExtendedDraft.{ExtendedDraft}
 use Rattle.extended_drafts.specs.Flaws.{new_flaws, extended_flaws}
 use Rattle.extended_drafts.specs.Shape.{IsExtendedShaped}
@@ -43,6 +44,11 @@ module _ (d : ExtendedDraft) (none : extended_flaws d ≡ []) (shaped : IsExtend
 
   pub narrow : (regions : List DraftRegion) → regions ≡ d.core.regions → AreNarrow depth_limit regions
   narrow regions same = core_regions.narrow d.core regions core_flawless shaped.core same
+
+-- regions are made of the rows with which what is left begins
+pub regions_made : (left : DraftRows) (names : List (List ℕ)) (texts : List DraftRegion) (r : List ExtendedRegion) (rows : DraftRows) → left ≡ rows
+    → r ≡ all_regions left (map (region_of names) texts) → r ≡ all_regions rows (map (region_of names) texts)
+regions_made left names texts r rows e m = m ∙ ap (λ x. all_regions x (map (region_of names) texts)) e
 
 -- ---- the parts of the extended chart of a draft, each from what was looked at for it
 

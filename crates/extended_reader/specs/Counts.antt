@@ -1,5 +1,5 @@
 -- The conditions of which the transitions of a draft count ticks, in the order of the text; and what a transition asks.
-use Rattle.std.specs.Prelude.{ℕ, pos, ◌-◌, Option, Some, None, List, [], ◌∷◌, ◌++◌, map, length}
+use Rattle.std.specs.Prelude.{ℕ, pos, ◌≡◌, ◌-◌, Option, Some, None, List, [], ◌∷◌, ◌++◌, map, length}
 use Rattle.sc_values.specs.declared.value.Value.TheVariants as value
 use Rattle.sc_values.specs.declared.operator.BinaryOperator.TheVariants as operator
 use Rattle.sc_values.specs.declared.expression.Expr.{Expr}
@@ -21,6 +21,10 @@ own_counts (Some d) = own_count d.count
 abbrev pub counts_of : List (Option DraftDelay) → List DraftCount
 counts_of [] = []
 counts_of (d ∷ delays) = own_counts d ++ counts_of delays
+
+-- there are so many
+pub record HaveCounts (delays : List (Option DraftDelay)) (counts : ℕ) : Type 0 where
+  pub many : counts ≡ length (counts_of delays)
 
 -- their conditions, over what has these names
 abbrev pub conditions : (names : List (List ℕ)) → List (Option DraftDelay) → List Expr

@@ -97,6 +97,9 @@ delayed_transition names states left t =
 
 -- ---- rows
 
+abbrev pub rows_of : List StateActions → List (Option DraftDelay) → DraftRows
+rows_of entries delays = record { entries = entries; delays = delays }
+
 abbrev pub first_actions : List StateActions → List DraftEntry
 first_actions [] = []
 first_actions (own ∷ entries) = own.entries

@@ -2,9 +2,8 @@
 
 ghost use Rattle.std.specs.Prelude.{◌≡◌, ◌≤◌, ◌+◌, IfOk, length};
 ghost use Rattle.std.specs.Option.{option_copied};
-ghost use Rattle.extended_reader.specs.Counts.{own_counts, counts_of, first_number};
-ghost use Rattle.extended_reader.specs.Inside.{HaveCounts, rows_in};
-ghost use Rattle.extended_reader.specs.Resolved.{first_actions, first_delay, behind_state, behind_transition};
+ghost use Rattle.extended_reader.specs.Counts.{HaveCounts, own_counts, counts_of, first_number};
+ghost use Rattle.extended_reader.specs.Resolved.{first_actions, first_delay, rows_of, behind_state, behind_transition};
 
 use crate::counts::counts_in;
 use extended_charts::ELAPSED;
@@ -26,7 +25,7 @@ impl<'a> RowsLeft<'a> {
         entries: &'a [StateActions],
         delays: &'a [Option<DraftDelay>],
     ) -> Result<RowsLeft<'a>, AllocError>
-        ensures { IfOk result (λ rows. rows_in rows ≡ record { entries = entries.now; delays = delays.now }) }
+        ensures { IfOk result (λ rows. rows_of rows.entries.now rows.delays.now ≡ rows_of entries.now delays.now) }
     {
         let counts = counts_in(delays)?;
         Ok(RowsLeft {
@@ -39,7 +38,8 @@ impl<'a> RowsLeft<'a> {
     /// Takes the actions of a state off the front.
     pub(crate) fn actions(&mut self) -> &'a [DraftEntry]
         ensures row { result.now ≡ first_actions self.old.entries.now }
-        ensures left { rows_in self.new ≡ behind_state (rows_in self.old) }
+        ensures left { rows_of self.new.entries.now self.new.delays.now ≡
+            behind_state (rows_of self.old.entries.now self.old.delays.now) }
     {
         match self.entries {
             [own, behind @ ..] => {
@@ -61,7 +61,8 @@ impl<'a> RowsLeft<'a> {
     #[tactic(auto, using(crate::proofs::Counting::own_within, crate::proofs::Counting::fewer_behind))]
     pub(crate) fn delay(&mut self) -> Option<&'a DraftDelay>
         ensures row { option_copied result ≡ first_delay self.old.delays.now }
-        ensures left { rows_in self.new ≡ behind_transition (rows_in self.old) }
+        ensures left { rows_of self.new.entries.now self.new.delays.now ≡
+            behind_transition (rows_of self.old.entries.now self.old.delays.now) }
     {
         match self.delays {
             [first, behind @ ..] => {
