@@ -5,4 +5,4 @@ use Rattle.extended_reader.specs.Resolved.{rows_of}
 
 -- the rows that are left
 abbrev pub rows_in : RowsLeft → DraftRows
-rows_in left = rows_of left.entries.now left.delays.now
+rows_in left = rows_of left.entries.now left.ways.now
