@@ -1,11 +1,11 @@
 """Extended charts: a reader of their text, and a machine, written from docs/extended.md and docs/reference.md as plainly as
 possible. The reader is that of charts (chart_reader.py) with what is new, in the same three passes. The machine is that of
 charts (chart_machine.py), and knows no reduction: it walks the active states, keeps for each of them the tick in which it was
-entered, for each transition in how many ticks behind that what it counts was true, and of each variable what it was when the tick
-before ended.
+entered, for each region in which state it was last, for each transition in how many ticks behind that what it counts was true, and
+of each variable what it was when the tick before ended.
 
 Constants and what variables were are variables here, of the roles "const" and "pre". A signal is one that is told to be one, and
-an emission an effect on it by `or true`."""
+an emission an effect on it by `or true`. What leads to the p-th of n states by its history leads to n + p."""
 from chart_machine import ChartMachine, access_of
 from chart_reader import ChartGrammar, ChartRules, Draft
 from charts import Chart, Region, State, Transition, states_of
@@ -16,6 +16,7 @@ from reader import END, NAME, NESTED, Fault, is_utf8, tell_first, tree_of
 ROLES = ("input", "output", "local")
 # what a word among the variables has to be, and one among the actions
 ITEM_WORDS, ACTION_WORDS = ("const", "pre"), ("entry", "exit")
+HISTORY_WORDS = "shallow", "history"
 LASTING = "during"
 # what `x += e` does, and its like
 COMBINED = {"+": "add", "-": "subtract", "*": "multiply"}
@@ -141,10 +142,12 @@ class ExtendedGrammar(ChartGrammar):
             trigger = self.place(), self.expression()
         effects = self.effects() if self.takes("do") else []
         self.take("->")
-        target = self.take(NAME)
+        target, words = self.take(NAME), []
+        if self.ahead() == NAME:
+            words = [Draft(place, word) for _, word, place in (target, self.take(NAME))]
+            target = self.take(NAME)
         self.take(";")
-        return Draft(place, kind=kind, immediate=immediate, delay=delay, trigger=trigger, effects=effects, target=target)
-
+        return Draft(place, kind=kind, immediate=immediate, delay=delay, trigger=trigger, effects=effects, target=target, words=words)
 
     def count(self):
         """The condition whose ticks are counted, behind its word, where ticks are waited for."""
@@ -219,9 +222,13 @@ class ExtendedRules(ChartRules):
         super().regions(regions)
         for region in regions:
             self.made_name(region)
+            simple = {s.name for s in region.states if not s.regions}
             for state in region.states:
                 self.made_name(state)
                 self.new_in(state)
+                for t in state.transitions:
+                    if t.words and t.target[1] in simple:
+                        self.flaw(6, t.target[2])
 
     def new_in(self, state):
         for action in state.actions:
@@ -238,6 +245,8 @@ class ExtendedRules(ChartRules):
         for t in state.transitions:
             for e in t.effects:
                 self.emission(e)
+            for draft, word in zip(t.words, HISTORY_WORDS):
+                self.word(draft, (word,))
             if t.delay:
                 self.word(t.delay, ("after",))
                 self.expression(t.delay.code, t.delay.start, "int")
@@ -268,7 +277,7 @@ def resolved(region, places):
 
     def transition(t):
         made = Transition(t.kind, t.immediate, tree_of(t.trigger[1], places) if t.trigger else None, effects(t.effects),
-                          at[t.target[1]])
+                          at[t.target[1]] + (len(at) if t.words else 0))
         made.delay = tree_of(t.delay.code, places) if t.delay else None
         made.count = tree_of(t.delay.count.code, places) if t.delay and t.delay.count else None
         return made
@@ -349,7 +358,8 @@ def text_of_transition(t, states, variables):
         words += ["if", text_of_expression(t.trigger, variables)]
     if t.effects:
         words += ["do", text_of_effects(t.effects, variables)]
-    return " ".join(words + ["->", states[t.target].name]) + ";"
+    words += ["->", *(HISTORY_WORDS if t.target >= len(states) else ()), states[t.target % len(states)].name]
+    return " ".join(words) + ";"
 
 
 def text_of_extended(chart):
@@ -384,8 +394,8 @@ def text_of_extended(chart):
 # ---- the machine
 
 class ExtendedMachine(ChartMachine):
-    """Where a region stands is as in the machine of charts. The tick in which each state was entered, and in which state each
-    region is or has ended, are kept beside.
+    """Where a region stands is as in the machine of charts. The tick in which each state was entered, in which state each region
+    is, has ended or was last, and which states were entered by their history, are kept beside.
 
     A state with during actions has somebody inside who makes them, beside its regions, and stands as ("lasting", the state, what
     is left of them in this tick). A simple one then has an inside as superstates have: it stands as ("within", s, tests), and its
@@ -400,13 +410,13 @@ class ExtendedMachine(ChartMachine):
                 self.superstate[doer], self.path[doer], self.standing[doer] = s, self.path[self.holder[s]] + [doer], None
         self.regions = list(self.path)
         self.values = [v.initial for v in chart.variables]
-        self.now, self.entered, self.within, self.counted = 0, {}, {}, {}
+        self.now, self.entered, self.within, self.counted, self.by_history = 0, {}, {}, {}, set()
 
     def saved(self):
-        return *super().saved(), dict(self.entered), dict(self.within)
+        return *super().saved(), dict(self.entered), dict(self.within), set(self.by_history)
 
     def restore(self, saved):
-        *before, self.entered, self.within = saved
+        *before, self.entered, self.within, self.by_history = saved
         super().restore(before)
 
     def begin(self, inputs):
@@ -426,7 +436,16 @@ class ExtendedMachine(ChartMachine):
         return steps
 
     def begin_in(self, r):
-        self.act(r, r.initial(), r.initial().entry, r.states.index(r.initial()))
+        """Region r is entered: in the state in which it was last, where its superstate is entered by its history."""
+        begins = self.within.get(r, r.initial()) if self.superstate[r] in self.by_history else r.initial()
+        self.act(r, begins, begins.entry, r.states.index(begins))
+
+    def act(self, r, s, effects, target):
+        to = r.states[target % len(r.states)]
+        if not effects:
+            (self.by_history.discard if target < len(r.states) else self.by_history.add)(to)
+            target = r.states.index(to)
+        super().act(r, s, effects, target)
 
     def come_to(self, r, s):
         self.entered[s], self.within[r] = self.now, s
@@ -487,7 +506,8 @@ class ExtendedMachine(ChartMachine):
     def effects_of(self, s, t):
         """The exit actions of all that is active inside, those of the state, the effects of the transition, and the entry
         actions of the target."""
-        return [*self.exits_inside(s), *s.exit, *t.effects, *self.holder[s].states[t.target].entry]
+        states = self.holder[s].states
+        return [*self.exits_inside(s), *s.exit, *t.effects, *states[t.target % len(states)].entry]
 
     def exits_inside(self, s):
         """Region by region in the order of the text, in each what is inside first."""

@@ -24,6 +24,11 @@ def inside(leave):
                  f"state t {acts(50, 'go if not A -> s;')} }}")
 
 
+# three states with actions
+THREE = (f"region Q {{ initial state a {acts(3, 'go if A -> b;')} state b {acts(5, 'go if B -> c;')} "
+         "state c { go after 2 -> a; } }")
+
+
 CHARTS = [
     # each way out of a superstate: what is inside first, in the order of the text
     *(inside(leave) for leave in (
@@ -82,6 +87,23 @@ CHARTS = [
           f"state u {{ go after 1 of A do {tells(6)} -> s; }} }}"),
     chart("region R { initial state s { entry do y = 0; immediate during if A do y += 1; go after 2 of y > 1 do x = x + 1 -> t; } "
           "state t { go -> s; } }"),
+    # history: by each way into a superstate and out of it, of one that was never left and of itself, with final states and
+    # with what is deeper, which begins anew; and where nothing inside was entered, as at first
+    *(chart(f"region R {{ initial state s {acts(1, f'region Q {{ initial state u {acts(3, inner)} final state v {acts(9)} }} {leave}')} "
+            f"state t {acts(50, enter)} }}")
+      for inner in (f"region P {{ initial state a {acts(5, 'go if A -> b;')} state b {{ go if B -> c; }} final state c {acts(7)} }} join -> v;",
+                    f"region P {{ initial state a {acts(5, 'go if A -> b;')} state b {{ go if B -> a; }} }} weak if A and B -> v;")
+      for leave, enter in ((f"strong if A and B do {tells(60)} -> t;", "go if A -> shallow history s; go -> s;"),
+                           (f"weak if I > 1 do {tells(60)} -> shallow history s; strong if I > 3 -> t;", "go -> shallow history s;"),
+                           ("strong after 3 -> shallow history s; weak if A -> t;", "go after 2 -> shallow history s; go if B -> s;"),
+                           (f"weak if I > 2 -> t; join if B do {tells(60)} -> t;", "go if A -> shallow history s;"))),
+    chart(f"region R {{ initial state t {{ go if A -> shallow history s; go if B -> s; }} "
+          f"state s {acts(1, f'{THREE} strong immediate if I > 3 do {tells(60)} -> t; strong if I > 1 -> t;')} }}"),
+    chart("region R { initial state s { region Q { initial state a { go if A do x = x + 1 -> b; } state b { go if A do x = x + 10 -> c; } final state c; } "
+          "region M { initial state d { go if B do y = y + 1 -> e; } state e { go if B do y = y + 10 -> d; } } strong if I > 2 -> t; weak if I > 1 -> shallow history s; } "
+          "state t { go if I < 2 -> shallow history s; go -> t; } }"),
+    chart(f"region R {{ initial state s {{ region Q {{ initial state a {{ during do x = x + 1; go after 2 of A -> b; }} state b {{ immediate during if A do x = x + 10; "
+          f"go after 3 -> a; }} }} strong if B -> t; }} state t {{ during do y = y + 1; go after 2 -> shallow history s; }} }}"),
     # during actions: of simple states, behind entry actions and before the transitions, which see them
     chart("region R { initial state s { entry do y = 0; during do y += 1; go if y >= 3 do x = x + 1 -> s; } }"),
     chart(f"region R {{ initial state s {{ during do {tells(1)}; immediate during if A do {tells(2)}; during if B do {tells(3)}, {tells(4)}; "

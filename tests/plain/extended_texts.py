@@ -124,6 +124,8 @@ TEXTS = {
         "go immediate -> s; go after 2 -> s; } final state t { entry do x = 1; } } }",
         HEAD + "region R { initial state s { immediate during do x = 1; region Q { initial state t { during do a = 1; } } strong if b -> s; weak -> s; } } }",
         "extended chart during { local bool during; region during { initial state during { during if during do during = not during; go -> during; } } }",
+        "extended chart shallow { output bool history; region shallow { initial state shallow { region history { initial state history; } "
+        "weak if history -> history; } state history { go after 2 -> shallow history shallow; go -> shallow; } } }",
         "extended chart P { output int a_b_c_; " + REGION + "}", "extended chart P__1 { " + REGION + "}",
         "extended chart P { pre bool was = i; input bool i; " + REGION + "}",
         HEAD + "region R { initial state s { entry do x = 1" + ", x = 1" * 7 + "; entry do x = 1" + ", x = 1" * 7 + "; } } }",
@@ -143,14 +145,19 @@ SIMPLE = {
         "go do x + ^= 1 -> t;", "go do x +\n^= 1 -> t;", "go do x + ^1 -> t;", "go do x +^== 1 -> t;", "go do x ^/= 2 -> t;", "go do x ^%= 2 -> t;",
         "go do x += ^-> t;", "go do x ^-> t;", "go do emit q ^+= 1 -> t;", "go do x ^<= 1 -> t;", "go do x ^or= b -> t;", "go do x = ^+= 1 -> t;",
         "go do x -^- = 1 -> t;", "go do x = 1, x * ^= x -> t;",
+        "go -> ^deep history t;", "go -> shallow ^histories t;", "go -> ^history shallow t;", "go -> ^Shallow history u;", "go -> shallow t ^;",
+        "go -> shallow history t ^t;", "go -> shallow history ^;", "go -> shallow ^if i;", "go ^shallow history -> t;".replace("^shallow history", "^shallow i"),
+        "go -> shallow history ^immediate;", "go -> ^t t t;",
     ],
     "E03": ["go do ^y += 1 -> t;", "go do x -= ^y -> t;", "go do ^y + = 1 -> t;", "go after ^M -> t;", "go after N + ^M if i -> t;", "go after N if ^y -> t;", "go after ^s -> t;", "go after N -> ^u;",
             "go after 3 of ^y -> t;", "go after N of i and ^M > 1 -> t;", "go after ^M of y -> t;", "go after 3 of ^t -> t;",
-            "go do emit ^y -> t;", "go do emit ^s -> t;", "go do emit ^emit -> t;"],
+            "go do emit ^y -> t;", "go do emit ^s -> t;", "go do emit ^emit -> t;",
+            "go -> shallow history ^u;", "go -> ^shallow;", "go -> shallow history ^history;"],
     "E05": ["go do x +^= b -> t;", "go do b *^= 2 -> t;", "go do b -^= b -> t;", "go do x +^=(1 < 2) -> t;", "go after ^true -> t;", "go after ^i -> t;", "go after ^n == 3 if i -> t;", "go after N if ^n -> t;", "go after ^(i) -> t;",
             "go after 3 of ^x -> t;", "go after N of ^n + 1 if i -> t;", "go after ^i of i -> t;", "go after ^b of n -> t;", "go after 3 of ^3 -> t;", "go after 1 of b if ^n -> t;"],
     "E06": ["go do ^n += 1 -> t;", "go do ^N *= 2 -> t;", "go do ^q += 1 -> t;", "go do ^n + = 1 -> t;", "^strong after 3 -> t;", "^weak after N -> t;", "go after N do ^n = 1 -> t;", "^join if i -> t;",
-            "go do ^q = false -> t;", "go do emit q, ^q = q -> t;", "go do emit ^i -> t;", "go do emit ^b -> t;"],
+            "go do ^q = false -> t;", "go do emit q, ^q = q -> t;", "go do emit ^i -> t;", "go do emit ^b -> t;",
+            "go -> shallow history ^t;", "go immediate if i do x = 1 -> shallow history ^s;"],
     "E07": ["go do x +^= 1" + " + 1" * 31 + " -> t;", "go do x +^= a" + " + a" * 15 + " -> t;", "go after ^a" + " + a" * 16 + " -> t;", "go after ^1" + " + 1" * 32 + " -> t;",
             "go after 3 of ^b" + " or b" * 16 + " -> t;", "go after 3 of ^1 == 1" + " + 1" * 31 + " -> t;"],
     None: ["go do x += 1, x-=n * 2, x *= -3, a +=x -> t;", "go do x += 1" + " + 1" * 30 + " -> t;", "go do x -= -1, x -= (2 - n) -> t;",
@@ -164,10 +171,13 @@ SUPER = {
     "E02": ["join ^of b -> t;", "join if b ^of b -> t;", "weak after 3 ^if1 b -> t;", "join if b ^-> -> t;".replace("^-> ->", "-> ^->"), "join if ^do x = 1 -> t;", "join ^if1 b -> t;"],
     "E03": ["join if ^y -> t;", "join if b and ^M == 3 -> t;", "join if b do emit ^y -> t;", "join if b -> ^u;", "join if ^s do x = 1 -> t;"],
     "E05": ["join if ^x -> t;", "join if ^N + 1 -> t;", "join if b do x = ^b -> t;", "join if ^(1) -> t;"],
-    "E06": ["join if b -> t; ^join if q -> t;", "join -> t; ^join if q -> t;", "join if q do ^q = true -> t;"],
+    "E06": ["join if b -> t; ^join if q -> t;", "join -> t; ^join if q -> t;", "join if q do ^q = true -> t;",
+            "strong -> shallow history ^t;", "join if q -> shallow history ^t;"],
     "E07": ["join if ^b" + " and b" * 16 + " -> t;"],
     None: ["join if q and N == 3 do emit q, x = 1 -> s;", "weak if b -> t; join if not b -> t; strong after 3 -> t;", "join if b -> t;",
-           "strong after 3 of b -> t; weak after N of not i if q -> s; join if b -> t;"],
+           "strong after 3 of b -> t; weak after N of not i if q -> s; join if b -> t;",
+           "strong if b -> shallow history s; weak immediate if i do x = 1 -> t; join if q do emit q -> shallow history s;",
+           "join -> shallow history s;", "strong after 2 -> shallow  history\ns;"],
 }
 
 
@@ -226,7 +236,7 @@ class ExtendedGenerator(ChartGenerator):
         self.items = [Declared(v.name, v.role, v.kind, self.initial(v)) for v in VARIABLES] + CONSTANTS + SIGNALS + was
         self.signals = [PLAIN + len(CONSTANTS) + x for x in range(len(SIGNALS))]
         # how often each of what is new stands where it may, and whether each region stands alone: in such a chart nothing clashes
-        self.share = {word: r.choice([0, 0.2, 0.7]) for word in ("new", "after", "of", "entry", "exit", "during", "emit", "hold")}
+        self.share = {word: r.choice([0, 0.2, 0.7]) for word in ("new", "after", "of", "entry", "exit", "during", "emit", "hold", "history")}
         self.share["signal"] = r.choice([0, 0, 0.1, 0.3])
         self.is_alone = r.random() < 0.5
         self.super_chances = (0.7, 0.5) if self.is_alone else self.super_chances
@@ -278,6 +288,9 @@ class ExtendedGenerator(ChartGenerator):
         for s in made.states:
             s.entry, s.exit = self.actions("entry"), self.actions("exit")
             s.during = self.durings(s)
+            for t in s.transitions:
+                if made.states[t.target].regions and self.random.random() < self.share["history"]:
+                    t.target += len(made.states)
         return made
 
     def durings(self, s):
@@ -308,7 +321,7 @@ def by_inputs(chart):
 
 
 WORDS = CHART_WORDS + ("extended chart const pre entry exit during immediate if after signal emit do = + - * ; N M T sig seen was_x const int pre bool signal s; entry do "
-                       "emit sig a__b x__ after 3 of A after of").split()
+                       "emit sig a__b x__ after 3 of A after of -> shallow history").split()
 
 
 def damaged_texts(seed, r):

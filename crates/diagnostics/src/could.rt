@@ -89,8 +89,24 @@ const EFFECT: Narrowing = Narrowing {
     barred: &[],
 };
 
+const TARGET: Narrowing = Narrowing {
+    own: &["shallow"],
+    is_free: true,
+    barred: &[],
+};
+
+// Behind `shallow`, where a target stands.
+const HISTORY: Narrowing = Narrowing {
+    own: &["history"],
+    is_free: false,
+    barred: &[],
+};
+
 // What a name leaves behind it.
 fn behind_name(name: &str, found: &Continuations) -> Narrowing {
+    if takes(found, Sign::Semicolon) {
+        return if name == "shallow" { HISTORY } else { NO_NAME };
+    }
     if has(found, Word::Bool) {
         return if name == "signal" {
             NAME_ALONE
@@ -142,6 +158,7 @@ fn behind(before: &TokenKind, found: &Continuations) -> Narrowing {
         TokenKind::Word(Word::Immediate) => DURING,
         TokenKind::Word(Word::Go | Word::Strong | Word::Weak) => WAIT,
         TokenKind::Word(Word::Do) | TokenKind::Sign(Sign::Comma) => EFFECT,
+        TokenKind::Sign(Sign::Arrow) => TARGET,
         _ if has(found, Word::Input) => ITEM,
         _ if has(found, Word::Go) => ACTION,
         _ => ANY,

@@ -145,6 +145,16 @@ fn emitted_words(alloc: Global, name: &str) -> Result<Words, AllocError> {
     Ok(Words { cause, cure })
 }
 
+// The words for a state without regions that is entered by its history.
+fn history_words(alloc: Global, name: &str) -> Result<Words, AllocError> {
+    let cause = format!(in alloc; "state `{name}` has no regions, and is entered by its history")?;
+    let cure = String::from_str(
+        alloc,
+        "a history is that of the regions of a superstate: take `shallow history` away",
+    )?;
+    Ok(Words { cause, cure })
+}
+
 // The words for a during action that is never made.
 fn during_words(alloc: Global) -> Result<Words, AllocError> {
     Words::of(
@@ -169,6 +179,7 @@ pub(crate) fn extended_name_words(
         Some(TokenKind::Word(Word::Do) | TokenKind::Sign(Sign::Comma)) => {
             assigned_words(alloc, declared_in(alloc, text, name)?, name)
         }
+        Some(TokenKind::Name(word)) if word.as_str() == "history" => history_words(alloc, name),
         Some(TokenKind::Name(_)) => emitted_words(alloc, name),
         _ => during_words(alloc),
     }

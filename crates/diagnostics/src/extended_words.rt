@@ -2,6 +2,7 @@
 
 use crate::could::Could;
 use crate::found::{has_name_at, stands_at};
+use crate::fronts::front_of;
 use crate::near_names::difference;
 use sc_text::{Sign, TokenKind};
 
@@ -42,6 +43,11 @@ const NO_KIND: Misused = Misused {
     cure: "write `output bool x;`, or `output signal s;`",
 };
 
+const TARGETS: Misused = Misused {
+    cause: "more than one name stands behind this arrow, and no `shallow history` before the last",
+    cure: "write `-> S;`, or `-> shallow history S;`",
+};
+
 const APART: Misused = Misused {
     cause: "this `=` stands apart from the operator before it",
     cure: "write `+=`, `-=` or `*=`",
@@ -59,7 +65,11 @@ pub(crate) fn misuse_at(
         return Some(APART);
     }
     if is_other_name(before) && could.is_name_alone() {
-        return Some(NO_KIND);
+        return Some(if is_behind_arrow(text, at) {
+            TARGETS
+        } else {
+            NO_KIND
+        });
     }
     for word in could.own_words() {
         if has_name_at(text, at, word) {
@@ -70,6 +80,24 @@ pub(crate) fn misuse_at(
         return misused_immediate(text, at);
     }
     None
+}
+
+// Whether names alone stand between an arrow and this byte of a text.
+fn is_behind_arrow(text: &str, at: usize) -> bool {
+    let mut is_behind = false;
+    for byte in front_of(text, at).as_bytes() {
+        if *byte == b'>' {
+            is_behind = true;
+        } else if !is_of_names(*byte) {
+            is_behind = false;
+        }
+    }
+    is_behind
+}
+
+// Whether a byte stands in a name, or between two.
+fn is_of_names(byte: u8) -> bool {
+    byte.is_ascii_alphanumeric() || matches!(byte, b'_' | b' ' | b'\t' | b'\r' | b'\n')
 }
 
 // Whether `=` stands there alone.

@@ -207,6 +207,8 @@ fn cure_of_name(
 fn cure_of_own_name(could: &Could) -> &'static str {
     if could.has_own_word("emit") {
         "a signal is emitted by `emit s`, and a variable is given a value by `x = ..`"
+    } else if could.has_own_word("shallow") {
+        "a state is entered by its history by `-> shallow history S`"
     } else if could.has_word(Word::If) && !could.has_name() {
         "a condition stands behind `if`"
     } else {

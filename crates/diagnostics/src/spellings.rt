@@ -131,7 +131,7 @@ const WORDS: [Spelling; 9] = [
 ];
 
 // Words of extended charts, in a chart.
-const CHART_WORDS: [Spelling; 8] = [
+const CHART_WORDS: [Spelling; 9] = [
     Spelling {
         piece: "const",
         written: "a chart has no constants: write the number, or begin the text with `extended chart`",
@@ -164,10 +164,14 @@ const CHART_WORDS: [Spelling; 8] = [
         piece: "after",
         written: "count the ticks in a variable; or begin the text with `extended chart`",
     },
+    Spelling {
+        piece: "history",
+        written: "note in a variable which state was active; or begin the text with `extended chart`",
+    },
 ];
 
 // The same in an extended chart, where they have no place.
-const EXTENDED_WORDS: [Spelling; 9] = [
+const EXTENDED_WORDS: [Spelling; 11] = [
     Spelling {
         piece: "const",
         written: "constants stand among the variables, before all regions",
@@ -203,6 +207,14 @@ const EXTENDED_WORDS: [Spelling; 9] = [
     Spelling {
         piece: "of",
         written: "what is counted stands behind the ticks of a wait: `after 3 of A`",
+    },
+    Spelling {
+        piece: "shallow",
+        written: "history stands before a target: `-> shallow history S`",
+    },
+    Spelling {
+        piece: "history",
+        written: "history stands before a target: `-> shallow history S`",
     },
 ];
 

@@ -42,6 +42,7 @@ fn sought_behind(before: &TokenKind) -> Sought {
         TokenKind::Sign(Sign::Arrow) => STATE,
         TokenKind::Word(Word::Goto) => LABEL,
         TokenKind::Name(word) if word.as_str() == "emit" => SIGNAL,
+        TokenKind::Name(word) if word.as_str() == "history" => STATE,
         _ => VARIABLE,
     }
 }

@@ -10,18 +10,20 @@ use Rattle.chart_drafts.specs.declared.draft.DraftTransition.{DraftTransition}
 use Rattle.chart_drafts.specs.declared.draft.DraftRegion.{DraftRegion}
 use Rattle.chart_drafts.specs.declared.draft.DraftState.{DraftState}
 use Rattle.chart_drafts.specs.ChartText.{Grows, trigger}
-use Rattle.chart_drafts.proofs.Deepens.{name_same, last_name_same, flag_same, target_same, placed_wider}
-use Rattle.drafts.specs.declared.parts.Named.{Named}
+use Rattle.chart_drafts.proofs.Deepens.{name_same, last_name_same, flag_same, placed_wider}
 use Rattle.drafts.specs.declared.parts.TextExpression.{TextExpression}
 use Rattle.extended_drafts.specs.declared.draft.ItemBody.{ItemBody}
 use Rattle.extended_drafts.specs.declared.draft.DraftItem.{DraftItem}
 use Rattle.extended_drafts.specs.declared.draft.DraftEntry.{DraftEntry}
 use Rattle.extended_drafts.specs.declared.draft.DraftDelay.{DraftDelay}
+use Rattle.extended_drafts.specs.declared.draft.DraftLead.{DraftLead}
+use Rattle.extended_drafts.specs.declared.draft.DraftWay.{DraftWay}
 use Rattle.extended_drafts.specs.declared.draft.DraftRows.{DraftRows}
 use Rattle.extended_drafts.specs.declared.draft.StateBody.{StateBody}
 use Rattle.extended_drafts.specs.declared.draft.ExtendedDraft.{ExtendedDraft}
 use Rattle.extended_drafts.specs.ExtendedText.{item_value, last_value, typed, signalled, bare_signal, plain_body, worded_body, plain, worded, item}
-use Rattle.extended_drafts.specs.ExtendedText.{combining, combined, becoming, emitting, effect_end, effect, next_effect, some_effects, effects, deed}
+use Rattle.extended_drafts.specs.ExtendedText.{combining, combined, becoming, emitting, effect_end, effect, next_effect, some_effects, effects, two_names, two_more, lead}
+use Rattle.extended_drafts.specs.ExtendedText.{last_lead, leading, deed}
 use Rattle.extended_drafts.specs.ExtendedText.{last_effects, entry}
 use Rattle.extended_drafts.specs.ExtendedText.{some_count, counted, some_delay, at_once, waiting, pause, tested, termination}
 use Rattle.extended_drafts.specs.ExtendedText.{transition, transitions, leaving, Inner, NoMore, Nested, rowed, bare, nested, inside, acting, body, state}
@@ -35,6 +37,16 @@ data Opened : Inner → Inner → Type 1 where
 module _ (A : Type 0) (g g' : Grows (A × DraftRows)) (d : Deeper (A × DraftRows) g g') where
   rowed_wider : Deeper (List A × DraftRows) (rowed g) (rowed g')
   rowed_wider = deeper_made _ _ _ _ _ (deeper_made _ _ _ _ _ (deeper_seq _ _ _ _ _ _ d (deeper_many _ _ _ d)))
+
+leading_same : Deeper DraftLead leading leading
+unfolding leading last_lead lead two_more two_names
+leading_same =
+    deeper_made _ _ _ _ _
+    (deeper_seq _ _ _ _ _ _ (same_one _)
+    (deeper_made _ _ _ _ _
+    (deeper_seq _ _ _ _ _ _
+    (deeper_made _ _ _ _ _ (deeper_seq _ _ _ _ _ _ name_same (deeper_maybe _ _ _ (deeper_seq _ _ _ _ _ _ name_same name_same))))
+    (same_one _))))
 
 module _ (e e' : Grows Phrase) (w : Deeper Phrase e e') where
   typed_wider : Deeper ItemBody (typed e) (typed e')
@@ -79,12 +91,12 @@ module _ (e e' : Grows Phrase) (w : Deeper Phrase e e') where
       (deeper_seq _ _ _ _ _ _ effect_wider
       (deeper_many _ _ _ (deeper_made _ _ _ _ _ (deeper_seq _ _ _ _ _ _ (same_one _) effect_wider))))
 
-  deed_wider : Deeper (List DraftEffect × Named) (deed e) (deed e')
+  deed_wider : Deeper (List DraftEffect × DraftLead) (deed e) (deed e')
   unfolding deed effects
   deed_wider =
       deeper_seq _ _ _ _ _ _
       (deeper_made _ _ _ _ _ (deeper_maybe _ _ _ (deeper_made _ _ _ _ _ (deeper_seq _ _ _ _ _ _ (same_one _) some_effects_wider))))
-      target_same
+      leading_same
 
   trigger_wider : Deeper (Option TextExpression) (trigger e) (trigger e')
   unfolding trigger
@@ -112,7 +124,7 @@ module _ (e e' : Grows Phrase) (w : Deeper Phrase e e') where
       (deeper_seq _ _ _ _ _ _ (placed_wider e e' w)
       (deeper_maybe _ _ _ (deeper_made _ _ _ _ _ (deeper_seq _ _ _ _ _ _ name_same (placed_wider e e' w))))))))))
 
-  transition_wider : Deeper (DraftTransition × Option DraftDelay) (transition e) (transition e')
+  transition_wider : Deeper (DraftTransition × DraftWay) (transition e) (transition e')
   unfolding transition termination tested
   transition_wider =
       deeper_either _ _ _ _ _
@@ -122,7 +134,7 @@ module _ (e e' : Grows Phrase) (w : Deeper Phrase e e') where
       (deeper_seq _ _ _ _ _ _ (deeper_made _ _ _ _ _ (same_one _))
       (deeper_seq _ _ _ _ _ _ pause_wider (deeper_seq _ _ _ _ _ _ trigger_wider deed_wider))))
 
-  leaving_wider : Deeper (List DraftTransition × List (Option DraftDelay)) (leaving e) (leaving e')
+  leaving_wider : Deeper (List DraftTransition × List DraftWay) (leaving e) (leaving e')
   unfolding leaving transitions
   leaving_wider =
       deeper_made _ _ _ _ _ (deeper_seq _ _ _ _ _ _ (deeper_made _ _ _ _ _ (deeper_many _ _ _ transition_wider)) (same_one _))

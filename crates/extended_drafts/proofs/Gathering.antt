@@ -63,13 +63,13 @@ module _ {A B : Type 0} where
 
 both_assoc : (r s t : DraftRows) → both_rows (both_rows r s) t ≡ both_rows r (both_rows s t)
 both_assoc r s t =
-    ap (λ l. record { entries = l; delays = (r.delays ++ s.delays) ++ t.delays }) (append_assoc r.entries s.entries t.entries)
-    ∙ ap (λ l. record { entries = r.entries ++ (s.entries ++ t.entries); delays = l }) (append_assoc r.delays s.delays t.delays)
+    ap (λ l. record { entries = l; ways = (r.ways ++ s.ways) ++ t.ways }) (append_assoc r.entries s.entries t.entries)
+    ∙ ap (λ l. record { entries = r.entries ++ (s.entries ++ t.entries); ways = l }) (append_assoc r.ways s.ways t.ways)
 
 both_none : (r : DraftRows) → both_rows r (all_rows []) ≡ r
 both_none r =
-    ap (λ l. record { entries = l; delays = r.delays ++ [] }) (append-nil r.entries)
-    ∙ ap (λ l. record { entries = r.entries; delays = l }) (append-nil r.delays)
+    ap (λ l. record { entries = l; ways = r.ways ++ [] }) (append-nil r.entries)
+    ∙ ap (λ l. record { entries = r.entries; ways = l }) (append-nil r.ways)
 
 all_more : (rows : List DraftRows) (r : DraftRows) → both_rows (all_rows rows) r ≡ all_rows (rows ++ r ∷ [])
 all_more [] r = sym (both_none r)

@@ -9,3 +9,6 @@ pub mod Drafting
 pub mod Told
 pub mod Checking
 pub mod ShapedDrafts
+pub mod Leads
+pub mod SimplePlaces
+pub mod Histories

@@ -1,5 +1,5 @@
 -- What reading gives for states and regions, which stand in one another, and for whole extended charts.
-use Rattle.std.proofs.Common.{◌≡◌, ℕ, zero, suc, ◌-◌, Bool, true, false, Option, List, [], ◌∷◌, ◌++◌, length, drop, refl, sym, ◌∙◌, ap, subst, arith}
+use Rattle.std.proofs.Common.{◌≡◌, ℕ, zero, suc, ◌-◌, Bool, true, false, List, [], ◌∷◌, ◌++◌, length, drop, refl, sym, ◌∙◌, ap, subst, arith}
 use Rattle.grammar.specs.Grammar.{one, seq}
 use Rattle.grammar.specs.Read.{Deep, Failed, starts, choose, read}
 use Rattle.sc_text.specs.declared.word.Word.TheVariants as word
@@ -24,7 +24,7 @@ use Rattle.chart_drafts.proofs.Parts.{left_read, right_read, gives_as}
 use Rattle.chart_drafts.proofs.RowReading.{listed_stops}
 use Rattle.extended_drafts.specs.declared.draft.DraftItem.{DraftItem}
 use Rattle.extended_drafts.specs.declared.draft.DraftEntry.{DraftEntry}
-use Rattle.extended_drafts.specs.declared.draft.DraftDelay.{DraftDelay}
+use Rattle.extended_drafts.specs.declared.draft.DraftWay.{DraftWay}
 use Rattle.extended_drafts.specs.declared.draft.DraftRows.{DraftRows}
 use Rattle.extended_drafts.specs.declared.draft.StateBody.{StateBody}
 use Rattle.extended_drafts.specs.declared.draft.ExtendedDraft.{ExtendedDraft}
@@ -137,7 +137,7 @@ abbrev regions_of : ℕ → Grows (List DraftRegion × DraftRows)
 regions_of n = rowed (region e0 (within e0 n))
 
 abbrev Ways : Type 0
-Ways = List DraftTransition × List (Option DraftDelay)
+Ways = List DraftTransition × List DraftWay
 
 module _ (text : List Token) where
   is_bare : (n : ℕ) → starts text_tokens (the_word word.Region) text ≡ false → read (inside e0 (within e0 n)) text ≡ read (bare e0) text

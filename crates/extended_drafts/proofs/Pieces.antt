@@ -27,7 +27,9 @@ use Rattle.chart_drafts.proofs.RowReading.{many_goes}
 use Rattle.extended_drafts.specs.declared.draft.DraftEntry.{DraftEntry}
 use Rattle.extended_drafts.specs.declared.draft.DraftCount.{DraftCount}
 use Rattle.extended_drafts.specs.declared.draft.DraftDelay.{DraftDelay}
-use Rattle.extended_drafts.specs.Draft.{entry_of, count_of, delay_of, hold_of, or_next, delayed, ended, parted}
+use Rattle.extended_drafts.specs.declared.draft.DraftLead.{DraftLead}
+use Rattle.extended_drafts.specs.declared.draft.DraftWay.{DraftWay}
+use Rattle.extended_drafts.specs.Draft.{entry_of, count_of, delay_of, hold_of, or_next, way_of, delayed, ended, parted}
 use Rattle.extended_drafts.specs.ExtendedText.{deed, last_effects, entry, entry_first, some_count, counted, some_delay, at_once, waiting, pause}
 use Rattle.extended_drafts.specs.ExtendedText.{pause_first, tested, termination, transition}
 use Rattle.extended_drafts.specs.Inside.{IsGathering}
@@ -156,7 +158,7 @@ module _ (text : List Token) (e : starts text_tokens (the_word word.Immediate) t
 -- ---- transitions
 
 pub tested_made : (text a b c rest : List Token) (m : TransitionKind × ℕ) (w : Bool × Option DraftDelay) (t : Option TextExpression)
-    (x : List DraftEffect × Named) → Gives (read (moment tested_words) text) m a → Gives (read (pause e0) a) w b → Gives (read (trigger e0) b) t c
+    (x : List DraftEffect × DraftLead) → Gives (read (moment tested_words) text) m a → Gives (read (pause e0) a) w b → Gives (read (trigger e0) b) t c
     → Gives (read (deed e0) c) x rest → Gives (read (tested e0) text) (delayed m w t x) rest
 unfolding tested
 tested_made text a b c rest m w t x p q r s =
@@ -164,12 +166,12 @@ tested_made text a b c rest m w t x p q r s =
     (seq_gives (moment tested_words) (seq (pause e0) (seq (trigger e0) (deed e0))) text a rest m (w, (t, x)) p
     (seq_gives (pause e0) (seq (trigger e0) (deed e0)) a b rest w (t, x) q (seq_gives (trigger e0) (deed e0) b c rest t x r s)))
 
-pub termination_made : (text a b rest : List Token) (m : TransitionKind × ℕ) (t : Option TextExpression) (x : List DraftEffect × Named)
+pub termination_made : (text a b rest : List Token) (m : TransitionKind × ℕ) (t : Option TextExpression) (x : List DraftEffect × DraftLead)
     (o : Option DraftDelay) → Gives (read (moment (the_word word.Join)) text) m a → Gives (read (trigger e0) a) t b → Gives (read (deed e0) b) x rest
-    → o ≡ option_map hold_of t → Gives (read (termination e0) text) (transition_of m false None x.0 x.1, o) rest
+    → o ≡ option_map hold_of t → Gives (read (termination e0) text) (transition_of m false None x.0 x.1.target, way_of o x.1) rest
 unfolding termination
 termination_made text a b rest m t x o p q r e =
-    subst (λ z. Gives (read (termination e0) text) (transition_of m false None x.0 x.1, z) rest) (sym e)
+    subst (λ z. Gives (read (termination e0) text) (transition_of m false None x.0 x.1.target, way_of z x.1) rest) (sym e)
     (made_gives (λ x. ended x.0 x.1.0 x.1.1) (seq (moment (the_word word.Join)) (seq (trigger e0) (deed e0))) text (m, (t, x)) rest
     (seq_gives (moment (the_word word.Join)) (seq (trigger e0) (deed e0)) text a rest m (t, x) p (seq_gives (trigger e0) (deed e0) a b rest t x q r)))
 
@@ -182,7 +184,7 @@ module _ (text : List Token) where
   unfolding transition
   is_tested e = right_read (termination e0) (the_word word.Join) (termination_is e0 (expression_is 0)).begins text (tested e0) e
 
-  pub termination_gives : (x : DraftTransition × Option DraftDelay) (rest : List Token) → starts text_tokens (the_word word.Join) text ≡ true
+  pub termination_gives : (x : DraftTransition × DraftWay) (rest : List Token) → starts text_tokens (the_word word.Join) text ≡ true
       → Gives (read (termination e0) text) x rest → Gives (read (transition e0) text) x rest
   termination_gives x rest e r = gives_as _ _ x rest (is_termination e) r
 
@@ -190,7 +192,7 @@ module _ (text : List Token) where
       → Stops end (read (transition e0) text) f
   termination_stops end f e s = stops_as end _ _ f (is_termination e) s
 
-  pub tested_gives : (x : DraftTransition × Option DraftDelay) (rest : List Token) → starts text_tokens (the_word word.Join) text ≡ false
+  pub tested_gives : (x : DraftTransition × DraftWay) (rest : List Token) → starts text_tokens (the_word word.Join) text ≡ false
       → Gives (read (tested e0) text) x rest → Gives (read (transition e0) text) x rest
   tested_gives x rest e r = gives_as _ _ x rest (is_tested e) r
 
@@ -198,11 +200,11 @@ module _ (text : List Token) where
       → Stops end (read (transition e0) text) f
   tested_stops end f e s = stops_as end _ _ f (is_tested e) s
 
-  pub transitions_go : (most : ℕ) (found : List DraftTransition) (delays : List (Option DraftDelay)) → most ≡ length text → found ≡ [] → delays ≡ []
-      → IsGathering (read (many (transition e0)) text) (transition e0) transition_first parted (found, delays) (most - 0) text
-  transitions_go most found delays e f g =
+  pub transitions_go : (most : ℕ) (found : List DraftTransition) (ways : List DraftWay) → most ≡ length text → found ≡ [] → ways ≡ []
+      → IsGathering (read (many (transition e0)) text) (transition e0) transition_first parted (found, ways) (most - 0) text
+  transitions_go most found ways e f g =
       record {
         found = [];
         going = many_goes (transition e0) transition_first (transition_is e0 (expression_is 0)).begins text most [] e refl;
-        is = ap (λ l. (l, delays)) f ∙ ap (λ l. ([], l)) g;
+        is = ap (λ l. (l, ways)) f ∙ ap (λ l. ([], l)) g;
       }

@@ -25,7 +25,7 @@ use Rattle.chart_drafts.specs.Shape.{IsWritable, IsTransitionShaped, IsStateShap
 use Rattle.chart_drafts.proofs.ShapedDrafts.{EachChart, IsNamed, each_any, name_kept, of_it, trigger_kept, moment_kept}
 use Rattle.chart_drafts.proofs.ShapedDrafts.{listed_kept, none_shaped, state_shaped, region_shaped, first_there}
 use Rattle.extended_drafts.specs.declared.draft.DraftEntry.{DraftEntry}
-use Rattle.extended_drafts.specs.declared.draft.DraftDelay.{DraftDelay}
+use Rattle.extended_drafts.specs.declared.draft.DraftWay.{DraftWay}
 use Rattle.extended_drafts.specs.declared.draft.DraftRows.{DraftRows}
 use Rattle.extended_drafts.specs.declared.draft.StateBody.{StateBody}
 use Rattle.extended_drafts.specs.declared.draft.ExtendedDraft.{ExtendedDraft}
@@ -47,10 +47,10 @@ use Rattle.extended_drafts.specs.Shape.{transitions_in_state, IsExtendedShaped}
 
 -- the rows are as many as is counted
 abbrev Fit : {A : Type 0} → (A → ℕ) → (A → ℕ) → A → DraftRows → Type 0
-Fit f g x r = (length r.entries ≡ f x) × (length r.delays ≡ g x)
+Fit f g x r = (length r.entries ≡ f x) × (length r.ways ≡ g x)
 
 abbrev AllFit : {A : Type 0} → (A → ℕ) → (A → ℕ) → List A → DraftRows → Type 0
-AllFit f g xs r = (length r.entries ≡ total (map f xs)) × (length r.delays ≡ total (map g xs))
+AllFit f g xs r = (length r.entries ≡ total (map f xs)) × (length r.ways ≡ total (map g xs))
 
 both_lengths : {X : Type 0} (xs ys : List X) (m n : ℕ) → length xs ≡ m → length ys ≡ n → length (xs ++ ys) ≡ m + n
 both_lengths xs ys m n e f = length-append xs ys ∙ ap (λ k. k + length ys) e ∙ ap (λ k. m + k) f
@@ -60,7 +60,7 @@ module _ {A : Type 0} (f g : A → ℕ) where
   gathered_fit [] e = (refl, refl)
   gathered_fit (x ∷ xs) e =
       let rest = gathered_fit xs e.1 in
-      (both_lengths x.1.entries _ _ _ e.0.0 rest.0, both_lengths x.1.delays _ _ _ e.0.1 rest.1)
+      (both_lengths x.1.entries _ _ _ e.0.0 rest.0, both_lengths x.1.ways _ _ _ e.0.1 rest.1)
 
   module _ (P : A → Type 0) where
     firsts : (xs : List (A × DraftRows)) → Every (λ x. P x.0 × Fit f g x.0 x.1) xs → Every (λ x. P x.0) xs
@@ -155,7 +155,7 @@ module _ (e : Grows Phrase) (w : EachChart e CanWrite) where
   same_length [] = refl
   same_length (x ∷ xs) = ap suc (same_length xs)
 
-  abbrev WaysKept : List DraftTransition × List (Option DraftDelay) → Type 0
+  abbrev WaysKept : List DraftTransition × List DraftWay → Type 0
   WaysKept x = Every IsTransitionShaped x.0 × (length x.1 ≡ length x.0)
 
   leaving_kept : EachChart (leaving e) WaysKept
@@ -176,7 +176,7 @@ module _ (e : Grows Phrase) (w : EachChart e CanWrite) where
   -- what is in a state
   abbrev BodyKept : ℕ → StateBody → Type 0
   BodyKept n b =
-      AreRegionsShaped n b.regions × AllFit states_in_region transitions_in_region b.regions b.rows × WaysKept (b.transitions, b.delays)
+      AreRegionsShaped n b.regions × AllFit states_in_region transitions_in_region b.regions b.rows × WaysKept (b.transitions, b.ways)
 
   data Fits : ℕ → Inner → Type 1 where
     none_more : Fits zero NoMore
@@ -217,7 +217,7 @@ module _ (e : Grows Phrase) (w : EachChart e CanWrite) where
       let ways : transitions_in_state s ≡ total (map transitions_in_region b.regions) + length b.transitions =
       fold_out-DraftState ℕ ℕ in_states transition_count s ∙ ap (λ o. total (map transitions_in_region o.regions) + length o.transitions) is in (
         state_shaped e w n is_initial is_final called (b.regions, b.transitions) h (k.0, k.2.0),
-        (ap suc k.1.0 ∙ sym states, both_lengths b.rows.delays b.delays _ _ k.1.1 k.2.1 ∙ sym ways),
+        (ap suc k.1.0 ∙ sym states, both_lengths b.rows.ways b.ways _ _ k.1.1 k.2.1 ∙ sym ways),
       )
 
   state_kept : (n : ℕ) (i : Inner) → Fits n i → EachChart (state e i) (StateKept n)
@@ -317,7 +317,7 @@ module _ (e : Grows Phrase) (w : EachChart e CanWrite) where
             };
         items = refl;
         entries = h.1.1.1.1.1.0;
-        delays = h.1.1.1.1.1.1;
+        ways = h.1.1.1.1.1.1;
       })
 
 text_kept : EachChart (extended_text 0) IsExtendedShaped

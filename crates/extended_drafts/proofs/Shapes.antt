@@ -10,11 +10,11 @@ use Rattle.sc_text.specs.Expression.{expression}
 use Rattle.sc_text.proofs.Shapes.{expression_tails, expression_is}
 use Rattle.chart_drafts.specs.declared.draft.DraftRegion.{DraftRegion}
 use Rattle.chart_drafts.specs.ChartText.{Grows, the_word, the_sign, roles, kinds, last_name, tested_words, transition_first, state_first}
-use Rattle.chart_drafts.proofs.Shapes.{IsExpression, leaving_first, name_is, flag_is, target_is, placed_is, trigger_is}
+use Rattle.chart_drafts.proofs.Shapes.{IsExpression, leaving_first, name_is, flag_is, placed_is, trigger_is}
 use Rattle.extended_drafts.specs.declared.draft.DraftRows.{DraftRows}
 use Rattle.extended_drafts.specs.ExtendedText.{item_first, item_value, last_value, typed, signalled, bare_signal, plain_body, worded_body, plain, worded, item}
 use Rattle.extended_drafts.specs.ExtendedText.{combining_signs, combining, combined, becoming, emitting, effect_end, effect, next_effect, some_effects}
-use Rattle.extended_drafts.specs.ExtendedText.{effects, deed, last_effects, entry, entry_first}
+use Rattle.extended_drafts.specs.ExtendedText.{effects, two_names, two_more, lead, last_lead, leading, deed, last_effects, entry, entry_first}
 use Rattle.extended_drafts.specs.ExtendedText.{some_count, counted, some_delay, at_once, waiting, pause, pause_first, tested, termination}
 use Rattle.extended_drafts.specs.ExtendedText.{transition, transitions, leaving, Inner, NoMore, Nested, rowed, bare, nested, inside, simple, acting, body}
 use Rattle.extended_drafts.specs.ExtendedText.{state, region, within, parts, extended, extended_text}
@@ -43,6 +43,24 @@ bare_signal_is = shaped_made _ _ _ _ _ _ _ last_name_is
 pub at_once_is : Shaped at_once false (the_word word.Immediate) []
 unfolding at_once
 at_once_is = shaped_made _ _ _ _ _ _ _ (shaped_one _ refl)
+
+-- ---- where transitions lead
+
+pub two_names_are : Shaped two_names false (AName ∷ []) []
+unfolding two_names
+two_names_are = shaped_seq _ _ _ _ _ _ _ _ _ _ name_is name_is refl
+
+lead_is : Shaped lead false (AName ∷ []) (AName ∷ [])
+unfolding lead two_more
+lead_is = shaped_made _ _ _ _ _ _ _ (shaped_seq _ _ _ _ _ _ _ _ _ _ name_is (shaped_maybe _ _ _ _ two_names_are) refl)
+
+leading_is : Shaped leading false (the_sign sign.Arrow) []
+unfolding leading last_lead
+leading_is =
+    shaped_made _ _ _ _ _ _ _
+    (shaped_seq _ _ _ _ _ _ _ _ _ _ (shaped_one _ refl)
+    (shaped_made _ _ _ _ _ _ _ (shaped_seq _ _ _ _ _ _ _ _ _ _ lead_is (shaped_one _ refl) refl))
+    refl)
 
 module _ (e : Grows Phrase) (h : IsExpression e) where
   value_is : Shaped (item_value e) true (the_sign sign.Becomes) (TheSign sign.Becomes ∷ expression_tails)
@@ -121,7 +139,7 @@ module _ (e : Grows Phrase) (h : IsExpression e) where
       (shaped_made _ _ _ _ _ _ _
       (shaped_maybe _ _ _ _
       (shaped_made _ _ _ _ _ _ _ (shaped_seq _ _ _ _ _ _ _ _ _ _ (shaped_one _ refl) some_effects_are refl))))
-      target_is refl
+      leading_is refl
 
   -- ---- actions and transitions
 

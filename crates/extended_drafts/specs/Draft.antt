@@ -32,6 +32,8 @@ use Rattle.extended_drafts.specs.declared.draft.DraftEntry.{DraftEntry}
 use Rattle.extended_drafts.specs.declared.draft.StateActions.{StateActions}
 use Rattle.extended_drafts.specs.declared.draft.DraftCount.{DraftCount}
 use Rattle.extended_drafts.specs.declared.draft.DraftDelay.{DraftDelay}
+use Rattle.extended_drafts.specs.declared.draft.DraftLead.{DraftLead}
+use Rattle.extended_drafts.specs.declared.draft.DraftWay.{DraftWay}
 use Rattle.extended_drafts.specs.declared.draft.DraftRows.{DraftRows}
 use Rattle.extended_drafts.specs.declared.draft.StateBody.{StateBody}
 use Rattle.extended_drafts.specs.declared.draft.ExtendedDraft.{ExtendedDraft}
@@ -110,23 +112,31 @@ abbrev pub or_next : Option (Bool × Option DraftDelay) → Bool × Option Draft
 or_next None = (false, None)
 or_next (Some pause) = pause
 
-abbrev pub delayed : TransitionKind × ℕ → Bool × Option DraftDelay → Option TextExpression → List DraftEffect × Named → DraftTransition × Option DraftDelay
-delayed moment pause trigger deed = (transition_of moment pause.0 trigger deed.0 deed.1, pause.1)
+-- where a transition leads: to its one name, or behind two words to the last of three
+abbrev pub lead_of : Named → Option (Named × Named) → DraftLead
+lead_of n None = record { history = None; target = n }
+lead_of word (Some more) = record { history = Some (record { shallow = word; history = more.0 }); target = more.1 }
+
+abbrev pub way_of : Option DraftDelay → DraftLead → DraftWay
+way_of delay lead = record { delay = delay; history = lead.history }
+
+abbrev pub delayed : TransitionKind × ℕ → Bool × Option DraftDelay → Option TextExpression → List DraftEffect × DraftLead → DraftTransition × DraftWay
+delayed moment pause trigger deed = (transition_of moment pause.0 trigger deed.0 deed.1.target, way_of pause.1 deed.1)
 
 -- the trigger of a termination, which has no word before it
 abbrev pub hold_of : TextExpression → DraftDelay
 hold_of trigger = record { word = None; until = trigger; count = None }
 
-abbrev pub ended : TransitionKind × ℕ → Option TextExpression → List DraftEffect × Named → DraftTransition × Option DraftDelay
-ended moment trigger deed = (transition_of moment false None deed.0 deed.1, option_map hold_of trigger)
+abbrev pub ended : TransitionKind × ℕ → Option TextExpression → List DraftEffect × DraftLead → DraftTransition × DraftWay
+ended moment trigger deed = (transition_of moment false None deed.0 deed.1.target, way_of (option_map hold_of trigger) deed.1)
 
 -- ---- rows
 
 abbrev pub no_rows : DraftRows
-no_rows = record { entries = []; delays = [] }
+no_rows = record { entries = []; ways = [] }
 
 abbrev pub both_rows : DraftRows → DraftRows → DraftRows
-both_rows r s = record { entries = r.entries ++ s.entries; delays = r.delays ++ s.delays }
+both_rows r s = record { entries = r.entries ++ s.entries; ways = r.ways ++ s.ways }
 
 abbrev pub all_rows : List DraftRows → DraftRows
 all_rows [] = no_rows
@@ -142,14 +152,14 @@ parted parts = (map (λ x. x.0) parts, map (λ x. x.1) parts)
 
 -- ---- states, regions and charts
 
-abbrev pub body_of : List DraftRegion × DraftRows → List DraftTransition × List (Option DraftDelay) → StateBody
+abbrev pub body_of : List DraftRegion × DraftRows → List DraftTransition × List DraftWay → StateBody
 body_of regions transitions =
-    record { regions = regions.0; rows = regions.1; transitions = transitions.0; delays = transitions.1 }
+    record { regions = regions.0; rows = regions.1; transitions = transitions.0; ways = transitions.1 }
 
 -- a state begins before what is in it
 abbrev pub state_rows : Bool → List DraftEntry → StateBody → DraftRows
 state_rows is_final entries b =
-    record { entries = actions_of is_final entries b.transitions ∷ b.rows.entries; delays = b.rows.delays ++ b.delays }
+    record { entries = actions_of is_final entries b.transitions ∷ b.rows.entries; ways = b.rows.ways ++ b.ways }
 
 abbrev pub state_with : Bool → Bool → Named → List DraftEntry × StateBody → DraftState × DraftRows
 state_with is_initial is_final n body =

@@ -10,9 +10,10 @@
 --   state       = [ "initial" ] [ "final" ] "state" name ( ";" | "{" { entry } inside )
 --   entry       = [ "immediate" ] word [ "if" expression ] "do" effect { "," effect } ";"
 --   inside      = [ region { region } ] { transition } "}"
---   transition  = ( "go" | "strong" | "weak" ) [ "immediate" | delay ] [ "if" expression ] [ effects ] "->" name ";"
---               | "join" [ "if" expression ] [ effects ] "->" name ";"
+--   transition  = ( "go" | "strong" | "weak" ) [ "immediate" | delay ] [ "if" expression ] [ effects ] "->" lead ";"
+--               | "join" [ "if" expression ] [ effects ] "->" lead ";"
 --   delay       = word expression [ word expression ]
+--   lead        = name | word word name
 --   effects     = "do" effect { "," effect }
 --   effect      = name ( "=" expression | ( "+" | "-" | "*" ) "=" expression | name )
 use Rattle.std.specs.Prelude.{ℕ, zero, suc, ◌+◌, Bool, true, false, Option, Some, None, List, [], ◌∷◌}
@@ -31,7 +32,7 @@ use Rattle.chart_drafts.specs.declared.draft.DraftEffect.{DraftEffect}
 use Rattle.chart_drafts.specs.declared.draft.DraftTransition.{DraftTransition}
 use Rattle.chart_drafts.specs.declared.draft.DraftRegion.{DraftRegion}
 use Rattle.chart_drafts.specs.declared.draft.DraftState.{DraftState}
-use Rattle.chart_drafts.specs.ChartText.{Grows, the_word, the_sign, name, last_name, declared_role, declared_kind, placed, target, trigger, moment}
+use Rattle.chart_drafts.specs.ChartText.{Grows, the_word, the_sign, name, last_name, declared_role, declared_kind, placed, trigger, moment}
 use Rattle.chart_drafts.specs.ChartText.{tested_words, flag, listed, braced}
 use Rattle.extended_drafts.specs.declared.draft.ItemBody.{ItemBody}
 use Rattle.extended_drafts.specs.declared.draft.DraftItem.{DraftItem}
@@ -41,11 +42,13 @@ use Rattle.extended_drafts.specs.declared.draft.EffectEnd.TheVariants as ends
 use Rattle.extended_drafts.specs.declared.draft.DraftEntry.{DraftEntry}
 use Rattle.extended_drafts.specs.declared.draft.DraftCount.{DraftCount}
 use Rattle.extended_drafts.specs.declared.draft.DraftDelay.{DraftDelay}
+use Rattle.extended_drafts.specs.declared.draft.DraftLead.{DraftLead}
+use Rattle.extended_drafts.specs.declared.draft.DraftWay.{DraftWay}
 use Rattle.extended_drafts.specs.declared.draft.DraftRows.{DraftRows}
 use Rattle.extended_drafts.specs.declared.draft.StateBody.{StateBody}
 use Rattle.extended_drafts.specs.declared.draft.ExtendedDraft.{ExtendedDraft}
 use Rattle.extended_drafts.specs.Draft.{typed_body, signal_body, plain_item, worded_item, combined_by, combination, effect_with, entry_of, count_of, delay_of}
-use Rattle.extended_drafts.specs.Draft.{or_next, delayed, ended, no_rows}
+use Rattle.extended_drafts.specs.Draft.{or_next, lead_of, delayed, ended, no_rows}
 use Rattle.extended_drafts.specs.Draft.{gathered, parted, body_of, state_with, region_with, draft_of}
 
 -- ---- items
@@ -134,9 +137,26 @@ some_effects e = listed (effect e) (next_effect e)
 unfoldable pub effects : Grows Phrase → Grows (List DraftEffect)
 effects e = made or_none (maybe (after (the_word word.Do) (some_effects e)))
 
+-- ---- where transitions lead
+
+unfoldable pub two_names : Grows (Named × Named)
+two_names = seq name name
+
+unfoldable pub two_more : Grows (Option (Named × Named))
+two_more = maybe two_names
+
+unfoldable pub lead : Grows DraftLead
+lead = made (λ x. lead_of x.0 x.1) (seq name two_more)
+
+unfoldable pub last_lead : Grows DraftLead
+last_lead = before lead (the_sign sign.Semicolon)
+
+unfoldable pub leading : Grows DraftLead
+leading = after (the_sign sign.Arrow) last_lead
+
 -- what is done, and where a transition leads
-unfoldable pub deed : Grows Phrase → Grows (List DraftEffect × Named)
-deed e = seq (effects e) target
+unfoldable pub deed : Grows Phrase → Grows (List DraftEffect × DraftLead)
+deed e = seq (effects e) leading
 
 -- ---- actions and transitions
 
@@ -175,22 +195,22 @@ pause e = made or_next (maybe (either at_once (waiting e)))
 abbrev pub pause_first : List Class
 pause_first = TheWord word.Immediate ∷ AName ∷ []
 
-unfoldable pub tested : Grows Phrase → Grows (DraftTransition × Option DraftDelay)
+unfoldable pub tested : Grows Phrase → Grows (DraftTransition × DraftWay)
 tested e =
     made (λ x. delayed x.0 x.1.0 x.1.1.0 x.1.1.1)
     (seq (moment tested_words) (seq (pause e) (seq (trigger e) (deed e))))
 
-unfoldable pub termination : Grows Phrase → Grows (DraftTransition × Option DraftDelay)
+unfoldable pub termination : Grows Phrase → Grows (DraftTransition × DraftWay)
 termination e = made (λ x. ended x.0 x.1.0 x.1.1) (seq (moment (the_word word.Join)) (seq (trigger e) (deed e)))
 
-unfoldable pub transition : Grows Phrase → Grows (DraftTransition × Option DraftDelay)
+unfoldable pub transition : Grows Phrase → Grows (DraftTransition × DraftWay)
 transition e = either (termination e) (tested e)
 
-unfoldable pub transitions : Grows Phrase → Grows (List DraftTransition × List (Option DraftDelay))
+unfoldable pub transitions : Grows Phrase → Grows (List DraftTransition × List DraftWay)
 transitions e = made parted (many (transition e))
 
 -- the transitions of a state, up to the brace that closes it
-unfoldable pub leaving : Grows Phrase → Grows (List DraftTransition × List (Option DraftDelay))
+unfoldable pub leaving : Grows Phrase → Grows (List DraftTransition × List DraftWay)
 leaving e = before (transitions e) (the_sign sign.CloseBrace)
 
 -- ---- states and regions

@@ -28,7 +28,10 @@ use Rattle.extended_drafts.specs.declared.draft.DraftEntry.{DraftEntry}
 use Rattle.extended_drafts.specs.declared.draft.StateActions.{StateActions}
 use Rattle.extended_drafts.specs.declared.draft.DraftCount.{DraftCount}
 use Rattle.extended_drafts.specs.declared.draft.DraftDelay.{DraftDelay}
+use Rattle.extended_drafts.specs.declared.draft.HistoryWords.{HistoryWords}
+use Rattle.extended_drafts.specs.declared.draft.DraftWay.{DraftWay}
 use Rattle.extended_drafts.specs.declared.draft.ExtendedDraft.{ExtendedDraft}
+use Rattle.extended_drafts.specs.Targets.{simple_targets}
 
 -- the flaws of some parts, one part behind the other
 abbrev pub joined : List (List Flaw) → List Flaw
@@ -190,6 +193,29 @@ abbrev pub delay_flaws : List Declaration → Option DraftDelay → List Flaw
 delay_flaws variables None = []
 delay_flaws variables (Some d) = until_flaws variables d.word d.until ++ count_flaws variables d.count
 
+-- the words before a target that is entered by its history
+abbrev pub words_flaws : Option HistoryWords → List Flaw
+words_flaws None = []
+words_flaws (Some w) = word_flaws (codes "shallow") w.shallow ++ word_flaws (codes "history") w.history
+
+-- what is new of a transition
+abbrev pub way_flaws : List Declaration → DraftWay → List Flaw
+way_flaws variables w = delay_flaws variables w.delay ++ words_flaws w.history
+
+-- no state without regions is entered by its history. Its name stands at this place, or the target is none
+abbrev pub history_flaw : Option HistoryWords → Option ℕ → List Flaw
+history_flaw words None = []
+history_flaw words (Some at) = flaw_if (is_some words) broken.Rule at
+
+abbrev pub history_flaws : List DraftWay → List (Option ℕ) → List Flaw
+history_flaws [] places = []
+history_flaws (w ∷ ways) [] = []
+history_flaws (w ∷ ways) (at ∷ places) = history_flaw w.history at ++ history_flaws ways places
+
+-- what is new of the transitions of these regions
+abbrev pub all_way_flaws : List Declaration → List DraftRegion → List DraftWay → List Flaw
+all_way_flaws variables regions ways = joined (map (way_flaws variables) ways) ++ history_flaws ways (simple_targets regions)
+
 -- ---- names: two underscores inside are of names that reductions make
 
 abbrev pub is_underscore : ℕ → Bool
@@ -232,7 +258,7 @@ new_flaws d =
     word_flaws (codes "extended") d.word
     ++ (joined (map (item_flaws (plain_variables d.items)) d.items)
     ++ (joined (map (entries_flaws d.core.variables (signals d.items)) d.rows.entries)
-    ++ (joined (map (delay_flaws d.core.variables) d.rows.delays)
+    ++ (all_way_flaws d.core.variables d.core.regions d.rows.ways
     ++ (variable_name_flaws d.core.variables
     ++ joined (map (region_inside_flaws (signals d.items)) d.core.regions)))))
 

@@ -1,5 +1,6 @@
 -- What the text of an extended chart keeps by its grammar alone: its core keeps what a chart's text does, and beside it
--- stand as many items, rows of entry actions and delays as it has variables, states and transitions.
+-- stand as many items, and as many rows of actions and of what is new of transitions, as it has variables, states and
+-- transitions.
 use Rattle.std.specs.Prelude.{ℕ, suc, ◌+◌, ◌≡◌, List, [], ◌∷◌, length, map}
 use Rattle.chart_drafts.specs.declared.draft.DraftRegion.{DraftRegion}
 use Rattle.chart_drafts.specs.declared.draft.DraftRegion.TheOpen.{DraftRegion-F, DraftState-F}
@@ -40,4 +41,4 @@ pub record IsExtendedShaped (d : ExtendedDraft) : Type 0 where
   pub core : IsShaped d.core
   pub items : d.core.variables ≡ map (λ x. x.declared) d.items
   pub entries : length d.rows.entries ≡ total (map states_in_region d.core.regions)
-  pub delays : length d.rows.delays ≡ total (map transitions_in_region d.core.regions)
+  pub ways : length d.rows.ways ≡ total (map transitions_in_region d.core.regions)

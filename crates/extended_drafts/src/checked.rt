@@ -11,7 +11,7 @@ use crate::emission_flaws::signals;
 use crate::inside_flaws::regions_inside_flaws;
 use crate::item_flaws::{items_flaws, plain_variables, word_flaws};
 use crate::name_flaws::variable_name_flaws;
-use crate::row_flaws::{all_entries_flaws, delays_flaws};
+use crate::row_flaws::{all_entries_flaws, all_way_flaws};
 use crate::whole::read_extended_draft;
 use chart_drafts::told_flaws;
 use drafts::{Flaw, Scope, first_told};
@@ -74,8 +74,9 @@ fn new_flaws(
         draft.rows.entries.as_slice(),
         found,
     )?;
-    delays_flaws(alloc, &scope, draft.rows.delays.as_slice(), found)?;
+    let regions = draft.core.regions.as_slice();
+    all_way_flaws(alloc, &scope, regions, draft.rows.ways.as_slice(), found)?;
     variable_name_flaws(alloc, draft.core.variables.as_slice(), found)?;
-    regions_inside_flaws(alloc, &signals, draft.core.regions.as_slice(), found)?;
+    regions_inside_flaws(alloc, &signals, regions, found)?;
     Ok(())
 }

@@ -77,21 +77,42 @@ pub struct DraftDelay {
     pub count: Option<DraftCount>,
 }
 
+/// The two words before a target that is entered by its history.
+#[derive(Clone, Copy, Debug)]
+pub struct HistoryWords {
+    pub shallow: Named,
+    pub history: Named,
+}
+
+/// Where a transition leads, and the words before that where it is entered by its history.
+#[derive(Clone, Copy, Debug)]
+pub struct DraftLead {
+    pub history: Option<HistoryWords>,
+    pub target: Named,
+}
+
+/// What is new of a transition: what it waits for, and the words by which its target is entered by its history.
+#[derive(Debug, Drop)]
+pub struct DraftWay {
+    pub delay: Option<DraftDelay>,
+    pub history: Option<HistoryWords>,
+}
+
 /// What is new in states and transitions: a row of actions for each state, in the order in which states begin in the
-/// text, and what each transition waits for, in the order of the text.
+/// text, and one for each transition, in the order of the text.
 #[derive(Debug, Drop)]
 pub struct DraftRows {
     pub entries: Items<StateActions>,
-    pub delays: Items<Option<DraftDelay>>,
+    pub ways: Items<DraftWay>,
 }
 
-/// What is in a state behind its actions: its regions with their rows, its transitions, and what they wait for.
+/// What is in a state behind its actions: its regions with their rows, its transitions, and what is new of these.
 #[derive(Debug, Drop)]
 pub struct StateBody {
     pub regions: Items<DraftRegion>,
     pub rows: DraftRows,
     pub transitions: Items<DraftTransition>,
-    pub delays: Items<Option<DraftDelay>>,
+    pub ways: Items<DraftWay>,
 }
 
 /// An extended chart: the word before `chart`, the chart without what is new, an item for each of its variables, and

@@ -4,14 +4,13 @@ ghost use Rattle.std.specs.Prelude.{◌≡◌, IfOk, MatchResult};
 ghost use Rattle.grammar.specs.Read.{read, starts};
 ghost use Rattle.sc_text.specs.Expression.{text_tokens, expression};
 ghost use Rattle.sc_text.specs.Reading.{Stops};
-ghost use Rattle.chart_drafts.specs.ChartText.{target};
 ghost use Rattle.chart_drafts.specs.Phrase.{Gives};
 ghost use Rattle.extended_drafts.specs.Draft.{emitted, combined_by, combined, effect_with};
 ghost use Rattle.extended_drafts.specs.ExtendedText.{combining_signs, combiner, equals, combining};
 ghost use Rattle.extended_drafts.specs.ExtendedText.{effect_end, effect, next_effect, some_effects, effects, deed};
 
-use crate::draft::{CompoundSign, EffectEnd};
-use crate::words::last_name;
+use crate::draft::{CompoundSign, DraftLead, EffectEnd};
+use crate::targets::leading;
 use chart_drafts::DraftEffect;
 use chart_drafts::text_parts::{Ahead, name, placed, skip_sign, value};
 use drafts::{Named, TextExpression};
@@ -228,29 +227,18 @@ fn effects(alloc: Global, ahead: &mut Ahead, end: usize) -> Result<Items<DraftEf
     Ok(effects)
 }
 
-#[tactic(auto, using(chart_drafts::proofs::Parts::after_stops_first, chart_drafts::proofs::Parts::after_stops_second, chart_drafts::proofs::Parts::after_gives), unfolding(chart_drafts::specs::ChartText::target))]
-fn target(ahead: &mut Ahead, end: usize) -> Result<Named, ReadFault>
-    ensures { MatchResult result
-        (λ x. Gives (read target ahead.old.tokens.now) x ahead.new.tokens.now)
-        (λ fault. Stops end (read target ahead.old.tokens.now) fault) }
-{
-    skip_sign(ahead, end, Sign::Arrow)?;
-    let target = last_name(ahead, end)?;
-    Ok(target)
-}
-
 /// What is done, and where a transition leads.
 #[tactic(auto, using(chart_drafts::proofs::Parts::seq_stops_first, chart_drafts::proofs::Parts::seq_stops_second, chart_drafts::proofs::Parts::seq_gives), unfolding(crate::specs::ExtendedText::deed))]
 pub(crate) fn deed(
     alloc: Global,
     ahead: &mut Ahead,
     end: usize,
-) -> Result<(Items<DraftEffect>, Named), ReadFault>
+) -> Result<(Items<DraftEffect>, DraftLead), ReadFault>
     ensures { MatchResult result
         (λ x. Gives (read (deed (expression 0)) ahead.old.tokens.now) x ahead.new.tokens.now)
         (λ fault. Stops end (read (deed (expression 0)) ahead.old.tokens.now) fault) }
 {
     let effects = effects(alloc, ahead, end)?;
-    let target = target(ahead, end)?;
-    Ok((effects, target))
+    let lead = leading(ahead, end)?;
+    Ok((effects, lead))
 }

@@ -6,6 +6,7 @@ mod draft;
 mod effects;
 mod emission_flaws;
 mod entries;
+mod history_flaws;
 mod inside_flaws;
 mod item_flaws;
 mod items;
@@ -14,14 +15,16 @@ mod name_flaws;
 mod regions;
 mod row_flaws;
 mod rows;
+mod simple_targets;
+mod targets;
 mod transitions;
 mod whole;
 mod words;
 
 pub use checked::{extended_told_flaws, read_checked_extended};
 pub use draft::{
-    CompoundSign, DraftCount, DraftDelay, DraftEntry, DraftItem, DraftRows, EffectEnd,
-    ExtendedDraft, ItemBody, StateActions, StateBody,
+    CompoundSign, DraftCount, DraftDelay, DraftEntry, DraftItem, DraftLead, DraftRows, DraftWay,
+    EffectEnd, ExtendedDraft, HistoryWords, ItemBody, StateActions, StateBody,
 };
 pub use laws::{extended_drafts_are_shaped, extended_texts_are_told};
 pub use whole::read_extended_draft;

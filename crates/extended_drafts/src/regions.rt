@@ -187,23 +187,23 @@ fn inside(alloc: Global, depth: u8, ahead: &mut Ahead, end: usize) -> Result<Sta
         (λ fault. Stops end (read (inside (expression 0) (within (expression 0) depth)) ahead.old.tokens.now) fault) }
 {
     if !word_follows(ahead.tokens, Word::Region) {
-        let (transitions, delays) = leaving(alloc, ahead, end)?;
+        let (transitions, ways) = leaving(alloc, ahead, end)?;
         return Ok(StateBody {
             regions: Items::new(alloc),
             rows: DraftRows::new(alloc),
             transitions,
-            delays,
+            ways,
         });
     }
     if depth == 0 {
         return Err(too_deep(ahead.tokens, end));
     }
     let (regions, rows) = regions(alloc, depth - 1, ahead, end)?;
-    let (transitions, delays) = leaving(alloc, ahead, end)?;
+    let (transitions, ways) = leaving(alloc, ahead, end)?;
     Ok(StateBody {
         regions,
         rows,
         transitions,
-        delays,
+        ways,
     })
 }

@@ -1,15 +1,17 @@
-//! What is wrong with actions, and with what transitions wait for.
+//! What is wrong with actions, and with what is new of transitions.
 
 ghost use Rattle.std.specs.Prelude.{◌≡◌, OnOk, map};
 ghost use Rattle.drafts.specs.Told.{told_behind};
 ghost use Rattle.chart_drafts.specs.Flaws.{trigger_flaws};
 ghost use Rattle.extended_drafts.specs.Flaws.{joined, is_action_word, action_word_flaws, during_flaws, made_flaws};
 ghost use Rattle.extended_drafts.specs.Flaws.{entry_flaws, entries_flaws, until_flaws, count_flaws, delay_flaws};
+ghost use Rattle.extended_drafts.specs.Flaws.{way_flaws, all_way_flaws};
 
-use crate::draft::{DraftCount, DraftDelay, DraftEntry, StateActions};
+use crate::draft::{DraftCount, DraftDelay, DraftEntry, DraftWay, StateActions};
 use crate::emission_flaws::emissions_flaws;
+use crate::history_flaws::{history_flaws, words_flaws};
 use crate::item_flaws::word_flaws;
-use chart_drafts::effect_flaws;
+use chart_drafts::{DraftRegion, effect_flaws};
 use drafts::{Flaw, Named, Scope, TextExpression, note_told};
 use sc_text::FaultKind;
 use sc_values::Kind;
@@ -151,20 +153,50 @@ fn entry_flaws(
     made_flaws(alloc, scope, signals, entry, found)
 }
 
-/// Tells the flaws of what transitions wait for. Err: memory was refused.
-pub(crate) fn delays_flaws(
+/// Tells the flaws of what is new of the transitions of these regions. Err: memory was refused.
+#[tactic(auto, using(drafts::proofs::ToldInOrder::told_both))]
+pub(crate) fn all_way_flaws(
     alloc: Global,
     scope: &Scope,
-    delays: &[Option<DraftDelay>],
+    regions: &[DraftRegion],
+    ways: &[DraftWay],
     found: &mut Items<Flaw>,
 ) -> Result<(), AllocError>
     ensures { OnOk result (found.new ≡ told_behind found.old
-        (joined (map (delay_flaws scope.now.variables.now) delays.now))) }
+        (all_way_flaws scope.now.variables.now regions.now ways.now)) }
 {
-    for delay in delays {
-        delay_flaws(alloc, scope, delay, found)?;
+    each_way_flaws(alloc, scope, ways, found)?;
+    history_flaws(alloc, regions, ways, found)
+}
+
+fn each_way_flaws(
+    alloc: Global,
+    scope: &Scope,
+    ways: &[DraftWay],
+    found: &mut Items<Flaw>,
+) -> Result<(), AllocError>
+    ensures { OnOk result (found.new ≡ told_behind found.old
+        (joined (map (way_flaws scope.now.variables.now) ways.now))) }
+{
+    for way in ways {
+        way_flaws(alloc, scope, way, found)?;
     }
     Ok(())
+}
+
+// The flaws of what is new of one transition.
+#[tactic(auto, using(drafts::proofs::ToldInOrder::told_both))]
+fn way_flaws(
+    alloc: Global,
+    scope: &Scope,
+    way: &DraftWay,
+    found: &mut Items<Flaw>,
+) -> Result<(), AllocError>
+    ensures { OnOk result (found.new ≡ told_behind found.old
+        (way_flaws scope.now.variables.now way.now)) }
+{
+    delay_flaws(alloc, scope, &way.delay, found)?;
+    words_flaws(alloc, way.history, found)
 }
 
 #[tactic(auto, using(drafts::proofs::ToldInOrder::told_both))]

@@ -3,7 +3,7 @@
 ghost use Rattle.std.specs.Prelude.{◌≡◌, [], ◌∷◌, ◌++◌, IfOk, OnOk};
 ghost use Rattle.extended_drafts.specs.Draft.{no_rows, both_rows, body_of, has_join, actions_of, state_with};
 
-use crate::draft::{DraftDelay, DraftEntry, DraftRows, StateActions, StateBody};
+use crate::draft::{DraftEntry, DraftRows, DraftWay, StateActions, StateBody};
 use chart_drafts::{DraftState, DraftTransition};
 use drafts::Named;
 use sqlite_items::Items;
@@ -16,7 +16,7 @@ impl DraftRows {
     {
         DraftRows {
             entries: Items::new(alloc),
-            delays: Items::new(alloc),
+            ways: Items::new(alloc),
         }
     }
 
@@ -24,9 +24,9 @@ impl DraftRows {
     pub(crate) fn append(&mut self, more: DraftRows) -> Result<(), AllocError>
         ensures { OnOk result (self.new ≡ both_rows self.old more) }
     {
-        let DraftRows { entries, delays } = more;
+        let DraftRows { entries, ways } = more;
         self.entries.append(entries)?;
-        self.delays.append(delays)
+        self.ways.append(ways)
     }
 }
 
@@ -39,7 +39,7 @@ impl StateBody {
             regions: Items::new(alloc),
             rows: DraftRows::new(alloc),
             transitions: Items::new(alloc),
-            delays: Items::new(alloc),
+            ways: Items::new(alloc),
         }
     }
 }
@@ -59,10 +59,10 @@ pub(crate) fn state_with(
         regions,
         rows,
         transitions,
-        delays,
+        ways,
     } = inside;
     let own = actions_of(is_final, own, transitions.as_slice());
-    let rows = with_own(alloc, own, rows, delays)?;
+    let rows = with_own(alloc, own, rows, ways)?;
     let state = DraftState {
         is_initial,
         is_final,
@@ -93,26 +93,23 @@ fn actions_of(
     StateActions { entries, may_last }
 }
 
-// The rows of what is in a state, behind its own actions, with what its transitions wait.
+// The rows of what is in a state, behind its own actions, and those of its transitions.
 fn with_own(
     alloc: Global,
     own: StateActions,
     inside: DraftRows,
-    waits: Items<Option<DraftDelay>>,
+    own_ways: Items<DraftWay>,
 ) -> Result<DraftRows, AllocError>
     ensures { IfOk result (λ rows. rows ≡
-        record { entries = own ∷ inside.entries; delays = inside.delays ++ waits }) }
+        record { entries = own ∷ inside.entries; ways = inside.ways ++ own_ways }) }
 {
     let DraftRows {
         entries: inner,
-        delays: mut all,
+        ways: mut all,
     } = inside;
     let mut entries = Items::new(alloc);
     entries.push(own)?;
     entries.append(inner)?;
-    all.append(waits)?;
-    Ok(DraftRows {
-        entries,
-        delays: all,
-    })
+    all.append(own_ways)?;
+    Ok(DraftRows { entries, ways: all })
 }

@@ -1,4 +1,4 @@
-//! Reading transitions with what they wait for.
+//! Reading transitions with what is new of them.
 
 ghost use Rattle.std.specs.Prelude.{◌≡◌, MatchResult, option_map};
 ghost use Rattle.grammar.specs.Read.{read, starts};
@@ -10,7 +10,7 @@ ghost use Rattle.extended_drafts.specs.Draft.{hold_of};
 ghost use Rattle.extended_drafts.specs.ExtendedText.{some_count, counted, some_delay, pause, tested, termination};
 ghost use Rattle.extended_drafts.specs.ExtendedText.{transition, transitions, leaving};
 
-use crate::draft::{DraftCount, DraftDelay};
+use crate::draft::{DraftCount, DraftDelay, DraftWay};
 use crate::effects::deed;
 use crate::words::{join_word, name_follows};
 use chart_drafts::DraftTransition;
@@ -91,7 +91,7 @@ fn tested(
     alloc: Global,
     ahead: &mut Ahead,
     end: usize,
-) -> Result<(DraftTransition, Option<DraftDelay>), ReadFault>
+) -> Result<(DraftTransition, DraftWay), ReadFault>
     ensures { MatchResult result
         (λ x. Gives (read (tested (expression 0)) ahead.old.tokens.now) x ahead.new.tokens.now)
         (λ fault. Stops end (read (tested (expression 0)) ahead.old.tokens.now) fault) }
@@ -99,16 +99,20 @@ fn tested(
     let (kind, at) = tested_word(ahead, end)?;
     let (immediate, delay) = pause(alloc, ahead, end)?;
     let trigger = trigger(alloc, ahead, end)?;
-    let (effects, target) = deed(alloc, ahead, end)?;
+    let (effects, lead) = deed(alloc, ahead, end)?;
     let transition = DraftTransition {
         kind,
         at,
         immediate,
         trigger,
         effects,
-        target,
+        target: lead.target,
     };
-    Ok((transition, delay))
+    let way = DraftWay {
+        delay,
+        history: lead.history,
+    };
+    Ok((transition, way))
 }
 
 // The trigger of a termination, for which it waits.
@@ -130,24 +134,28 @@ fn termination(
     alloc: Global,
     ahead: &mut Ahead,
     end: usize,
-) -> Result<(DraftTransition, Option<DraftDelay>), ReadFault>
+) -> Result<(DraftTransition, DraftWay), ReadFault>
     ensures { MatchResult result
         (λ x. Gives (read (termination (expression 0)) ahead.old.tokens.now) x ahead.new.tokens.now)
         (λ fault. Stops end (read (termination (expression 0)) ahead.old.tokens.now) fault) }
 {
     let (kind, at) = join_word(ahead, end)?;
     let trigger = trigger(alloc, ahead, end)?;
-    let (effects, target) = deed(alloc, ahead, end)?;
-    let hold = hold_of(trigger);
+    let (effects, lead) = deed(alloc, ahead, end)?;
+    let delay = hold_of(trigger);
     let ends = DraftTransition {
         kind,
         at,
         immediate: false,
         trigger: None,
         effects,
-        target,
+        target: lead.target,
     };
-    Ok((ends, hold))
+    let way = DraftWay {
+        delay,
+        history: lead.history,
+    };
+    Ok((ends, way))
 }
 
 #[tactic(auto, using(crate::proofs::Pieces::termination_stops, crate::proofs::Pieces::termination_gives, crate::proofs::Pieces::tested_stops, crate::proofs::Pieces::tested_gives))]
@@ -155,7 +163,7 @@ fn transition(
     alloc: Global,
     ahead: &mut Ahead,
     end: usize,
-) -> Result<(DraftTransition, Option<DraftDelay>), ReadFault>
+) -> Result<(DraftTransition, DraftWay), ReadFault>
     ensures { MatchResult result
         (λ x. Gives (read (transition (expression 0)) ahead.old.tokens.now) x ahead.new.tokens.now)
         (λ fault. Stops end (read (transition (expression 0)) ahead.old.tokens.now) fault) }
@@ -179,37 +187,37 @@ fn transitions(
     alloc: Global,
     ahead: &mut Ahead,
     end: usize,
-) -> Result<(Items<DraftTransition>, Items<Option<DraftDelay>>), ReadFault>
+) -> Result<(Items<DraftTransition>, Items<DraftWay>), ReadFault>
     ensures { MatchResult result
         (λ x. Gives (read (transitions (expression 0)) ahead.old.tokens.now) x ahead.new.tokens.now)
         (λ fault. Stops end (read (transitions (expression 0)) ahead.old.tokens.now) fault) }
 {
     let mut found = Items::new(alloc);
-    let mut delays = Items::new(alloc);
+    let mut ways = Items::new(alloc);
     let most = ahead.tokens.len();
     for used in 0..most {
         if !transition_follows(ahead.tokens) {
-            return Ok((found, delays));
+            return Ok((found, ways));
         }
-        let (next, delay) = transition(alloc, ahead, end)?;
+        let (next, way) = transition(alloc, ahead, end)?;
         found.push(next)?;
-        delays.push(delay)?;
+        ways.push(way)?;
     }
-    Ok((found, delays))
+    Ok((found, ways))
 }
 
-/// The transitions of a state with what they wait for, up to the brace that closes it.
+/// The transitions of a state with what is new of them, up to the brace that closes it.
 #[tactic(auto, using(chart_drafts::proofs::Parts::before_stops_first, chart_drafts::proofs::Parts::before_stops_second, chart_drafts::proofs::Parts::before_gives), unfolding(crate::specs::ExtendedText::leaving))]
 pub(crate) fn leaving(
     alloc: Global,
     ahead: &mut Ahead,
     end: usize,
-) -> Result<(Items<DraftTransition>, Items<Option<DraftDelay>>), ReadFault>
+) -> Result<(Items<DraftTransition>, Items<DraftWay>), ReadFault>
     ensures { MatchResult result
         (λ x. Gives (read (leaving (expression 0)) ahead.old.tokens.now) x ahead.new.tokens.now)
         (λ fault. Stops end (read (leaving (expression 0)) ahead.old.tokens.now) fault) }
 {
-    let (transitions, delays) = transitions(alloc, ahead, end)?;
+    let (transitions, ways) = transitions(alloc, ahead, end)?;
     skip_sign(ahead, end, Sign::CloseBrace)?;
-    Ok((transitions, delays))
+    Ok((transitions, ways))
 }

@@ -112,7 +112,7 @@ fn parts(
         (λ x. Gives (read (parts (expression 0) (within (expression 0) inner_depth_limit))
         ahead.old.tokens.now) x ahead.new.tokens.now)
         (λ fault. Stops end (read (parts (expression 0) (within (expression 0) inner_depth_limit)) ahead.old.tokens.now)
-            fault) }
+        fault) }
 {
     let items = items(alloc, ahead, end)?;
     let regions = regions(alloc, INNER_LEVELS, ahead, end)?;

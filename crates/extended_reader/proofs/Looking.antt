@@ -1,5 +1,6 @@
 -- What each region and each state of a draft is, its names looked up, and which rows it leaves.
-use Rattle.std.proofs.Common.{◌≡◌, ℕ, true, List, [], ◌∷◌, map, codes, refl, ap, ◌∙◌}
+use Rattle.std.proofs.Common.{◌≡◌, ℕ, true, List, [], ◌∷◌, length, map, codes, refl, ap, ◌∙◌}
+use Rattle.std.proofs.lemmas.List.{length-map}
 use Rattle.chart_drafts.specs.declared.draft.DraftRegion.{DraftRegion}
 use Rattle.chart_drafts.specs.declared.draft.DraftRegion.TheViews.{out-DraftRegion, out-DraftState}
 use Rattle.chart_drafts.specs.declared.draft.DraftRegion.TheFolds.{fold_out-DraftRegion, fold_out-DraftState}
@@ -12,6 +13,9 @@ use Rattle.extended_charts.specs.declared.extended.ExtendedRegion.TheOpen.{Exten
 use Rattle.extended_charts.specs.declared.extended.ExtendedRegion.TheViews.{roll-ExtendedRegion, roll-ExtendedState}
 use Rattle.extended_reader.specs.Resolved.{RegionPiece, StatePiece, region_step, state_step, region_of, state_of, actions_of, durings_of, first_actions}
 use Rattle.extended_reader.specs.Resolved.{behind_state, behind_transitions, behind_regions, behind_states, all_transitions, all_regions, all_states}
+
+pub as_many_names : (states : List DraftState) → length (state_names states) ≡ length states
+as_many_names states = length-map states (λ s. (out-DraftState s).named.name)
 
 module _ (names : List (List ℕ)) where
   piece_is : (s : DraftState) → state_of names s ≡ state_step names (record {

@@ -1,5 +1,5 @@
 -- What the draft of an extended chart keeps where nothing is wrong with it.
-use Rattle.std.proofs.Common.{◌≡◌, ◌≤◌, ℕ, Option, List, [], length, map, refl, ap, sym, subst, ◌∙◌}
+use Rattle.std.proofs.Common.{◌≡◌, ◌≤◌, ℕ, List, [], length, map, refl, ap, sym, subst, ◌∙◌}
 use Rattle.std.proofs.lemmas.List.{length-map}
 use Rattle.sc_values.specs.declared.expression.Expr.{Expr}
 use Rattle.sc_graph.specs.Limits.{variable_limit}
@@ -14,7 +14,8 @@ use Rattle.chart_reader.proofs.Whole as core
 use Rattle.chart_reader.proofs.Narrow as core_regions
 use Rattle.extended_drafts.specs.declared.draft.DraftItem.{DraftItem}
 use Rattle.extended_drafts.specs.declared.draft.StateActions.{StateActions}
-use Rattle.extended_drafts.specs.declared.draft.DraftDelay.{DraftDelay}
+use Rattle.extended_drafts.specs.declared.draft.DraftWay.{DraftWay}
+use Rattle.extended_drafts.specs.declared.draft.DraftRows.{DraftRows}
 use Rattle.extended_drafts.specs.declared.draft.ExtendedDraft.{ExtendedDraft}
 use Rattle.extended_drafts.specs.Flaws.{new_flaws, extended_flaws}
 use Rattle.extended_drafts.specs.Shape.{IsExtendedShaped}
@@ -44,18 +45,23 @@ module _ (d : ExtendedDraft) (none : extended_flaws d ≡ []) (shaped : IsExtend
   pub narrow : (regions : List DraftRegion) → regions ≡ d.core.regions → AreNarrow depth_limit regions
   narrow regions same = core_regions.narrow d.core regions core_flawless shaped.core same
 
+-- regions are made of the rows with which what is left begins
+pub regions_made : (left : DraftRows) (names : List (List ℕ)) (texts : List DraftRegion) (r : List ExtendedRegion) (rows : DraftRows) → left ≡ rows
+    → r ≡ all_regions left (map (region_of names) texts) → r ≡ all_regions rows (map (region_of names) texts)
+regions_made left names texts r rows e m = m ∙ ap (λ x. all_regions x (map (region_of names) texts)) e
+
 -- ---- the parts of the extended chart of a draft, each from what was looked at for it
 
-module _ (d : ExtendedDraft) (I : List DraftItem) (V : List Declaration) (E : List StateActions) (D : List (Option DraftDelay)) (T : List DraftRegion)
-    (of_I : I ≡ d.items) (of_V : V ≡ declarations (sorted I)) (of_E : E ≡ d.rows.entries) (of_D : D ≡ d.rows.delays) (of_T : T ≡ d.core.regions) where
+module _ (d : ExtendedDraft) (I : List DraftItem) (V : List Declaration) (E : List StateActions) (D : List DraftWay) (T : List DraftRegion)
+    (of_I : I ≡ d.items) (of_V : V ≡ declarations (sorted I)) (of_E : E ≡ d.rows.entries) (of_D : D ≡ d.rows.ways) (of_T : T ≡ d.core.regions) where
   names_are : variable_names V ≡ names_of d.items
   names_are = ap variable_names (of_V ∙ ap (λ x. declarations (sorted x)) of_I)
 
-  regions_are : all_regions (record { entries = E; delays = D }) (map (region_of (variable_names V)) T)
+  regions_are : all_regions (record { entries = E; ways = D }) (map (region_of (variable_names V)) T)
       ≡ all_regions d.rows (map (region_of (names_of d.items)) d.core.regions)
   regions_are =
-      ap (λ e. all_regions (record { entries = e; delays = D }) (map (region_of (variable_names V)) T)) of_E
-      ∙ ap (λ e. all_regions (record { entries = d.rows.entries; delays = e }) (map (region_of (variable_names V)) T)) of_D
+      ap (λ e. all_regions (record { entries = e; ways = D }) (map (region_of (variable_names V)) T)) of_E
+      ∙ ap (λ e. all_regions (record { entries = d.rows.entries; ways = e }) (map (region_of (variable_names V)) T)) of_D
       ∙ ap (λ n. all_regions d.rows (map (region_of n) T)) names_are
       ∙ ap (λ t. all_regions d.rows (map (region_of (names_of d.items)) t)) of_T
 
@@ -74,7 +80,7 @@ module _ (d : ExtendedDraft) (I : List DraftItem) (V : List Declaration) (E : Li
       → v ≡ map declared_of (all_of sort.Variable I)
       → s ≡ signal_numbers (variable_names V) I → b ≡ map (before_of (variable_names V)) (all_of sort.Before I)
       → c ≡ map constant_of (all_of sort.Constant I) → o ≡ conditions (variable_names V) D
-      → r ≡ all_regions (record { entries = E; delays = D }) (map (region_of (variable_names V)) T)
+      → r ≡ all_regions (record { entries = E; ways = D }) (map (region_of (variable_names V)) T)
       → chart_with v s b c o r ≡ extended_of d
   chart_is v s b c o r of_v of_s of_b of_c of_o of_r =
       ap (λ x. chart_with x s b c o r) (of_v ∙ ap (λ x. map declared_of (all_of sort.Variable x)) of_I)
@@ -89,4 +95,4 @@ module _ (d : ExtendedDraft) (I : List DraftItem) (V : List Declaration) (E : Li
       (of_o ∙ ap (λ n. conditions n D) names_are ∙ ap (conditions (names_of d.items)) of_D)
       ∙ ap (λ x. chart_with (map declared_of (all_of sort.Variable d.items)) (signal_numbers (names_of d.items) d.items)
       (map (before_of (names_of d.items)) (all_of sort.Before d.items)) (map constant_of (all_of sort.Constant d.items))
-      (conditions (names_of d.items) d.rows.delays) x) (of_r ∙ regions_are)
+      (conditions (names_of d.items) d.rows.ways) x) (of_r ∙ regions_are)

@@ -1,5 +1,5 @@
 -- The conditions of which the transitions of a draft count ticks, in the order of the text; and what a transition asks.
-use Rattle.std.specs.Prelude.{ℕ, pos, ◌-◌, Option, Some, None, List, [], ◌∷◌, ◌++◌, map, length}
+use Rattle.std.specs.Prelude.{ℕ, pos, ◌≡◌, ◌-◌, Option, Some, None, List, [], ◌∷◌, ◌++◌, map, length}
 use Rattle.sc_values.specs.declared.value.Value.TheVariants as value
 use Rattle.sc_values.specs.declared.operator.BinaryOperator.TheVariants as operator
 use Rattle.sc_values.specs.declared.expression.Expr.{Expr}
@@ -7,6 +7,7 @@ use Rattle.sc_values.specs.declared.expression.Expr.TheVariants as expr
 use Rattle.drafts.specs.Resolved.{expression_of}
 use Rattle.extended_drafts.specs.declared.draft.DraftCount.{DraftCount}
 use Rattle.extended_drafts.specs.declared.draft.DraftDelay.{DraftDelay}
+use Rattle.extended_drafts.specs.declared.draft.DraftWay.{DraftWay}
 use Rattle.extended_charts.specs.Reading.{elapsed}
 
 abbrev pub own_count : Option DraftCount → List DraftCount
@@ -17,18 +18,22 @@ abbrev pub own_counts : Option DraftDelay → List DraftCount
 own_counts None = []
 own_counts (Some d) = own_count d.count
 
--- the counts of these delays
-abbrev pub counts_of : List (Option DraftDelay) → List DraftCount
+-- the counts of transitions of which this is new
+abbrev pub counts_of : List DraftWay → List DraftCount
 counts_of [] = []
-counts_of (d ∷ delays) = own_counts d ++ counts_of delays
+counts_of (w ∷ ways) = own_counts w.delay ++ counts_of ways
+
+-- there are so many
+pub record HaveCounts (ways : List DraftWay) (counts : ℕ) : Type 0 where
+  pub many : counts ≡ length (counts_of ways)
 
 -- their conditions, over what has these names
-abbrev pub conditions : (names : List (List ℕ)) → List (Option DraftDelay) → List Expr
-conditions names delays = map (λ c. expression_of names c.condition.operations) (counts_of delays)
+abbrev pub conditions : (names : List (List ℕ)) → List DraftWay → List Expr
+conditions names ways = map (λ c. expression_of names c.condition.operations) (counts_of ways)
 
 -- the number of the first of these counts, where they are the last ones of a chart
-abbrev pub first_number : List (Option DraftDelay) → ℕ
-first_number delays = elapsed - length (counts_of delays)
+abbrev pub first_number : List DraftWay → ℕ
+first_number ways = elapsed - length (counts_of ways)
 
 -- the condition was true in so many ticks, where a number names in how many it was before this one
 abbrev pub counted : (number : ℕ) → (condition ticks : Expr) → Expr

@@ -1,15 +1,16 @@
 -- Which extended chart a draft is once its names are looked up. What stands among the variables is named by its place there,
 -- sorted, and the target of a transition by its place among the states of the region. Each state takes the first row of
--- actions that is left, before what is in it, and each transition the first delay, behind what is in its state; and its count is
--- the first of those that are left.
-use Rattle.std.specs.Prelude.{ℕ, true, Option, Some, None, List, [], ◌∷◌, ◌++◌, map, codes, option_map, if◌then◌else◌}
+-- actions that is left, before what is in it, and each transition the first row of what is new of it, behind what is in its
+-- state; and its count is the first of those that are left.
+use Rattle.std.specs.Prelude.{ℕ, ◌+◌, Bool, true, false, Option, Some, None, List, [], ◌∷◌, ◌++◌, map, length, codes, option_map, if◌then◌else◌}
+use Rattle.std.specs.Option.{is_some}
 use Rattle.std.specs.Str.{bytes_eq}
 use Rattle.sc_values.specs.declared.operator.BinaryOperator.TheVariants as operator
 use Rattle.sc_values.specs.declared.expression.Expr.{Expr}
 use Rattle.sc_values.specs.declared.expression.Expr.TheVariants as expr
 use Rattle.drafts.specs.declared.parts.Named.{Named}
 use Rattle.drafts.specs.declared.parts.TextExpression.{TextExpression}
-use Rattle.drafts.specs.Resolved.{expression_of}
+use Rattle.drafts.specs.Resolved.{expression_of, number_of}
 use Rattle.core_charts.specs.declared.region.Effect.{Effect}
 use Rattle.core_charts.specs.declared.region.Transition.{Transition}
 use Rattle.chart_drafts.specs.declared.draft.DraftTransition.{DraftTransition}
@@ -22,6 +23,7 @@ use Rattle.extended_drafts.specs.declared.draft.DraftEntry.{DraftEntry}
 use Rattle.extended_drafts.specs.declared.draft.StateActions.{StateActions}
 use Rattle.extended_drafts.specs.declared.draft.DraftCount.{DraftCount}
 use Rattle.extended_drafts.specs.declared.draft.DraftDelay.{DraftDelay}
+use Rattle.extended_drafts.specs.declared.draft.DraftWay.{DraftWay}
 use Rattle.extended_drafts.specs.declared.draft.DraftRows.{DraftRows}
 use Rattle.extended_drafts.specs.declared.draft.ExtendedDraft.{ExtendedDraft}
 use Rattle.extended_charts.specs.declared.extended.During.{During}
@@ -86,16 +88,31 @@ abbrev pub trigger_of : (names : List (List ℕ)) → (number : ℕ) → Option 
 trigger_of names number None t = option_map (condition_of names) t
 trigger_of names number (Some d) t = until_trigger names number d.word d t
 
-abbrev pub first_delay : List (Option DraftDelay) → Option DraftDelay
+abbrev pub first_delay : List DraftWay → Option DraftDelay
 first_delay [] = None
-first_delay (d ∷ delays) = d
+first_delay (w ∷ ways) = w.delay
 
--- of a state of a region, whose states have these names, where these delays are left: its count is the first one left
-abbrev pub delayed_transition : (names states : List (List ℕ)) → (left : List (Option DraftDelay)) → DraftTransition → Transition
+abbrev pub is_by_history : List DraftWay → Bool
+is_by_history [] = false
+is_by_history (w ∷ ways) = is_some w.history
+
+-- the place of a state among these of a region; by its history, so much behind them
+abbrev pub target_of : (states : List (List ℕ)) → (by_history : Bool) → List ℕ → ℕ
+target_of states false name = number_of states name
+target_of states true name = length states + number_of states name
+
+-- of a state of a region, whose states have these names, where these rows are left: its count is the first one left
+abbrev pub delayed_transition : (names states : List (List ℕ)) → (left : List DraftWay) → DraftTransition → Transition
 delayed_transition names states left t =
-    record (transition_of names states t) { trigger = trigger_of names (first_number left) (first_delay left) t.trigger }
+    record (transition_of names states t) {
+      trigger = trigger_of names (first_number left) (first_delay left) t.trigger;
+      target = target_of states (is_by_history left) t.target.name;
+    }
 
 -- ---- rows
+
+abbrev pub rows_of : List StateActions → List DraftWay → DraftRows
+rows_of entries ways = record { entries = entries; ways = ways }
 
 abbrev pub first_actions : List StateActions → List DraftEntry
 first_actions [] = []
@@ -107,11 +124,11 @@ behind_first (x ∷ xs) = xs
 
 -- the rows that are left where a state begins
 abbrev pub behind_state : DraftRows → DraftRows
-behind_state rows = record { entries = behind_first rows.entries; delays = rows.delays }
+behind_state rows = record { entries = behind_first rows.entries; ways = rows.ways }
 
 -- the rows that are left behind a transition
 abbrev pub behind_transition : DraftRows → DraftRows
-behind_transition rows = record { entries = rows.entries; delays = behind_first rows.delays }
+behind_transition rows = record { entries = rows.entries; ways = behind_first rows.ways }
 
 -- ---- regions and states: what each is where these rows are left, and which ones it leaves
 
@@ -128,7 +145,7 @@ pub record StatePiece : Type 0 where
 abbrev pub all_transitions : (names states : List (List ℕ)) → DraftRows → List DraftTransition → List Transition
 all_transitions names states rows [] = []
 all_transitions names states rows (t ∷ transitions) =
-    delayed_transition names states rows.delays t ∷ all_transitions names states (behind_transition rows) transitions
+    delayed_transition names states rows.ways t ∷ all_transitions names states (behind_transition rows) transitions
 
 abbrev pub behind_transitions : DraftRows → List DraftTransition → DraftRows
 behind_transitions rows [] = rows
@@ -195,6 +212,6 @@ extended_of d =
       signals = signal_numbers (names_of d.items) d.items;
       befores = map (before_of (names_of d.items)) (all_of sort.Before d.items);
       constants = map constant_of (all_of sort.Constant d.items);
-      counts = conditions (names_of d.items) d.rows.delays;
+      counts = conditions (names_of d.items) d.rows.ways;
       regions = all_regions d.rows (map (region_of (names_of d.items)) d.core.regions);
     }

@@ -27,8 +27,8 @@ pub fn extended_of(alloc: Global, draft: &ExtendedDraft) -> Result<ExtendedChart
     let items = draft.items.as_slice();
     let declared = sorted(alloc, items)?;
     let scope = Scope::of(alloc, declared.as_slice())?;
-    let delays = draft.rows.delays.as_slice();
-    let mut rows = RowsLeft::of(draft.rows.entries.as_slice(), delays)?;
+    let ways = draft.rows.ways.as_slice();
+    let mut rows = RowsLeft::of(draft.rows.entries.as_slice(), ways)?;
     let texts = draft.core.regions.as_slice();
     let regions = regions(alloc, &scope, &mut rows, DEPTH_LIMIT, texts)?;
     Ok(ExtendedChart {
@@ -37,7 +37,7 @@ pub fn extended_of(alloc: Global, draft: &ExtendedDraft) -> Result<ExtendedChart
         signals: signal_numbers(alloc, &scope, items)?,
         befores: befores(alloc, &scope, items)?,
         constants: constants(alloc, items)?,
-        counts: conditions(alloc, &scope, delays)?,
+        counts: conditions(alloc, &scope, ways)?,
         regions,
     })
 }

@@ -8,23 +8,23 @@ ghost use Rattle.drafts.specs.Flaws.{variable_names};
 ghost use Rattle.extended_reader.specs.Counts.{counts_of, conditions, counted};
 
 use drafts::Scope;
-use extended_drafts::DraftDelay;
+use extended_drafts::DraftWay;
 use sc_values::{BinaryOperator, Expr, Value};
 use sqlite_items::{Boxed, Items};
 use std::alloc::{AllocError, Global};
 
-/// The conditions of which these delays count the ticks, over these variables. Err: memory was refused.
+/// The conditions of which these transitions count the ticks, over these variables. Err: memory was refused.
 pub(crate) fn conditions(
     alloc: Global,
     scope: &Scope,
-    delays: &[Option<DraftDelay>],
+    ways: &[DraftWay],
 ) -> Result<Items<Expr>, AllocError>
     requires { length scope.now.variables.now ≤ variable_limit }
-    ensures { IfOk result (λ all. all ≡ conditions (variable_names scope.now.variables.now) delays.now) }
+    ensures { IfOk result (λ all. all ≡ conditions (variable_names scope.now.variables.now) ways.now) }
 {
     let mut all = Items::new(alloc);
-    for delay in delays {
-        if let Some(delay) = delay {
+    for way in ways {
+        if let Some(delay) = &way.delay {
             if let Some(count) = &delay.count {
                 all.push(scope.resolved(alloc, &count.condition)?)?;
             }
@@ -42,13 +42,13 @@ fn one_more(count: u16) -> Result<u16, AllocError>
     }
 }
 
-/// How many counts these delays have. Err: there are more than 65535.
-pub(crate) fn counts_in(delays: &[Option<DraftDelay>]) -> Result<u16, AllocError>
-    ensures { IfOk result (λ counts. counts ≡ length (counts_of delays.now)) }
+/// How many counts these transitions have. Err: there are more than 65535.
+pub(crate) fn counts_in(ways: &[DraftWay]) -> Result<u16, AllocError>
+    ensures { IfOk result (λ counts. counts ≡ length (counts_of ways.now)) }
 {
     let mut counts = 0;
-    for delay in delays {
-        if let Some(delay) = delay {
+    for way in ways {
+        if let Some(delay) = &way.delay {
             if delay.count.is_some() {
                 counts = one_more(counts)?;
             }

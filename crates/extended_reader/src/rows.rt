@@ -2,36 +2,36 @@
 
 ghost use Rattle.std.specs.Prelude.{◌≡◌, ◌≤◌, ◌+◌, IfOk, length};
 ghost use Rattle.std.specs.Option.{option_copied};
-ghost use Rattle.extended_reader.specs.Counts.{own_counts, counts_of, first_number};
-ghost use Rattle.extended_reader.specs.Inside.{HaveCounts, rows_in};
-ghost use Rattle.extended_reader.specs.Resolved.{first_actions, first_delay, behind_state, behind_transition};
+ghost use Rattle.extended_reader.specs.Counts.{HaveCounts, own_counts, counts_of, first_number};
+ghost use Rattle.extended_reader.specs.Resolved.{first_actions, first_delay, is_by_history};
+ghost use Rattle.extended_reader.specs.Resolved.{rows_of, behind_state, behind_transition};
 
 use crate::counts::counts_in;
 use extended_charts::ELAPSED;
-use extended_drafts::{DraftDelay, DraftEntry, StateActions};
+use extended_drafts::{DraftDelay, DraftEntry, DraftWay, StateActions};
 use std::alloc::AllocError;
 
 /// The rows of the states and the transitions that are left, and how many counts these transitions have.
 #[derive(Drop)]
 pub(crate) struct RowsLeft<'a> {
     pub(crate) entries: &'a [StateActions],
-    pub(crate) delays: &'a [Option<DraftDelay>],
+    pub(crate) ways: &'a [DraftWay],
     counts: u16,
-    ghost counted: { HaveCounts delays.now counts },
+    ghost counted: { HaveCounts ways.now counts },
 }
 
 impl<'a> RowsLeft<'a> {
     /// These rows, of which all are left. Err: they have more than 65535 counts.
     pub(crate) fn of(
         entries: &'a [StateActions],
-        delays: &'a [Option<DraftDelay>],
+        ways: &'a [DraftWay],
     ) -> Result<RowsLeft<'a>, AllocError>
-        ensures { IfOk result (λ rows. rows_in rows ≡ record { entries = entries.now; delays = delays.now }) }
+        ensures { IfOk result (λ rows. rows_of rows.entries.now rows.ways.now ≡ rows_of entries.now ways.now) }
     {
-        let counts = counts_in(delays)?;
+        let counts = counts_in(ways)?;
         Ok(RowsLeft {
             entries,
-            delays,
+            ways,
             counts,
         })
     }
@@ -39,7 +39,8 @@ impl<'a> RowsLeft<'a> {
     /// Takes the actions of a state off the front.
     pub(crate) fn actions(&mut self) -> &'a [DraftEntry]
         ensures row { result.now ≡ first_actions self.old.entries.now }
-        ensures left { rows_in self.new ≡ behind_state (rows_in self.old) }
+        ensures left { rows_of self.new.entries.now self.new.ways.now ≡
+            behind_state (rows_of self.old.entries.now self.old.ways.now) }
     {
         match self.entries {
             [own, behind @ ..] => {
@@ -52,24 +53,26 @@ impl<'a> RowsLeft<'a> {
 
     /// The number of the first count that is left.
     pub(crate) fn number(&self) -> u16
-        ensures { result ≡ first_number self.now.delays.now }
+        ensures { result ≡ first_number self.now.ways.now }
     {
         ELAPSED - self.counts
     }
 
-    /// Takes what a transition waits for off the front.
+    /// Takes the row of a transition off the front: what it waits for, and whether its target is entered by history.
     #[tactic(auto, using(crate::proofs::Counting::own_within, crate::proofs::Counting::fewer_behind))]
-    pub(crate) fn delay(&mut self) -> Option<&'a DraftDelay>
-        ensures row { option_copied result ≡ first_delay self.old.delays.now }
-        ensures left { rows_in self.new ≡ behind_transition (rows_in self.old) }
+    pub(crate) fn way(&mut self) -> (Option<&'a DraftDelay>, bool)
+        ensures delay { option_copied result.0 ≡ first_delay self.old.ways.now }
+        ensures history { result.1 ≡ is_by_history self.old.ways.now }
+        ensures left { rows_of self.new.entries.now self.new.ways.now ≡
+            behind_transition (rows_of self.old.entries.now self.old.ways.now) }
     {
-        match self.delays {
+        match self.ways {
             [first, behind @ ..] => {
-                self.counts = counts_behind(first, self.counts);
-                self.delays = behind;
-                first.as_ref()
+                self.counts = counts_behind(&first.delay, self.counts);
+                self.ways = behind;
+                (first.delay.as_ref(), first.history.is_some())
             }
-            [] => None,
+            [] => (None, false),
         }
     }
 }

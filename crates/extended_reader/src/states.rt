@@ -5,6 +5,7 @@ ghost use Rattle.core_charts.specs.Rules.{state_text_limit};
 ghost use Rattle.drafts.specs.Index.{IsIndex};
 ghost use Rattle.drafts.specs.Resolved.{number_of};
 ghost use Rattle.chart_drafts.specs.Flaws.{state_names};
+ghost use Rattle.extended_reader.specs.Resolved.{target_of};
 
 use chart_drafts::{DraftState, state_names};
 use drafts::Index;
@@ -31,14 +32,28 @@ impl<'a> StateScope<'a> {
         Ok(StateScope { states, index })
     }
 
-    /// The number of the state of this name, or 0 where there is none.
+    // The number of the state of this name, or 0 where there is none.
     #[tactic(auto, using(chart_reader::proofs::Numbers::number_fits))]
-    pub(crate) fn number(&self, name: Name) -> u32
-        ensures { result ≡ number_of (state_names self.now.states.now) name }
+    fn number(&self, name: Name) -> u32
+        ensures is { result ≡ number_of (state_names self.now.states.now) name }
+        ensures few { result ≤ state_text_limit }
     {
         match self.index.place(name) {
             Some(at) => at as u32,
             None => 0,
+        }
+    }
+
+    /// What leads to the state of this name, or to the first one where there is none; or there by its history.
+    #[tactic(auto, using(crate::proofs::Looking::as_many_names))]
+    pub(crate) fn target(&self, by_history: bool, name: Name) -> u32
+        ensures { result ≡ target_of (state_names self.now.states.now) by_history name }
+    {
+        let number = self.number(name);
+        if by_history {
+            self.states.len() as u32 + number
+        } else {
+            number
         }
     }
 }

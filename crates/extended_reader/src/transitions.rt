@@ -1,13 +1,13 @@
-//! The transitions of a draft with what they wait for, their names looked up.
+//! The transitions of a draft with what is new of them, their names looked up.
 
 ghost use Rattle.std.specs.Prelude.{◌≡◌, ◌≤◌, IfOk, OnOk, length};
+ghost use Rattle.std.specs.Option.{option_copied};
 ghost use Rattle.sc_graph.specs.Limits.{variable_limit};
 ghost use Rattle.drafts.specs.Flaws.{variable_names};
 ghost use Rattle.chart_drafts.specs.Flaws.{state_names};
-ghost use Rattle.extended_reader.specs.Counts.{first_number};
 ghost use Rattle.extended_reader.specs.Inside.{rows_in};
 ghost use Rattle.extended_reader.specs.Resolved.{waited, waited_trigger, until_trigger, trigger_of, delayed_transition};
-ghost use Rattle.extended_reader.specs.Resolved.{all_transitions, behind_transition, behind_transitions, first_delay};
+ghost use Rattle.extended_reader.specs.Resolved.{all_transitions, behind_transition, behind_transitions};
 
 use crate::counts::{at_least, counted};
 use crate::rows::RowsLeft;
@@ -22,8 +22,8 @@ use sc_values::{BinaryOperator, Expr};
 use sqlite_items::{Boxed, Items};
 use std::alloc::{AllocError, Global};
 
-/// The transitions of a state of a region with these states, over these variables, which take their delays off the
-/// rows that are left. Err: memory was refused.
+/// The transitions of a state of a region with these states, over these variables, which take their rows off those
+/// that are left. Err: memory was refused.
 pub(crate) fn transitions(
     alloc: Global,
     scope: &Scope,
@@ -43,7 +43,7 @@ pub(crate) fn transitions(
     Ok(all)
 }
 
-// A transition, which takes its delay off the rows that are left.
+// A transition, which takes its row off those that are left.
 fn transition(
     alloc: Global,
     scope: &Scope,
@@ -53,32 +53,33 @@ fn transition(
 ) -> Result<Transition, AllocError>
     requires { length scope.now.variables.now ≤ variable_limit }
     ensures made { IfOk result (λ one. one ≡ delayed_transition (variable_names scope.now.variables.now)
-        (state_names states.now.states.now) rows.old.delays.now text.now) }
-    ensures left { OnOk result (rows_in rows.new ≡ behind_transition (rows_in rows.old)) }
-{
-    Ok(Transition {
-        kind: text.kind,
-        immediate: text.immediate,
-        trigger: next_trigger(alloc, scope, rows, &text.trigger)?,
-        effects: effects(alloc, scope, text.effects.as_slice())?,
-        target: states.number(text.target.name),
-    })
-}
-
-// The trigger of the next transition, with its delay, which is taken off the rows that are left.
-fn next_trigger(
-    alloc: Global,
-    scope: &Scope,
-    rows: &mut RowsLeft,
-    text: &Option<TextExpression>,
-) -> Result<Option<Expr>, AllocError>
-    requires { length scope.now.variables.now ≤ variable_limit }
-    ensures made { IfOk result (λ one. one ≡ trigger_of (variable_names scope.now.variables.now)
-        (first_number rows.old.delays.now) (first_delay rows.old.delays.now) text.now) }
+        (state_names states.now.states.now) rows.old.ways.now text.now) }
     ensures left { OnOk result (rows_in rows.new ≡ behind_transition (rows_in rows.old)) }
 {
     let number = rows.number();
-    match rows.delay() {
+    let (delay, by_history) = rows.way();
+    Ok(Transition {
+        kind: text.kind,
+        immediate: text.immediate,
+        trigger: trigger_of(alloc, scope, number, delay, &text.trigger)?,
+        effects: effects(alloc, scope, text.effects.as_slice())?,
+        target: states.target(by_history, text.target.name),
+    })
+}
+
+// The trigger of a transition that waits, or not.
+fn trigger_of(
+    alloc: Global,
+    scope: &Scope,
+    number: u16,
+    delay: Option<&DraftDelay>,
+    text: &Option<TextExpression>,
+) -> Result<Option<Expr>, AllocError>
+    requires { length scope.now.variables.now ≤ variable_limit }
+    ensures { IfOk result (λ one. one ≡ trigger_of (variable_names scope.now.variables.now) number
+        (option_copied delay.entry) text.now) }
+{
+    match delay {
         Some(delay) => until_trigger(alloc, scope, number, delay, text),
         None => trigger(alloc, scope, text),
     }

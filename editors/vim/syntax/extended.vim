@@ -12,6 +12,7 @@ syntax match extendedStatement "\<\(entry\|exit\)\ze\s\+do\>"
 syntax match extendedStatement "\<during\ze\s\+\(do\|if\)\>"
 syntax match extendedStatement "\(\<\(go\|strong\|weak\)\s\+\)\@<=after\>"
 syntax match extendedStatement "\(\<\(go\|strong\|weak\)\s\+after\>[^;]\{-}[A-Za-z0-9_)]\s\+\)\@<=of\>\ze\s*\(\(and\|or\|if\|do\)\>\)\@![A-Za-z0-9(]"
+syntax match extendedStatement "\(->\s*\)\@<=shallow\s\+history\ze\s\+[A-Za-z]"
 highlight default link extendedStorage StorageClass
 highlight default link extendedStatement Statement
 let b:current_syntax = "extended"

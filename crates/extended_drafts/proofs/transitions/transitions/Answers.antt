@@ -11,7 +11,7 @@ use Rattle.extended_drafts.proofs.Pieces.{transitions_go}
 use Rattle.extended_drafts.proofs.transitions.transitions.Goals as goal
 
 pub loop-used-init : goal.loop-used-init
-loop-used-init c = transitions_go _ _ _ _ refl c.new-found.ensures c.new-delays.ensures
+loop-used-init c = transitions_go _ _ _ _ refl c.new-found.ensures c.new-ways.ensures
 
 pub returns : goal.returns
 unfolding transitions

@@ -10,5 +10,5 @@ use Rattle.extended_drafts.proofs.transitions.transitions.Given as goal
 
 abbrev pub invariant-loop-used : goal.invariant-loop-used
 invariant-loop-used l =
-    IsGathering (read (many (transition (expression 0))) l.fn.ahead.tokens.now) (transition (expression 0)) transition_first parted (l.found, l.delays)
+    IsGathering (read (many (transition (expression 0))) l.fn.ahead.tokens.now) (transition (expression 0)) transition_first parted (l.found, l.ways)
     (l.most - l.used) l.ahead.tokens.now
