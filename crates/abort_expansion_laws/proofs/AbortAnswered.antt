@@ -30,7 +30,7 @@ use Rattle.tick_laws.proofs.Lists.{map_contains}
 use Rattle.chart_machine_laws.proofs.ChartTables.{around_there}
 use Rattle.abort_expansion_laws.specs.CoreRows.{own, IsState, Images, CoreRows, flags_around, pair}
 use Rattle.abort_expansion_laws.specs.Related.{Stands, outside, ended, left, trying, acting, entering, guarding, staying, within, behind, IsInside}
-use Rattle.abort_expansion_laws.specs.Related.{Stores, Related, Watches, waits, looks, elsewhere}
+use Rattle.abort_expansion_laws.specs.Related.{Stores, Related, Watches, waits, looks_strong, looks, elsewhere}
 use Rattle.abort_expansion_laws.specs.Related.{guards as watch_guards}
 use Rattle.abort_expansion_laws.proofs.MayLeave.{is_forked, AreOuterOne}
 use Rattle.abort_expansion_laws.proofs.TerminationImage.{at_most_three}
@@ -110,6 +110,7 @@ module _ (k core : Table) (i : Images) (rows : CoreRows k core i) (more : Layere
 
   watch_plain : (u : ℕ) (w v : Standing) → Watches k core i u w v → is_forked v ≡ false
   watch_plain u _ _ (watch_guards some among) = refl
+  watch_plain u _ _ (looks_strong some among) = refl
   watch_plain u _ _ (waits some ends among only) = refl
   watch_plain u _ _ (looks first some ends among only) = refl
   watch_plain u _ _ (elsewhere w a b) = refl

@@ -1,5 +1,5 @@
 -- A region comes to where something begins: in the core all waits, what lies in the region and what does not.
-use Rattle.std.proofs.Common.{◌≡◌, ◌≢◌, ℕ, ◌⊎◌, inl, inr, ⊎_elim, true, List, [], ◌∷◌, ◌++◌, map}
+use Rattle.std.proofs.Common.{◌≡◌, ◌≢◌, ℕ, ◌⊎◌, inl, inr, ⊎_elim, Bool, true, false, List, [], ◌∷◌, ◌++◌, map}
 use Rattle.std.proofs.Common.{Contains, refl, sym, ap, subst, ◌∙◌}
 use Rattle.std.specs.List.{list_all}
 use Rattle.core_charts.specs.declared.region.Transition.{Transition}
@@ -8,20 +8,22 @@ use Rattle.chart_machine.specs.declared.standing.Standing.TheVariants as at
 use Rattle.chart_machine.specs.declared.standing.Configuration.{Configuration}
 use Rattle.chart_machine.specs.declared.table.Table.{Table}
 use Rattle.chart_machine.specs.Table.{state_at}
-use Rattle.chart_machine.specs.Turns.{standing_of, has_ended, inside, is_guarded, LiesIn, itself, deeper}
+use Rattle.chart_machine.specs.Turns.{standing_of, has_ended, inside, guards as has_to_guard, LiesIn, itself, deeper}
 use Rattle.tick_laws.proofs.Lists.{same_or_not, contained}
 use Rattle.chart_machine_laws.specs.Tree.{IsThere, around, holder}
 use Rattle.chart_machine_laws.proofs.LyingIn.{head_in, tail_in, head_or_tail, lies_in_outer}
 use Rattle.abort_expansion_laws.specs.CoreRows.{IsState, Images}
 use Rattle.abort_expansion_laws.specs.Related.{Related, Stands, outside, ended, left, trying, acting, entering, guarding, staying, within, behind, is_behind}
 use Rattle.abort_expansion_laws.specs.Related.{front, tests_of, held_back}
+use Rattle.abort_expansion.specs.Transitions.{led}
+use Rattle.abort_expansion_laws.proofs.Fronts.{front_same}
 use Rattle.abort_expansion_laws.proofs.TablesCorrespond.{contains_map}
 use Rattle.abort_expansion_laws.proofs.InitialPairs.{in_map}
 use Rattle.abort_expansion_laws.proofs.JustEntered.{EntryRows}
 use Rattle.abort_expansion_laws.proofs.EnteredWaits.{entered_waits}
 use Rattle.abort_expansion_laws.proofs.Pending.{Waits, settled}
 use Rattle.abort_expansion_laws.proofs.Arrives.{Arrives}
-use Rattle.abort_expansion_laws.proofs.ArrivedReached.{guards_same, arrived_reached}
+use Rattle.abort_expansion_laws.proofs.ArrivedReached.{arrived_reached}
 
 module _ (k core : Table) (i : Images) (more : EntryRows k core i) (holds_there : (s : ℕ) → IsState k s → IsThere k (holder k s))
     (alone : (v : ℕ) → (state_at core v).regions ≡ [] → inside core v ≡ [])
@@ -59,10 +61,8 @@ module _ (k core : Table) (i : Images) (more : EntryRows k core i) (holds_there 
   pub outer_out : (q u : ℕ) → ¬ LiesIn k q r → Contains (around k q) u → ¬ LiesIn k (holder k u) r
   outer_out q u out inner lies = out (lies_in_outer k more.tree.nested (around k q) q (holder k u) r refl (deeper u inner refl) lies)
 
-  guarded_same : (q : ℕ) → ¬ LiesIn k q r → is_guarded k next (around k q) ≡ is_guarded k c (around k q)
-  guarded_same q out =
-      guards_same k core i more holds_there c d related r next core_next arrives (around k q)
-      (λ u h. arrives.unchanged (holder k u) (outer_out q u out h))
+  fronts_same : (q : ℕ) → ¬ LiesIn k q r → (b : Bool) → front k core i b next q ≡ front k core i b c q
+  fronts_same q out = front_same k core i c next q (λ u h. ap has_to_guard (arrives.unchanged (holder k u) (outer_out q u out h)))
 
   -- ---- a superstate that is held outside of it is over as before
 
@@ -102,7 +102,7 @@ module _ (k core : Table) (i : Images) (more : EntryRows k core i) (holds_there 
       subst (λ z. Stands k core i next q (at.Trying u tests) (at.Trying (i.main_of u) z)) (same_tests tests) (trying u tests simple held)
     where
       same_tests : (tests : List Transition) → tests_of k core i next q tests ≡ tests_of k core i c q tests
-      same_tests tests = let same = guarded_same q out in rw (same) refl
+      same_tests tests = ap (λ zs. zs ++ map (led (i.places_of q)) tests ++ held_back k core i q) (fronts_same q out false)
   stands_still q out _ _ (acting u b g f effects lt) = acting u b g f effects lt
   stands_still q out _ _ (entering u fork t tests super held leads) = entering u fork t tests super held leads
   stands_still q out _ _ (guarding u join t tests has held leads) = guarding u join t tests has held leads
@@ -110,11 +110,8 @@ module _ (k core : Table) (i : Images) (more : EntryRows k core i) (holds_there 
   stands_still q out _ _ (within u join tests super held apart still leads) =
       within u join tests super held apart (behind_same u (λ lies. out (subst (λ z. LiesIn k z r) held lies)) ∙ still) leads
   stands_still q out _ _ (behind u tests super held over) =
-      subst (λ z. Stands k core i next q (at.Within u tests) (at.Trying (i.behind_of u) (z ++ held_back k core i q))) same_front
+      subst (λ z. Stands k core i next q (at.Within u tests) (at.Trying (i.behind_of u) (z ++ held_back k core i q))) (fronts_same q out true)
       (behind u tests super held (behind_same u (λ lies. out (subst (λ z. LiesIn k z r) held lies)) ∙ over))
-    where
-      same_front : front k core i true next q ≡ front k core i true c q
-      same_front = let same = guarded_same q out in rw (same) refl
 
   -- ---- all regions
 

@@ -14,7 +14,7 @@ use Rattle.chart_machine_laws.proofs.LyingIn.{holder}
 use Rattle.abort_expansion_laws.proofs.TablesCorrespond.{IsThere}
 use Rattle.abort_expansion_laws.specs.CoreRows.{own, IsState, Images, CoreRows}
 use Rattle.abort_expansion_laws.specs.Related.{Stands, outside, ended, left, trying, acting, entering, guarding, staying, within, behind, Watches}
-use Rattle.abort_expansion_laws.specs.Related.{guards as watch_guards, waits, looks, elsewhere}
+use Rattle.abort_expansion_laws.specs.Related.{guards as watch_guards, waits, looks_strong, looks, elsewhere}
 use Rattle.abort_expansion_laws.proofs.Pending.{Waits, settled, opening, starting, joining, ending, hidden}
 use Rattle.abort_expansion_laws.proofs.Pending.{Pending}
 
@@ -42,6 +42,7 @@ module _ (k core : Table) (i : Images) (rows : CoreRows k core i) (c : Configura
 
   watch_calm : (o : ℕ) (x y : Standing) → Watches k core i o x y → has_to_guard y ≡ false
   watch_calm o _ _ (watch_guards some among) = refl
+  watch_calm o _ _ (looks_strong some among) = refl
   watch_calm o _ _ (waits some joins among all) = refl
   watch_calm o _ _ (looks first some joins among all) = refl
   watch_calm o x _ (elsewhere z a b) = refl

@@ -30,7 +30,7 @@ use Rattle.abort_expansion.specs.Superstates.{is_prepared}
 use Rattle.tick_laws.proofs.Lists.{contains_none, contains_cons}
 use Rattle.chart_machine_laws.specs.Tree.{IsThere, around, holder}
 use Rattle.chart_machine_laws.proofs.LyingIn.{head_in}
-use Rattle.abort_expansion_laws.specs.Layered.{IsLayered}
+use Rattle.abort_expansion_laws.specs.Layered.{IsWeaklyLayered}
 use Rattle.abort_expansion_laws.specs.Segments.{Segment}
 use Rattle.abort_expansion_laws.specs.Stages.{Entry, Image}
 use Rattle.abort_expansion_laws.specs.StageReached.{Stage}
@@ -59,7 +59,7 @@ use Rattle.abort_expansion_laws.proofs.OwnTests.{OwnTests, IsOwn}
 use Rattle.abort_expansion_laws.proofs.PreemptionKept.{ToldHere}
 use Rattle.abort_expansion_laws.proofs.QuietBegins.{GuardTold, state_with_aborts}
 use Rattle.abort_expansion_laws.proofs.RowsOfCharts as whole
-use Rattle.abort_expansion_laws.proofs.StrongNotTaken.{IsGuarding, guarding_back, MonitorGuards, guards_back}
+use Rattle.abort_expansion_laws.proofs.StrongNotTaken.{IsGuarding, guarding_back, MonitorGuards}
 use Rattle.abort_expansion_laws.proofs.StrongNotTaken as strong
 use Rattle.abort_expansion_laws.proofs.TestFails.{IsTrying, trying_back, failing_followed, tested_is}
 use Rattle.abort_expansion_laws.proofs.TestHolds.{holding_followed}
@@ -89,7 +89,7 @@ begins_at k x (entry_tries none e) = record { first = at.Trying x (at_once (own 
 begins_at k x (entry_guards t tests some strong e) = record { first = at.Entering x (t ∷ tests); others = []; are = e }
 begins_at k x (entry_opens some strong e) = record { first = at.Within x (first_closing_tests (own k x)); others = (state_at k x).opened; are = e }
 
-module _ (c : Chart) (rules : IsChart features.Extended c) (core_rules : IsChart features.Core (expanded c)) (layered : IsLayered c) where
+module _ (c : Chart) (rules : IsChart features.Extended c) (core_rules : IsChart features.Core (expanded c)) (layered : IsWeaklyLayered c) where
   abbrev k : Table
   k = table c
 
@@ -181,7 +181,8 @@ module _ (c : Chart) (rules : IsChart features.Extended c) (core_rules : IsChart
 
     -- ---- strong tests
 
-    module _ (o : ℕ) (t : Transition) (tests : List Transition) (stands : standing_of now r ≡ at.Guarding o (t ∷ tests)) where
+    module _ (o : ℕ) (t : Transition) (tests : List Transition) (stands : standing_of now r ≡ at.Guarding o (t ∷ tests))
+        (monitor : MonitorGuards k core i o t tests (standing_of d (i.watcher_of o))) where
       pub guards : IsGuarding k core i r o (standing_of d (i.thread_of r))
       guards = guarding_back k core i now r (standing_of now r) (standing_of d (i.thread_of r)) (related.regions r there) o (t ∷ tests) stands
 
@@ -190,12 +191,17 @@ module _ (c : Chart) (rules : IsChart features.Extended c) (core_rules : IsChart
 
       pub strong_told : GuardTold k core i d r (i.watcher_of o) (access_of_trigger t.trigger)
       strong_told =
-          record { now = now; related = related; superstate = o; test = t; others = tests; stands = stands; monitor = refl; acts = refl }
-
-      monitor : MonitorGuards k core i o t tests (standing_of d (i.watcher_of o))
-      monitor =
-          guards_back k core i o (standing_of now (holder k o)) (standing_of d (i.watcher_of o)) (related.watchers o o_there guards.has) t tests
-          (ap (standing_of now) guards.held ∙ stands)
+          record {
+            now = now;
+            related = related;
+            superstate = o;
+            test = t;
+            others = tests;
+            stands = stands;
+            monitor = refl;
+            ready = monitor;
+            acts = refl;
+          }
 
       pub flag : (x : ℕ) × ((i.flags_of o).strong ≡ Some x)
       flag = rows.strong_there o monitor.number t o_there monitor.first
@@ -207,15 +213,17 @@ module _ (c : Chart) (rules : IsChart features.Extended c) (core_rules : IsChart
       last_fails none fails =
           last_strong_followed k core i rows (layered_rows c rules core_rules layered) (ticks.nested c rules core_rules)
           (whole.core_tree c rules core_rules).children (whole.tree c rules core_rules).children now d related r o flag.0 o_there
-          (whole.super_of c rules core_rules o o_there guards.has) t (stands ∙ ap (λ ts. at.Guarding o (t ∷ ts)) none) guards.has flag.1
+          (whole.super_of c rules core_rules o o_there guards.has) t (stands ∙ ap (λ ts. at.Guarding o (t ∷ ts)) none)
+          (subst (λ ts. MonitorGuards k core i o t ts (standing_of d (i.watcher_of o))) none monitor) guards.has flag.1
           (ticks.counts c rules core_rules) (ticks.written_at c rules core_rules) (strong_of c rules core_rules o flag.0 flag.1) no_counter
           (strong_at c rules core_rules o flag.0 flag.1) Told (told_silent k core i) (λ first. strong_told) next goes fails
 
     pub next_strong : (o : ℕ) (t u : Transition) (tests : List Transition) → standing_of now r ≡ at.Guarding o (t ∷ u ∷ tests) →
-        verdict now.variables t.trigger ≡ Some false → Followed now d r next
-    next_strong o t u tests stands fails =
+        MonitorGuards k core i o t (u ∷ tests) (standing_of d (i.watcher_of o)) → verdict now.variables t.trigger ≡ Some false → Followed now d r next
+    next_strong o t u tests stands monitor fails =
         strong.not_taken_followed k core i rows (ticks.nested c rules core_rules) (ticks.counts c rules core_rules) (ticks.written_at c rules core_rules)
-        now d related r o (o_there o t (u ∷ tests) stands) t u tests stands Told (λ first. strong_told o t (u ∷ tests) stands) next goes fails
+        now d related r o (o_there o t (u ∷ tests) stands monitor) t u tests stands monitor Told (λ first. strong_told o t (u ∷ tests) stands monitor) next goes
+        fails
 
     -- ---- weak tests
 

@@ -15,7 +15,7 @@ use Rattle.abort_expansion.specs.Expansion.{expanded}
 use Rattle.chart_machine_laws.specs.Tree.{IsThere, around, holder}
 use Rattle.chart_machine_laws.proofs.LyingIn.{head_in}
 use Rattle.chart_machine_laws.proofs.ChartTables.{chart_is_tree, around_there}
-use Rattle.abort_expansion_laws.specs.Layered.{IsLayered}
+use Rattle.abort_expansion_laws.specs.Layered.{IsWeaklyLayered}
 use Rattle.abort_expansion_laws.specs.CoreRows.{own, IsSuper, Images, flags_around, pair}
 use Rattle.abort_expansion_laws.specs.Related.{Related}
 use Rattle.abort_expansion_laws.specs.Stages.{Entry, Silent}
@@ -85,13 +85,13 @@ module _ (c : Chart) (rules : IsChart features.Extended c) (core_rules : IsChart
       none true x e = absurd cc
       none false x e = refl
 
-  pub charts_opened : IsLayered c → OpenedRows k core i
+  pub charts_opened : IsWeaklyLayered c → OpenedRows k core i
   charts_opened layered =
       opened_rows k core i entry_rows (layered_rows c rules core_rules layered) (start_rows c rules core_rules layered) (alone c rules core_rules)
       (counter_rows c rules core_rules).counter_joins unflagged (whole.super_of c rules core_rules)
 
   -- so what was entered settles, one region after the other
-  module _ (layered : IsLayered c) (Told : Configuration → Entry → Type 0)
+  module _ (layered : IsWeaklyLayered c) (Told : Configuration → Entry → Type 0)
       (told : (e : Configuration) (t : ℕ) (stage : Option (ℕ × ℕ)) (a : Access) → Told e (Silent t stage a)) where
     core_children : (s t : ℕ) → Contains (state_at core s).regions t → IsThere core t × (around core t ≡ s ∷ around core (holder core s))
     core_children s t h =

@@ -22,6 +22,7 @@ use Rattle.abort_expansion_laws.proofs.Unchanged.{none_among, both_ways}
 use Rattle.abort_expansion_laws.specs.Related.{IsCalm, calm_outside, front, held_back, is_behind, Stands, outside, ended, left, trying, acting, entering}
 use Rattle.abort_expansion_laws.specs.Related.{Related, guarding, staying, within, behind, Watches, elsewhere, IsInside, guarded, open_inside, Stores}
 use Rattle.abort_expansion_laws.specs.Related.{FlagsAreDown, still_in, not_ended, LooksFirst}
+use Rattle.abort_expansion_laws.proofs.Fronts.{front_same}
 use Rattle.abort_expansion_laws.proofs.StageReached.{inside_in, holds_other}
 use Rattle.abort_expansion_laws.proofs.Leaving.{drops, at_number, set_here, set_other, set_length, drops_in, drops_out, drops_length}
 use Rattle.abort_expansion_laws.proofs.InsideAround.{inside_around}
@@ -143,13 +144,8 @@ module _ (k core : Table) (i : Images) (rows : CoreRows k core i) (tree : IsNest
         standing_of c' (holder k s) ≡ standing_of c (holder k s)
     holder_same q s there present out_q around_it = same (holder k s) (not_by_r q s there present out_q around_it) (outer_out q s out_q around_it)
 
-    guarded_alike : (q : ℕ) → IsThere k q → standing_of c q ≢ at.Outside → ¬ In q → is_guarded k c' (around k q) ≡ is_guarded k c (around k q)
-    guarded_alike q there present out_q =
-        any_alike (λ s. guards (standing_of c' (holder k s))) (λ s. guards (standing_of c (holder k s))) (around k q)
-        (λ s around_it. ap guards (holder_same q s there present out_q around_it))
-
     front_alike : (b : Bool) (q : ℕ) → IsThere k q → standing_of c q ≢ at.Outside → ¬ In q → front k core i b c' q ≡ front k core i b c q
-    front_alike b q there present out_q = rw (guarded_alike q there present out_q) refl
+    front_alike b q there present out_q = front_same k core i c c' q (λ s h. ap guards (holder_same q s there present out_q h)) b
 
     -- the superstate right around a region that is not inside of o, and the one in which another region than r stands
     around_first : (q s : ℕ) (ss : List ℕ) → ¬ In q → around k q ≡ s ∷ ss → is_behind k core i c' s ≡ is_behind k core i c s

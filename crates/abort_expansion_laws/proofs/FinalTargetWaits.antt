@@ -1,5 +1,5 @@
 -- A transition enters a final state: all waits as before, but for the superstate around its region, whose fork may be to be joined now.
-use Rattle.std.proofs.Common.{◌≡◌, ◌≢◌, ℕ, ◌⊎◌, inl, inr, ⊎_elim, Bool, true, false, List, [], ◌∷◌, ◌++◌, Contains, refl, sym, ap, subst, ◌∙◌, arith}
+use Rattle.std.proofs.Common.{◌≡◌, ◌≢◌, ℕ, ◌⊎◌, inl, inr, ⊎_elim, Bool, true, false, List, [], ◌∷◌, ◌++◌, map, Contains, refl, sym, ap, subst, ◌∙◌, arith}
 use Rattle.sc_values.specs.declared.value.Value.{Value}
 use Rattle.core_charts.specs.declared.region.Effect.{Effect}
 use Rattle.core_charts.specs.Aborts.{has_aborts}
@@ -16,6 +16,8 @@ use Rattle.chart_machine_laws.proofs.LyingIn.{head_in}
 use Rattle.abort_expansion_laws.specs.CoreRows.{own, IsState, is_final, joins, Images}
 use Rattle.abort_expansion_laws.specs.Related.{Related, Stands, outside, ended, left, trying, acting, entering, guarding, staying, within, behind, is_behind}
 use Rattle.abort_expansion_laws.specs.Related.{front, tests_of, held_back, Watches, IsInside, guarded, open_inside}
+use Rattle.abort_expansion.specs.Transitions.{led}
+use Rattle.abort_expansion_laws.proofs.Fronts.{front_same}
 use Rattle.abort_expansion_laws.proofs.StageReached.{any_in}
 use Rattle.abort_expansion_laws.proofs.TestFails.{watch_other}
 use Rattle.abort_expansion_laws.proofs.DropsOut.{all_alike}
@@ -47,8 +49,8 @@ module _ (k core : Table) (i : Images) (more : EntryRows k core i) (holds_there 
   core_elsewhere : (t : ℕ) → t ≢ i.thread_of r → standing_of core_next t ≡ standing_of d t
   core_elsewhere t ne = target.core_elsewhere k core i more c d related r s p e stands values final t ne
 
-  guarded_alike : (zs : List ℕ) → is_guarded k next zs ≡ is_guarded k c zs
-  guarded_alike zs = target.guarded_alike k core i more c d related r s p e stands values final zs
+  fronts_alike : (q : ℕ) (b : Bool) → front k core i b next q ≡ front k core i b c q
+  fronts_alike q = front_same k core i c next q (λ u h. target.guards_alike k core i more c d related r s p e stands values final (holder k u))
 
   -- ---- which superstates are over now
 
@@ -143,7 +145,7 @@ module _ (k core : Table) (i : Images) (more : EntryRows k core i) (holds_there 
       (subst (λ z. Stands k core i next q (at.Trying u tests) (at.Trying (i.main_of u) z)) same_tests (trying u tests simple its))
     where
       same_tests : tests_of k core i next q tests ≡ tests_of k core i c q tests
-      same_tests = let same = guarded_alike (around k q) in rw (same) refl
+      same_tests = ap (λ zs. zs ++ map (led (i.places_of q)) tests ++ held_back k core i q) (fronts_alike q false)
   waits_on q _ _ (acting u b g f effects lt) = settles q _ _ (acting u b g f effects lt)
   waits_on q _ _ (entering u fork t tests super its leads) = settles q _ _ (entering u fork t tests super its leads)
   waits_on q _ _ (guarding u join t tests has its leads) = settles q _ _ (guarding u join t tests has its leads)
@@ -161,7 +163,7 @@ module _ (k core : Table) (i : Images) (more : EntryRows k core i) (holds_there 
       (λ now. absurd (was_not u now.0 over)) (over_or_not u)
     where
       same_front : front k core i true next q ≡ front k core i true c q
-      same_front = let same = guarded_alike (around k q) in rw (same) refl
+      same_front = fronts_alike q true
 
   pub final_waits : (q : ℕ) → IsThere k q → Waits k core i next core_next q
   final_waits q there =

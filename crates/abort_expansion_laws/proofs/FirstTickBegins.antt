@@ -15,7 +15,7 @@ use Rattle.chart_machine.specs.Machine.{machine, initial, start}
 use Rattle.abort_expansion.specs.Expansion.{expanded}
 use Rattle.chart_machine_laws.specs.Tree.{IsThere, around}
 use Rattle.chart_machine_laws.proofs.LyingIn.{head_in}
-use Rattle.abort_expansion_laws.specs.Layered.{IsLayered}
+use Rattle.abort_expansion_laws.specs.Layered.{IsWeaklyLayered}
 use Rattle.abort_expansion_laws.specs.Stages.{Entry, Silent, NoneReached}
 use Rattle.abort_expansion_laws.specs.CoreRows.{Images, pair}
 use Rattle.abort_expansion_laws.specs.Related.{Related}
@@ -34,7 +34,7 @@ use Rattle.abort_expansion_laws.proofs.FirstTick.{first_present}
 use Rattle.abort_expansion_laws.proofs.FirstTickWaits.{first_sound, first_pending}
 use Rattle.abort_expansion_laws.proofs.StillBegun.{HasBegun}
 
-module _ (c : Chart) (rules : IsChart features.Extended c) (core_rules : IsChart features.Core (expanded c)) (layered : IsLayered c) (inputs : Inputs) where
+module _ (c : Chart) (rules : IsChart features.Extended c) (core_rules : IsChart features.Core (expanded c)) (layered : IsWeaklyLayered c) (inputs : Inputs) where
   abbrev k : Table
   k = table c
 

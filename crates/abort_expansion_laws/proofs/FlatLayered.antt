@@ -44,8 +44,11 @@ module _ (c : Chart) (rules : IsChart features.Extended c) (flat : IsFlat c) whe
       record {
         strong_apart = λ o s h has.
             (or_parts (has_strong (own k s)) (has_weak (own k s)) (plain_inside o s h (some_strong (has_strong (own k o)) (has_weak (own k o)) has))).0;
-        weak_apart = λ o s h has.
-            (or_parts (has_strong (own k s)) (has_weak (own k s)) (plain_inside o s h (some_weak (has_strong (own k o)) (has_weak (own k o)) has))).1;
+        weakly =
+            record {
+              weak_apart = λ o s h has.
+                  (or_parts (has_strong (own k s)) (has_weak (own k s)) (plain_inside o s h (some_weak (has_strong (own k o)) (has_weak (own k o)) has))).1;
+            };
       }
 
 pub flat_charts_are_layered : FlatChartsAreLayered

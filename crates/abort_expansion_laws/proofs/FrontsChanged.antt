@@ -45,15 +45,15 @@ module _ (k core : Table) (i : Images) (c c' : Configuration) (ends : (r : ℕ) 
       subst (λ zs. Stands k core i c' q (at.Within s tests) (at.Trying (i.behind_of s) (zs ++ held_back k core i q))) (fronts (λ e. absurd (cc)) true)
       (behind s tests super held (still_behind s ∙ over))
 
-  module _ (q : ℕ) (z : Bool → Transition) (one : (b : Bool) → front k core i b c q ≡ z b ∷ []) where
-    -- one check stands in front, of whoever is calm
+  module _ (q : ℕ) (z : Bool → Transition) (one : (b : Bool) → front k core i b c q ≡ z b ∷ front k core i b c' q) where
+    -- this check is the first in front, of whoever is calm
     pub has_first : (x y : Standing) → Stands k core i c q x y → IsCalm x → HasFirst z y
     has_first _ _ outside calm = none_first at.Outside refl
     has_first _ _ (ended inner) calm = none_first at.Ended refl
     has_first _ _ (left s ss round over) calm = none_first at.Outside refl
     has_first _ _ (trying s tests simple held) calm =
         subst (λ zs. HasFirst z (at.Trying (i.main_of s) (zs ++ map (led (i.places_of q)) tests ++ held_back k core i q))) (sym (one false))
-        (one_first false (i.main_of s) (map (led (i.places_of q)) tests ++ held_back k core i q))
+        (one_first false (i.main_of s) (front k core i false c' q ++ map (led (i.places_of q)) tests ++ held_back k core i q))
     has_first _ _ (acting s u p e effects lt) calm = none_first _ refl
     has_first _ _ (entering s fork t tests super held leads) calm = absurd (calm_entering (at.Entering s (t ∷ tests)) calm s (t ∷ tests) refl)
     has_first _ _ (guarding s join t tests has held leads) calm = none_first _ refl
@@ -61,25 +61,22 @@ module _ (k core : Table) (i : Images) (c c' : Configuration) (ends : (r : ℕ) 
     has_first _ _ (within s join tests super held apart still leads) calm = none_first _ refl
     has_first _ _ (behind s tests super held over) calm =
         subst (λ zs. HasFirst z (at.Trying (i.behind_of s) (zs ++ held_back k core i q))) (sym (one true))
-        (one_first true (i.behind_of s) (held_back k core i q))
+        (one_first true (i.behind_of s) (front k core i true c' q ++ held_back k core i q))
 
-    -- the check in front is gone
-    pub stands_dropped : ((b : Bool) → front k core i b c' q ≡ []) → (x y : Standing) → Stands k core i c q x y → IsCalm x → Stands k core i c' q x (tail_of y)
-    stands_dropped none _ _ outside calm = outside
-    stands_dropped none _ _ (ended inner) calm = ended (λ s ss round. still_behind s ∙ inner s ss round)
-    stands_dropped none _ _ (left s ss round over) calm = left s ss round (still_behind s ∙ over)
-    stands_dropped none _ _ (trying s tests simple held) calm =
+    -- it is gone, and the others stay
+    pub stands_dropped : (x y : Standing) → Stands k core i c q x y → IsCalm x → Stands k core i c' q x (tail_of y)
+    stands_dropped _ _ outside calm = outside
+    stands_dropped _ _ (ended inner) calm = ended (λ s ss round. still_behind s ∙ inner s ss round)
+    stands_dropped _ _ (left s ss round over) calm = left s ss round (still_behind s ∙ over)
+    stands_dropped _ _ (trying s tests simple held) calm =
         subst (λ zs. Stands k core i c' q (at.Trying s tests) (tail_of (at.Trying (i.main_of s) (zs ++ map (led
         (i.places_of q)) tests ++ held_back k core i q))))
-        (sym (one false))
-        (subst (λ zs. Stands k core i c' q (at.Trying s tests) (at.Trying (i.main_of s) (zs ++ map (led (i.places_of q)) tests ++ held_back k core i q)))
-        (none false) (trying s tests simple held))
-    stands_dropped none _ _ (acting s u p e effects lt) calm = acting s u p e effects lt
-    stands_dropped none _ _ (entering s fork t tests super held leads) calm = absurd (calm_entering (at.Entering s (t ∷ tests)) calm s (t ∷ tests) refl)
-    stands_dropped none _ _ (guarding s join t tests has held leads) calm = guarding s join t tests has held leads
-    stands_dropped none _ _ (staying s tests super held stay) calm = staying s tests super held stay
-    stands_dropped none _ _ (within s join tests super held apart still leads) calm = within s join tests super held apart (still_behind s ∙ still) leads
-    stands_dropped none _ _ (behind s tests super held over) calm =
+        (sym (one false)) (trying s tests simple held)
+    stands_dropped _ _ (acting s u p e effects lt) calm = acting s u p e effects lt
+    stands_dropped _ _ (entering s fork t tests super held leads) calm = absurd (calm_entering (at.Entering s (t ∷ tests)) calm s (t ∷ tests) refl)
+    stands_dropped _ _ (guarding s join t tests has held leads) calm = guarding s join t tests has held leads
+    stands_dropped _ _ (staying s tests super held stay) calm = staying s tests super held stay
+    stands_dropped _ _ (within s join tests super held apart still leads) calm = within s join tests super held apart (still_behind s ∙ still) leads
+    stands_dropped _ _ (behind s tests super held over) calm =
         subst (λ zs. Stands k core i c' q (at.Within s tests) (tail_of (at.Trying (i.behind_of s) (zs ++ held_back k core i q)))) (sym (one true))
-        (subst (λ zs. Stands k core i c' q (at.Within s tests) (at.Trying (i.behind_of s) (zs ++ held_back k core i q))) (none true)
-        (behind s tests super held (still_behind s ∙ over)))
+        (behind s tests super held (still_behind s ∙ over))

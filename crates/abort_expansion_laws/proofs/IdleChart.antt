@@ -18,7 +18,6 @@ use Rattle.abort_expansion_laws.specs.Related.{Stands, outside, ended, left, try
 use Rattle.abort_expansion_laws.specs.Related.{guarding, staying, within, behind, Related}
 use Rattle.abort_expansion_laws.proofs.InsideAround.{inside_around}
 use Rattle.abort_expansion_laws.proofs.KnownVariables.{present_there}
-use Rattle.abort_expansion_laws.proofs.CalmStandings.{calm_free}
 
 found : (p : ℕ → Bool) (xs : List ℕ) → list_any p xs ≡ true → (y : ℕ) × Contains xs y × (p y ≡ true)
 found p [] e = absurd cc
@@ -44,23 +43,28 @@ module _ (k core : Table) (i : Images) (c d : Configuration) (related : Related 
   guard_works (at.Guarding s tests) e = (refl, refl)
   guard_works (at.Within s tests) e = absurd cc
 
-  pub nobody_guards : (r : ℕ) → has_to_guard (standing_of c r) ≡ false
-  nobody_guards r = by_case (has_to_guard (standing_of c r)) refl
+  -- the outermost that guards would have its turn
+  nobody_below : (n r : ℕ) → r < n → has_to_guard (standing_of c r) ≡ false
+  nobody_below zero r lt = absurd (omega (lt, arith))
+  nobody_below (suc n) r lt = by_case (has_to_guard (standing_of c r)) refl (λ q further. nobody_below n q (omega (lt, further, arith)))
     where
-      by_around : (b : Bool) → is_guarded k c (around k r) ≡ b → has_to_guard (standing_of c r) ≡ true → has_to_guard (standing_of c r) ≡ false
-      by_around false free e =
+      by_around : (b : Bool) → is_guarded k c (around k r) ≡ b → has_to_guard (standing_of c r) ≡ true →
+          ((q : ℕ) → q < r → has_to_guard (standing_of c q) ≡ false) → has_to_guard (standing_of c r) ≡ false
+      by_around false free e outer =
           let two = guard_works (standing_of c r) e in
           let on : is_enabled k c r ≡ true = rw (two.0, free, two.1) refl in
           let wrong : true ≡ false = sym on ∙ over r in absurd cc
-      by_around true some e =
+      by_around true some e outer =
           let s = found (λ u. has_to_guard (standing_of c (holder k u))) (around k r) some in
-          let is : IsThere k r = present_there k core i c d related r
-          (λ out. let wrong : true ≡ false = sym e ∙ ap has_to_guard out in absurd cc) in
-          calm_free (standing_of c r) (related.calm r s.0 is s.1 s.2)
+          let wrong : true ≡ false = sym s.2 ∙ outer (holder k s.0) (deep r s.0 s.1) in absurd cc
 
-      by_case : (b : Bool) → has_to_guard (standing_of c r) ≡ b → has_to_guard (standing_of c r) ≡ false
-      by_case false e = e
-      by_case true e = by_around (is_guarded k c (around k r)) refl e
+      by_case : (b : Bool) → has_to_guard (standing_of c r) ≡ b → ((q : ℕ) → q < r → has_to_guard (standing_of c q) ≡ false) →
+          has_to_guard (standing_of c r) ≡ false
+      by_case false e outer = e
+      by_case true e outer = by_around (is_guarded k c (around k r)) refl e outer
+
+  pub nobody_guards : (r : ℕ) → has_to_guard (standing_of c r) ≡ false
+  nobody_guards r = nobody_below (suc r) r (omega arith)
 
   pub free : (zs : List ℕ) → is_guarded k c zs ≡ false
   free [] = refl

@@ -2,9 +2,7 @@
 use Rattle.std.proofs.Common.{◌≡◌, ◌≢◌, ℕ, zero, suc, ◌⊎◌, inl, inr, ⊎_elim, Bool, true, false, ◌||◌, Option, Some, None, List, [], ◌∷◌, ◌++◌, map}
 use Rattle.std.proofs.Common.{length, Contains, refl, sym, ap, subst, ◌∙◌, arith}
 use Rattle.std.specs.Prelude.{reverse, flat_map}
-use Rattle.std.proofs.lemmas.List.{reverse-append, append-nil}
-use Rattle.std.proofs.lemmas.Grind.{flat_map-append}
-use Rattle.std.proofs.lemmas.List.Folds.{flat_map-map}
+use Rattle.std.proofs.lemmas.List.{append-nil}
 use Rattle.std.proofs.lemmas.Bool.{or_parts}
 use Rattle.core_charts.specs.declared.region.Transition.{Transition}
 use Rattle.core_charts.specs.Tests.{at_once}
@@ -22,6 +20,7 @@ use Rattle.abort_expansion.specs.Transitions.{check, strong_checks}
 use Rattle.abort_expansion.specs.Superstates.{stays}
 use Rattle.abort_expansion_laws.specs.Stages.{Correspondence}
 use Rattle.chart_machine_laws.proofs.LyingIn.{IsNested, around, holder, none_in, head_or_tail, head_in, tail_in}
+use Rattle.abort_expansion_laws.proofs.Fronts.{reversed, none_of_each}
 use Rattle.abort_expansion_laws.proofs.StageReached.{holds_other}
 use Rattle.abort_expansion_laws.proofs.TablesCorrespond.{IsThere, contains_map}
 use Rattle.chart_machine_laws.proofs.ChartTables.{no_regions_past, within_or_past, nothing_around}
@@ -29,8 +28,8 @@ use Rattle.abort_expansion_laws.proofs.KnownVariables.{present_there, in_either}
 use Rattle.abort_expansion_laws.specs.CoreRows.{own, IsState, IsSimple, IsSuper, joins, Images, CoreRows, SplitImage, flags_around, watchers}
 use Rattle.abort_expansion_laws.specs.CoreRows.{behind_transitions}
 use Rattle.abort_expansion_laws.specs.Related.{is_behind, Stands}
-use Rattle.abort_expansion_laws.specs.Related.{outside, ended, left, trying, acting, entering, guarding, staying, within, behind, IsInside, open_inside}
-use Rattle.abort_expansion_laws.specs.Related.{Related, Watches, waits, looks, elsewhere}
+use Rattle.abort_expansion_laws.specs.Related.{outside, ended, left, trying, acting, entering, guarding, staying, within, behind, IsInside, guarded, open_inside}
+use Rattle.abort_expansion_laws.specs.Related.{Related, Watches, waits, looks_strong, looks, elsewhere}
 use Rattle.abort_expansion_laws.specs.Related.{guards as watch_guards}
 use Rattle.abort_expansion_laws.proofs.MayLeave.{LeavesBy, MayLeave, over, forks}
 use Rattle.abort_expansion_laws.proofs.OneMonitor.{one_monitor}
@@ -38,16 +37,6 @@ use Rattle.abort_expansion_laws.proofs.OneMonitor.{one_monitor}
 -- ---- one of the superstates around a region has aborts: then one check stands in front
 
 module _ (k : Table) (tree : IsNested k) (c : ℕ → List Transition) where
-  reversed : (s : ℕ) (zs : List ℕ) → flat_map c (reverse (s ∷ zs)) ≡ flat_map c (reverse zs) ++ (c s ++ [])
-  reversed s zs = ap (flat_map c) (reverse-append (s ∷ []) zs) ∙ flat_map-append c (reverse zs) (s ∷ [])
-
-  pub none_checked : (zs : List ℕ) → ((s : ℕ) → Contains zs s → c s ≡ []) → flat_map c (reverse zs) ≡ []
-  none_checked [] none = refl
-  none_checked (s ∷ zs) none =
-      let own : c s ≡ [] = none s (head_in s zs) in
-      let rest : flat_map c (reverse zs) ≡ [] = none_checked zs (λ u h. none u (tail_in s u zs h)) in
-      reversed s zs ∙ rw (own, rest) refl
-
   pub one_checked : (zs : List ℕ) (q o : ℕ) → around k q ≡ zs → Contains zs o → ((s : ℕ) → Contains zs s → s ≢ o → c s ≡ []) → flat_map c (reverse zs) ≡ c o
   one_checked [] q o e h none = absurd (none_in o h)
   one_checked (s ∷ zs) q o e h none =
@@ -55,22 +44,19 @@ module _ (k : Table) (tree : IsNested k) (c : ℕ → List Transition) where
       (λ same.
       let not_again : (u : ℕ) → Contains zs u → u ≢ o =
       λ u inner is. holds_other k tree (holder k s) s (subst (λ ys. Contains ys s) (tree.upward q s zs e) (subst (Contains zs) (is ∙ sym same) inner)) refl in
-      let rest : flat_map c (reverse zs) ≡ [] = none_checked zs (λ u inner. none u (tail_in s u zs inner) (not_again u inner)) in
-      reversed s zs ∙ (ap (λ ys. ys ++ (c s ++ [])) rest ∙ (append-nil (c s) ∙ ap c same)))
+      let rest : flat_map c (reverse zs) ≡ [] = none_of_each c zs (λ u inner. none u (tail_in s u zs inner) (not_again u inner)) in
+      reversed c s zs ∙ (ap (λ ys. ys ++ (c s ++ [])) rest ∙ (append-nil (c s) ∙ ap c same)))
       (λ tail.
       let differs : s ≢ o =
       λ is. holds_other k tree (holder k s) s (subst (λ ys. Contains ys s) (tree.upward q s zs e) (subst (Contains zs) (sym is) tail)) refl in
       let own : c s ≡ [] = none s (head_in s zs) differs in
       let rest : flat_map c (reverse zs) ≡ c o = one_checked zs (holder k s) o (sym (tree.upward q s zs e)) tail (λ u inner. none u (tail_in s u zs inner)) in
-      reversed s zs ∙ (ap (λ ys. flat_map c (reverse zs) ++ (ys ++ [])) own ∙ (append-nil (flat_map c (reverse zs)) ∙ rest))) (head_or_tail s o zs h)
+      reversed c s zs ∙ (ap (λ ys. flat_map c (reverse zs) ++ (ys ++ [])) own ∙ (append-nil (flat_map c (reverse zs)) ∙ rest))) (head_or_tail s o zs h)
 
 -- ---- what more is asked of the rows
 
 pub record LayeredRows (k core : Table) (i : Images) : Type 0 where
-  -- inside of a superstate with strong aborts none has strong ones
-  pub strong_apart : (o s : ℕ) → has_strong (own k o) ≡ true → Contains (around k (holder k s)) o → has_strong (own k s) ≡ false
-  -- so of the superstates around a region one has strong aborts, at most, and one weak ones
-  pub strong_once : (q o s : ℕ) → Contains (around k q) o → Contains (around k q) s → has_strong (own k o) ≡ true → has_strong (own k s) ≡ true → s ≡ o
+  -- of the superstates around a region one has weak aborts, at most
   pub weak_once : (q o s : ℕ) → Contains (around k q) o → Contains (around k q) s → has_weak (own k o) ≡ true → has_weak (own k s) ≡ true → s ≡ o
   pub no_strong : (s : ℕ) → has_strong (own k s) ≡ false → (i.flags_of s).strong ≡ None
   -- nothing is inside of what is no fork
@@ -113,31 +99,19 @@ module _ (k core : Table) (i : Images) (c : Configuration) where
   there_too r _ _ (within s join tests super held stay open_still leads) present open_around e = absurd cc
   there_too r _ _ (behind s tests super held over_it) present open_around e = absurd cc
 
--- a region inside of a superstate with strong aborts checks the strong flag of that one alone
-module _ (k core : Table) (i : Images) (more : LayeredRows k core i) (tree : IsNested k) (o : ℕ) (has : has_strong (own k o) ≡ true) where
-  others_none : (q : ℕ) → Contains (around k q) o → (b : Bool) (place : ℕ) (s : ℕ) → Contains (around k q) s → s ≢ o → check b place (i.flags_of s).strong ≡ []
-  others_none q in_o b place s around_it differs =
-      ⊎_elim (λ e. absurd (differs (more.strong_once q o s in_o around_it has e))) (λ e. ap (check b place) (more.no_strong s e))
-      (true_or_false (has_strong (own k s)))
-
-  pub checked_once : (q : ℕ) (b : Bool) (place : ℕ) → Contains (around k q) o →
-      strong_checks b place (flags_around k core i q) ≡ check b place (i.flags_of o).strong
-  checked_once q b place in_o =
-      flat_map-map (λ f. check b place f.strong) i.flags_of (reverse (around k q))
-      ∙ one_checked k tree (λ s. check b place (i.flags_of s).strong) (around k q) q o refl in_o (others_none q in_o b place)
-
 -- ---- each thread inside, whatever it sees
 
 heads : (a b : ℕ) (xs ys : List ℕ) → a ∷ xs ≡ b ∷ ys → a ≡ b
 heads a b xs ys e = cc
 
--- a monitor that stands in an opened superstate is there
-monitor_there : (k core : Table) (i : Images) (o : ℕ) (x y : Standing) → Watches k core i o x y → (tests : List Transition) → x ≡ at.Within o tests →
-    y ≢ at.Outside
-monitor_there k core i o _ _ (watch_guards some among) tests e away = absurd cc
-monitor_there k core i o _ _ (waits some ends among only) tests e away = absurd cc
-monitor_there k core i o _ _ (looks first some ends among only) tests e away = absurd cc
-monitor_there k core i o x _ (elsewhere z a b) tests e away = b tests e
+-- the monitor of a superstate that is guarded, or open, is there
+monitor_there : (k core : Table) (i : Images) (o : ℕ) (x y : Standing) → Watches k core i o x y → IsInside k core i o x → y ≢ at.Outside
+monitor_there k core i o _ _ (watch_guards some among) inner away = absurd cc
+monitor_there k core i o _ _ (looks_strong some among) inner away = absurd cc
+monitor_there k core i o _ _ (waits some ends among only) inner away = absurd cc
+monitor_there k core i o _ _ (looks first some ends among only) inner away = absurd cc
+monitor_there k core i o _ _ (elsewhere z a b) (guarded tests) away = a tests refl
+monitor_there k core i o _ _ (elsewhere z a b) (open_inside tests) away = b tests refl
 
 module _ (k core : Table) (i : Images) (rows : CoreRows k core i) (more : LayeredRows k core i) (tree : IsNested k)
     (core_children : (s r : ℕ) → Contains (state_at core s).regions r → around core r ≡ s ∷ around core (holder core s))
@@ -162,12 +136,11 @@ module _ (k core : Table) (i : Images) (rows : CoreRows k core i) (more : Layere
   state_there s super = ⊎_elim (λ lt. lt) (λ past. absurd (super (no_regions_past k s past))) (within_or_past s (length k.states))
 
   -- a superstate inside: its fork ends, and its continuation leaves
-  pub fork_leaves : (q s join : ℕ) (tests : List Transition) → Contains (around k q) o → standing_of c q ≡ at.Within s tests → IsSuper k s →
-      holder k s ≡ q → stays (flags_around k core i q) (own k s) ≡ false → is_behind k core i c s ≡ false →
+  pub fork_leaves : (q s join : ℕ) → Contains (around k q) o → IsInside k core i s (standing_of c q) → IsSuper k s → holder k s ≡ q → stays (flags_around k core i q) (own k s) ≡ false → is_behind k core i c s ≡ false →
       state_in core (i.thread_of q) join ≡ i.behind_of s →
       LeavesBy core corr home stage (i.main_of o) first (i.thread_of q) (at_once (behind_transitions k core i q s)) →
       MayLeave core corr home stage (i.main_of o) first (i.thread_of q) (at.Within (i.main_of s) (joins join ∷ []))
-  fork_leaves q s join tests in_o stands super held not_staying open_still leads leaves_by =
+  fork_leaves q s join in_o inner super held not_staying open_still leads leaves_by =
       forks (i.main_of s) join (i.behind_of s) (at_once (behind_transitions k core i q s)) fork_held enters (more.behind_alone s) leaves_by direct
     where
       split : SplitImage k core i s
@@ -187,7 +160,7 @@ module _ (k core : Table) (i : Images) (rows : CoreRows k core i) (more : Layere
       regions_are = ap (λ z. z.regions) split.row
 
       inside_s : IsInside k core i s (standing_of c (holder k s))
-      inside_s = subst (λ p. IsInside k core i s (standing_of c p)) (sym held) (subst (IsInside k core i s) (sym stands) (open_inside tests))
+      inside_s = subst (λ p. IsInside k core i s (standing_of c p)) (sym held) inner
 
       present : (r : ℕ) → Contains (state_at k s).regions r → standing_of first (i.thread_of r) ≢ at.Outside
       present r child e =
@@ -209,8 +182,7 @@ module _ (k core : Table) (i : Images) (rows : CoreRows k core i) (more : Layere
               let one : i.watcher_of s ≡ t =
               ⊎_elim (λ is. is) (λ rest. absurd (none_in t rest))
               (head_or_tail (i.watcher_of s) t [] (subst (λ zs. Contains zs t) its_own h)) in
-              monitor_there k core i s (standing_of c (holder k s)) (standing_of d (i.watcher_of s)) (related.watchers s (state_there s super) some) tests
-              (ap (standing_of c) held ∙ stands)
+              monitor_there k core i s (standing_of c (holder k s)) (standing_of d (i.watcher_of s)) (related.watchers s (state_there s super) some) inside_s
               (sym (same_monitor s (state_there s super) some in_s) ∙ (ap (standing_of first) one ∙ e))
 
       direct : (t : ℕ) → Contains (state_at core (i.main_of s)).regions t →

@@ -1,5 +1,5 @@
 -- The last strong test of a superstate fails: its inside has its turn, and each thread there goes on behind its strong check.
-use Rattle.std.proofs.Common.{◌≡◌, ◌≢◌, ℕ, pos, ◌<◌, ◌⊎◌, inl, inr, ⊎_elim, Bool, true, false, Some, List, [], ◌∷◌, ◌++◌, map, length, slice_get}
+use Rattle.std.proofs.Common.{◌≡◌, ◌≢◌, ℕ, pos, ◌<◌, ◌⊎◌, ⊎_elim, Bool, true, false, Some, List, [], ◌∷◌, ◌++◌, map, length, slice_get}
 use Rattle.std.proofs.Common.{slice_set, Contains, refl, sym, ap, subst, ◌∙◌, arith}
 use Rattle.sc_values.specs.declared.value.Value.TheVariants as value_is
 use Rattle.core_charts.specs.declared.region.Transition.{Transition}
@@ -12,29 +12,27 @@ use Rattle.chart_machine.specs.Table.{state_at}
 use Rattle.chart_machine.specs.Turns.{standing_of, has_ended, guards as has_to_guard, is_guarded}
 use Rattle.chart_machine.specs.Steps.{verdict, step}
 use Rattle.core_charts.specs.Aborts.{has_aborts}
-use Rattle.abort_expansion.specs.Transitions.{led, strong_checks, raising}
+use Rattle.abort_expansion.specs.Transitions.{raising, go, is_raised}
 use Rattle.abort_expansion.specs.Superstates.{stays}
 use Rattle.chart_machine_laws.specs.Tree.{IsNested, IsThere, around, holder}
-use Rattle.chart_machine_laws.proofs.LyingIn.{head_in, tail_in}
-use Rattle.chart_machine_laws.proofs.ChartTables.{around_there}
 use Rattle.tick_laws.proofs.Lists.{same_or_not, contained}
 use Rattle.abort_expansion_laws.specs.CoreRows.{own, IsState, IsSuper, Images, CoreRows, flags_around}
-use Rattle.abort_expansion_laws.specs.Related.{monitor_last, LooksFirst, front, is_behind, Stands, within, Watches, waits, looks, elsewhere, raises}
+use Rattle.abort_expansion_laws.specs.Related.{monitor_last, LooksFirst, front, is_behind, Stands, within, Watches, waits, looks_strong, looks, elsewhere, raises}
 use Rattle.abort_expansion_laws.specs.Related.{raise_each, still_in, Stores, IsInside, guarded, open_inside, FlagsAreDown, Closes, Related, IsCalm}
 use Rattle.abort_expansion_laws.specs.Related.{calm_within, guards as watch_guards}
-use Rattle.abort_expansion_laws.proofs.StageReached.{any_in, holds_other}
-use Rattle.abort_expansion_laws.proofs.Unchanged.{stands_same, stands_other, no_guards, never_guarded, none_among, none_are, both_ways}
+use Rattle.abort_expansion_laws.proofs.StageReached.{holds_other}
+use Rattle.abort_expansion_laws.proofs.Unchanged.{stands_same, stands_other, no_guards, never_guarded, none_among, both_ways}
 use Rattle.abort_expansion_laws.proofs.KnownVariables.{present_there}
-use Rattle.abort_expansion_laws.proofs.StrongNotTaken.{IsGuarding, guarding_back, MonitorGuards, guards_back, inside_guarding}
-use Rattle.abort_expansion_laws.proofs.InsideLeaves.{LayeredRows, strong_of}
-use Rattle.abort_expansion_laws.proofs.StrongLeaves.{one_check}
+use Rattle.abort_expansion_laws.proofs.StrongNotTaken.{IsGuarding, guarding_back, MonitorGuards, inside_guarding}
+use Rattle.abort_expansion_laws.proofs.InsideLeaves.{LayeredRows}
 use Rattle.abort_expansion_laws.proofs.Leaving.{set_length}
 use Rattle.abort_expansion_laws.proofs.MoreValues.{verdict_over_more}
 use Rattle.abort_expansion_laws.proofs.TestFails.{fails}
 use Rattle.abort_expansion_laws.proofs.LaterTicks.{closes_whole}
 use Rattle.abort_expansion_laws.proofs.WokenConfigurations.{numbered_from, numbered_are, all_among, raising_is, each_kept}
 use Rattle.abort_expansion_laws.proofs.FrontsChanged.{tail_of, HasFirst, stands_to, has_first, stands_dropped}
-use Rattle.abort_expansion_laws.proofs.CalmStandings.{calm_free, calm_guarding}
+use Rattle.abort_expansion_laws.proofs.Fronts.{front_same}
+use Rattle.abort_expansion_laws.proofs.FrontFirst.{front_first}
 use Rattle.abort_expansion_laws.proofs.InsideAround.{one_in_other}
 use Rattle.abort_expansion_laws.proofs.LooksFirst.{still_looks}
 use Rattle.abort_expansion_laws.proofs.OneMonitor.{one_monitor}
@@ -47,20 +45,17 @@ module _ (k core : Table) (i : Images) (rows : CoreRows k core i) (layered : Lay
     (core_children : (s r : ℕ) → Contains (state_at core s).regions r → around core r ≡ s ∷ around core (holder core s))
     (children : (s r : ℕ) → Contains (state_at k s).regions r → around k r ≡ s ∷ around k (holder k s))
     (c d : Configuration) (related : Related k core i c d) (r o x : ℕ) (o_there : IsState k o) (super : IsSuper k o) (t : Transition)
-    (stands : standing_of c r ≡ at.Guarding o (t ∷ [])) (has : has_aborts (own k o) ≡ true) (flag : (i.flags_of o).strong ≡ Some x) where
+    (stands : standing_of c r ≡ at.Guarding o (t ∷ [])) (monitor : MonitorGuards k core i o t [] (standing_of d (i.watcher_of o)))
+    (has : has_aborts (own k o) ≡ true) (flag : (i.flags_of o).strong ≡ Some x) where
   -- the check of a region's thread
   abbrev pub check_of : Bool → ℕ → Transition
-  check_of b q = Rattle.abort_expansion.specs.Transitions.go b (Some (Rattle.abort_expansion.specs.Transitions.is_raised x)) [] (i.places_of q).left
+  check_of b q = go b (Some (is_raised x)) [] (i.places_of q).left
 
   pub there : IsThere k r
   there = present_there k core i c d related r (λ e. let wrong : at.Guarding o (t ∷ []) ≡ at.Outside = sym stands ∙ e in absurd cc)
 
   pub region : IsGuarding k core i r o (standing_of d (i.thread_of r))
   region = guarding_back k core i c r (standing_of c r) (standing_of d (i.thread_of r)) (related.regions r there) o (t ∷ []) stands
-
-  pub monitor : MonitorGuards k core i o t [] (standing_of d (i.watcher_of o))
-  monitor = guards_back k core i o (standing_of c (holder k o)) (standing_of d (i.watcher_of o)) (related.watchers o o_there has) t []
-      (ap (standing_of c) region.held ∙ stands)
 
   abbrev pub opened_now : Standing
   opened_now = at.Within o (closing_tests (own k o))
@@ -132,47 +127,36 @@ module _ (k core : Table) (i : Images) (rows : CoreRows k core i) (layered : Lay
 
   -- ---- who guards, before and after
 
-  is_guarded_before : (q : ℕ) → Contains (around k q) o → is_guarded k c (around k q) ≡ true
-  is_guarded_before q inner = any_in (λ s. has_to_guard (standing_of c (holder k s))) (around k q) o inner guards_there
-
-  same_guards : (zs : List ℕ) → ((s : ℕ) → Contains zs s → holder k s ≢ r) → is_guarded k c' zs ≡ is_guarded k c zs
-  same_guards [] other = refl
-  same_guards (s ∷ zs) other =
-      rw (ap has_to_guard (elsewhere_in_chart (holder k s) (other s (head_in s zs))), same_guards zs (λ u h. other u (tail_in s u zs h))) refl
-
   module _ (free : is_guarded k c (around k r) ≡ false) where
-    free_now : (q : ℕ) → Contains (around k q) o → is_guarded k c' (around k q) ≡ false
-    free_now q inner =
-        none_are (λ s. has_to_guard (standing_of c' (holder k s))) (around k q)
-        (λ s h on. both_ways (has_to_guard (standing_of c' (holder k s))) on (by_holder s h (same_or_not (holder k s) r)))
-      where
-        by_place : (s : ℕ) → (s ≡ o) ⊎ (Contains (around k (holder k s)) o ⊎ Contains (around k (holder k o)) s) → holder k s ≢ r →
-            has_to_guard (standing_of c (holder k s)) ≡ false
-        by_place s (inl e) ne = absurd (ne (ap (holder k) e ∙ region.held))
-        by_place s (inr (inl deeper)) ne =
-            calm_free (standing_of c (holder k s)) (related.calm (holder k s) o (around_there k (holder k s) o deeper) deeper guards_there)
-        by_place s (inr (inr outer)) ne =
-            none_among (λ u. has_to_guard (standing_of c (holder k u))) (around k r) s free (subst (λ q. Contains (around k q) s) region.held outer)
+    -- nobody guards around it
+    free_around : (s : ℕ) → Contains (around k (holder k o)) s → has_to_guard (standing_of c (holder k s)) ≡ false
+    free_around s h =
+        none_among (λ u. has_to_guard (standing_of c (holder k u))) (around k r) s free (subst (λ q. Contains (around k q) s) region.held h)
 
-        by_holder : (s : ℕ) → Contains (around k q) s → (holder k s ≡ r) ⊎ (holder k s ≢ r) → has_to_guard (standing_of c' (holder k s)) ≡ false
-        by_holder s h (inl e) = ap has_to_guard (ap (standing_of c') e ∙ here)
-        by_holder s h (inr ne) =
-            ap has_to_guard (elsewhere_in_chart (holder k s) ne) ∙ by_place s (one_in_other k tree (around k q) q s o refl h inner) ne
+    -- of the superstates around a region inside, another one is held elsewhere
+    held_elsewhere : (q s : ℕ) → Contains (around k q) o → Contains (around k q) s → s ≢ o → holder k s ≢ r
+    held_elsewhere q s inner h ne e =
+        ⊎_elim ne
+        (⊎_elim (λ deeper. holds_other k tree r o (subst (λ p. Contains (around k p) o) e deeper) region.held)
+        (λ outer. holds_other k tree r s (subst (λ p. Contains (around k p) s) region.held outer) e))
+        (one_in_other k tree (around k q) q s o refl h inner)
 
-    front_none : (q : ℕ) (b : Bool) → Contains (around k q) o → front k core i b c' q ≡ []
-    front_none q b inner = rw (free_now q inner) refl
-
-    front_one : (q : ℕ) (b : Bool) → Contains (around k q) o → front k core i b c q ≡ check_of b q ∷ []
-    front_one q b inner = rw (is_guarded_before q inner) (one_check k core i rows layered tree core_children children o x
-        (strong_of k core i layered o x flag) flag q b inner)
+    front_one : (q : ℕ) (b : Bool) → Contains (around k q) o → front k core i b c q ≡ check_of b q ∷ front k core i b c' q
+    front_one q b inner =
+        front_first k core i tree c c' o x q inner guards_there flag free_around (ap has_to_guard (ap (standing_of c') region.held ∙ here))
+        (λ s h ne. ap has_to_guard (elsewhere_in_chart (holder k s) (held_elsewhere q s inner h ne))) b
 
     -- who is not inside sees the same superstates guard
-    front_same : (q : ℕ) → IsThere k q → (Contains (around k q) o → ⊥) → standing_of c q ≢ at.Outside → (b : Bool) →
+    front_as_before : (q : ℕ) → IsThere k q → (Contains (around k q) o → ⊥) → standing_of c q ≢ at.Outside → (b : Bool) →
         front k core i b c' q ≡ front k core i b c q
-    front_same q is out present b =
-        rw (same_guards (around k q) (λ s h e.
+    front_as_before q is out present =
+        front_same k core i c c' q
+        (λ s h.
+        ap has_to_guard
+        (elsewhere_in_chart (holder k s)
+        (λ e.
         out (subst (Contains (around k q))
-        (inside_guarding k core i o s (standing_of c (holder k s)) (related.enclosed q s is present h) (t ∷ []) (ap (standing_of c) e ∙ stands)) h))) refl
+        (inside_guarding k core i o s (standing_of c (holder k s)) (related.enclosed q s is present h) (t ∷ []) (ap (standing_of c) e ∙ stands)) h))))
 
     -- ---- where everybody stands then
 
@@ -227,7 +211,7 @@ module _ (k core : Table) (i : Images) (rows : CoreRows k core i) (layered : Lay
           inside_region ne inner =
               subst (λ w. Stands k core i c' q w (standing_of e (i.thread_of q))) (sym (elsewhere_in_chart q ne))
               (subst (Stands k core i c' q (standing_of c q)) (sym (passed q is inner ∙ ap tail_of (thread_same q)))
-              (stands_dropped k core i c c' ends_alike q (λ b. check_of b q) (λ b. front_one q b inner) (λ b. front_none q b inner) (standing_of c q)
+              (stands_dropped k core i c c' ends_alike q (λ b. check_of b q) (λ b. front_one q b inner) (standing_of c q)
               (standing_of d (i.thread_of q)) (related.regions q is) (calm_inside q is inner)))
 
           outside_region : q ≢ r → (Contains (around k q) o → ⊥) → Stands k core i c' q (standing_of c' q) (standing_of e (i.thread_of q))
@@ -235,7 +219,7 @@ module _ (k core : Table) (i : Images) (rows : CoreRows k core i) (layered : Lay
               subst (λ w. Stands k core i c' q w (standing_of e (i.thread_of q))) (sym (elsewhere_in_chart q ne))
               (subst (Stands k core i c' q (standing_of c q)) (sym (thread_kept q out))
               (stands_to k core i c c' ends_alike q (standing_of c q) (standing_of d (i.thread_of q)) (related.regions q is)
-              (λ present b. front_same q is out present b)))
+              (λ present b. front_as_before q is out present b)))
 
           other_region : q ≢ r → Stands k core i c' q (standing_of c' q) (standing_of e (i.thread_of q))
           other_region ne = ⊎_elim (inside_region ne) (outside_region ne) (contained (around k q) o)
@@ -249,6 +233,7 @@ module _ (k core : Table) (i : Images) (rows : CoreRows k core i) (layered : Lay
       -- another superstate of the region is not watched
       not_watched : (u : ℕ) → u ≢ o → (a b : Standing) → Watches k core i u a b → a ≡ at.Guarding o (t ∷ []) → Watches k core i u opened_now b
       not_watched u ne _ _ (watch_guards some among) f = let same : u ≡ o = cc in absurd (ne same)
+      not_watched u ne _ _ (looks_strong some among) f = let same : u ≡ o = cc in absurd (ne same)
       not_watched u ne _ _ (waits some ends among only) f = absurd cc
       not_watched u ne _ _ (looks first some ends among only) f = absurd cc
       not_watched u ne a _ (elsewhere z one two) f =
@@ -357,7 +342,8 @@ module _ (k core : Table) (i : Images) (rows : CoreRows k core i) (layered : Lay
           ⊎_elim
           (λ f.
           let around_r : Contains (around k r) s = subst (λ q. Contains (around k q) s) (ap (holder k) f ∙ region.held) inner in
-          absurd (calm_guarding (standing_of c r) (related.calm r s there around_r was) o (t ∷ []) stands))
+          absurd (both_ways (has_to_guard (standing_of c (holder k s))) was
+          (none_among (λ v. has_to_guard (standing_of c (holder k v))) (around k r) s free around_r)))
           (λ differ.
           still_looks k core i u (standing_of d (i.watcher_of u)) (standing_of e (i.watcher_of u))
           (watcher_kept u is has_too ∙ core_elsewhere (i.watcher_of u) (λ f. differ (monitors_differ u is has_too f)))

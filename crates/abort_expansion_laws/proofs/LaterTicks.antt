@@ -1,5 +1,5 @@
 -- Each tick but the first begins with related configurations, without a step.
-use Rattle.std.proofs.Common.{◌≡◌, ◌≢◌, ℕ, suc, ◌≤◌, Bool, true, false, Option, Some, None, List, [], ◌∷◌, ◌++◌, length, slice_get, Contains}
+use Rattle.std.proofs.Common.{◌≡◌, ◌≢◌, ℕ, suc, ◌≤◌, Bool, true, false, Option, Some, None, List, [], ◌∷◌, ◌++◌, length, slice_get}
 use Rattle.std.proofs.Common.{zero, ◌&&◌, unwrap_or}
 use Rattle.std.specs.List.{list_all}
 use Rattle.chart_machine.specs.Machine.{is_outside}
@@ -7,7 +7,7 @@ use Rattle.std.proofs.Common.{refl, sym, ap, subst, ◌∙◌, arith}
 use Rattle.std.proofs.lemmas.List.{length-append, length-map}
 use Rattle.sc_graph.specs.Tick.{Inputs, values_at_start}
 use Rattle.core_charts.specs.declared.region.Transition.{Transition}
-use Rattle.core_charts.specs.Tests.{strong_aborts, weak_aborts, closing_tests, is_strong, is_weak, is_join}
+use Rattle.core_charts.specs.Tests.{strong_aborts, weak_aborts, closing_tests, is_weak, is_join}
 use Rattle.core_charts.specs.declared.region.TransitionKind.{TransitionKind}
 use Rattle.core_charts.specs.declared.region.TransitionKind.TheVariants as kind
 use Rattle.chart_machine.specs.declared.standing.Standing.{Standing}
@@ -15,19 +15,18 @@ use Rattle.chart_machine.specs.declared.standing.Standing.TheVariants as at
 use Rattle.chart_machine.specs.declared.standing.Configuration.{Configuration}
 use Rattle.chart_machine.specs.declared.table.Table.{Table}
 use Rattle.chart_machine.specs.Table.{state_at}
-use Rattle.chart_machine.specs.Turns.{standing_of, has_ended, guards as has_to_guard}
+use Rattle.chart_machine.specs.Turns.{standing_of, has_ended}
 use Rattle.chart_machine.specs.Machine.{woken, guarded_first}
-use Rattle.core_charts.specs.Aborts.{has_strong}
 use Rattle.chart_machine_laws.specs.Tree.{IsNested, IsThere, around, holder}
 use Rattle.abort_expansion_laws.specs.CoreRows.{own, IsState, Images, CoreRows}
 use Rattle.abort_expansion_laws.specs.Related.{Each, Watches, still_in, Stores, IsInside, guarded}
 use Rattle.abort_expansion_laws.specs.Related.{open_inside, FlagsAreDown, Closes, Related, IsCalm, calm_outside}
-use Rattle.abort_expansion_laws.specs.Related.{calm_ended, calm_trying, calm_within}
+use Rattle.abort_expansion_laws.specs.Related.{calm_ended, calm_trying, calm_within, calm_guarding}
 use Rattle.abort_expansion_laws.proofs.InsideLeaves.{LayeredRows}
 use Rattle.abort_expansion_laws.proofs.Owed.{RestsIn, rests_outside, rests_ended, rests_left, rests_trying, rests_staying, rests_within, rests_behind, Resting}
 use Rattle.abort_expansion_laws.proofs.WokenConfigurations.{each_kept, variables_started, started_size, behind_same}
-use Rattle.abort_expansion_laws.proofs.WokenConfigurations.{woken_ended, present_before, present_after, open_then}
-use Rattle.abort_expansion_laws.proofs.TickStarts.{StartRows, kept_none, neither}
+use Rattle.abort_expansion_laws.proofs.WokenConfigurations.{woken_ended, present_before, present_after}
+use Rattle.abort_expansion_laws.proofs.TickStarts.{StartRows}
 use Rattle.abort_expansion_laws.proofs.TickStarts as starts
 use Rattle.abort_expansion_laws.proofs.WokenMonitors.{monitor_woken, woken_looks}
 use Rattle.abort_expansion_laws.proofs.LooksFirst.{still_looks}
@@ -185,51 +184,18 @@ module _ (k core : Table) (i : Images) (rows : CoreRows k core i) (layered : Lay
 
   -- ---- who is inside of what guards
 
-  plain_strong : (u : ℕ) → has_strong (own k u) ≡ false → strong_aborts (own k u) ≡ []
-  plain_strong u plain = kept_none (λ t. is_strong t.kind) (own k u) plain
+  first_calm : (u : ℕ) (strong closing : List Transition) → IsCalm (guarded_first u strong closing)
+  first_calm u [] closing = calm_within u closing
+  first_calm u (t ∷ strong) closing = calm_guarding u (t ∷ strong)
 
-  calm_open : (r s u : ℕ) (tests : List Transition) → Contains (around k r) s → has_strong (own k s) ≡ true → holder k u ≡ r →
-      IsCalm (woken k (at.Within u tests))
-  calm_open r s u tests inner has held =
-      let plain : has_strong (own k u) ≡ false = layered.strong_apart s u has (subst (λ q. Contains (around k q) s) (sym held) inner) in
-      subst IsCalm (sym (open_then k u tests (plain_strong u plain))) (calm_within u (closing_tests (own k u)))
-
-  no_guards_inside : (r s : ℕ) → IsThere k r → Contains (around k r) s → has_strong (own k s) ≡ true → (x y : Standing) → RestsIn k core i before r x y →
-      IsCalm (woken k x)
-  no_guards_inside r s there inner has _ _ rests_outside = calm_outside
-  no_guards_inside r s there inner has _ _ (rests_ended inside) = calm_ended
-  no_guards_inside r s there inner has _ _ (rests_left u ss round over) = calm_ended
-  no_guards_inside r s there inner has _ _ (rests_trying u simple held) = calm_trying u (own k u)
-  no_guards_inside r s there inner has _ _ (rests_staying u tests super held stay) = calm_open r s u tests inner has held
-  no_guards_inside r s there inner has _ _ (rests_within u join tests super held apart still leads) = calm_open r s u tests inner has held
-  no_guards_inside r s there inner has _ _ (rests_behind u tests super held over) = calm_open r s u tests inner has held
-
-  -- who comes to guard has strong aborts
-  guard_has : (x : Standing) → ((u : ℕ) (tests : List Transition) → x ≢ at.Guarding u tests) → has_to_guard (woken k x) ≡ true →
-      ((s : ℕ) (tests : List Transition) → x ≡ at.Entering s tests → ⊥) →
-      (u : ℕ) × ((tests : List Transition) × ((x ≡ at.Within u tests) × (has_strong (own k u) ≡ true)))
-  guard_has at.Outside other e never_enters = absurd cc
-  guard_has at.Ended other e never_enters = absurd cc
-  guard_has (at.Trying u tests) other e never_enters = absurd cc
-  guard_has (at.Acting u effects p) other e never_enters = absurd cc
-  guard_has (at.Entering u tests) other e never_enters = absurd (never_enters u tests refl)
-  guard_has (at.Guarding u tests) other e never_enters = absurd (other u tests refl)
-  guard_has (at.Within u tests) other e never_enters = (u, (tests, (refl, from (has_strong (own k u)) refl)))
-    where
-      from : (b : Bool) → has_strong (own k u) ≡ b → has_strong (own k u) ≡ true
-      from true has = has
-      from false none =
-          let open_now = open_then k u tests (kept_none (λ t. is_strong t.kind) (own k u) none) in
-          let wrong : true ≡ false = sym e ∙ ap has_to_guard open_now in absurd cc
-
-  never_entering : (r : ℕ) (x y : Standing) → RestsIn k core i before r x y → (s : ℕ) (tests : List Transition) → x ≡ at.Entering s tests → ⊥
-  never_entering r _ _ rests_outside s tests e = absurd cc
-  never_entering r _ _ (rests_ended inner) s tests e = absurd cc
-  never_entering r _ _ (rests_left u ss round over) s tests e = absurd cc
-  never_entering r _ _ (rests_trying u simple held) s tests e = absurd cc
-  never_entering r _ _ (rests_staying u others super held stay) s tests e = absurd cc
-  never_entering r _ _ (rests_within u join others super held apart still leads) s tests e = absurd cc
-  never_entering r _ _ (rests_behind u others super held over) s tests e = absurd cc
+  woken_calm : (r : ℕ) (x y : Standing) → RestsIn k core i before r x y → IsCalm (woken k x)
+  woken_calm r _ _ rests_outside = calm_outside
+  woken_calm r _ _ (rests_ended inside) = calm_ended
+  woken_calm r _ _ (rests_left u ss round over) = calm_ended
+  woken_calm r _ _ (rests_trying u simple held) = calm_trying u (own k u)
+  woken_calm r _ _ (rests_staying u tests super held stay) = first_calm u (strong_aborts (own k u)) (closing_tests (own k u))
+  woken_calm r _ _ (rests_within u join tests super held apart still leads) = first_calm u (strong_aborts (own k u)) (closing_tests (own k u))
+  woken_calm r _ _ (rests_behind u tests super held over) = first_calm u (strong_aborts (own k u)) (closing_tests (own k u))
 
   present_from : (r : ℕ) → standing_of c r ≢ at.Outside → standing_of before r ≢ at.Outside
   present_from r present = present_before k (standing_of before r) (λ out. present (at_c r ∙ out))
@@ -237,40 +203,8 @@ module _ (k core : Table) (i : Images) (rows : CoreRows k core i) (layered : Lay
   present_now : (r : ℕ) → standing_of before r ≢ at.Outside → standing_of c r ≢ at.Outside
   present_now r present out = present_after k (standing_of before r) present (sym (at_c r) ∙ out)
 
-  calm_now : (q s : ℕ) → IsThere k q → Contains (around k q) s → has_to_guard (standing_of c (holder k s)) ≡ true → IsCalm (standing_of c q)
-  calm_now q s there inner e =
-      let before_holder : standing_of before (holder k s) ≢ at.Outside =
-      λ out. let wrong : true ≡ false = sym e ∙ ap has_to_guard (at_c (holder k s) ∙ ap (woken k) out) in absurd cc in
-      let is = starts.there k core i rows layered tree more_rows before core_before rests inputs (holder k s) before_holder in
-      let found = guard_has (standing_of before (holder k s)) (never (holder k s)) (sym (ap has_to_guard (at_c (holder k s))) ∙ e)
-      (never_entering (holder k s) (standing_of before (holder k s)) _ (rests.regions (holder k s) is)) in
-      by_presence found.0 found.1.0 found.1.1.0 found.1.1.1
-    where
-      by_presence : (u : ℕ) (tests : List Transition) → standing_of before (holder k s) ≡ at.Within u tests → has_strong (own k u) ≡ true →
-          IsCalm (standing_of c q)
-      by_presence u tests open_now has = by_standing (standing_of before q) refl
-        where
-          inside_u : IsInside k core i s (standing_of before (holder k s)) → s ≡ u
-          inside_u h = same _ h open_now
-            where
-              same : (x : Standing) → IsInside k core i s x → x ≡ at.Within u tests → s ≡ u
-              same _ (guarded others) e = absurd cc
-              same _ (open_inside others) e = cc
-
-          present_calm : standing_of before q ≢ at.Outside → IsCalm (standing_of c q)
-          present_calm present =
-              let one : s ≡ u = inside_u (rests.enclosed q s there present inner) in
-              subst IsCalm (sym (at_c q))
-              (no_guards_inside q s there inner (subst (λ z. has_strong (own k z) ≡ true) (sym one) has) (standing_of before q) _ (rests.regions q there))
-
-          by_standing : (x : Standing) → standing_of before q ≡ x → IsCalm (standing_of c q)
-          by_standing at.Outside e = subst IsCalm (sym (at_c q ∙ ap (woken k) e)) calm_outside
-          by_standing at.Ended e = present_calm (λ out. let wrong : at.Ended ≡ at.Outside = sym e ∙ out in absurd cc)
-          by_standing (at.Trying v others) e = present_calm (λ out. let wrong : at.Trying v others ≡ at.Outside = sym e ∙ out in absurd cc)
-          by_standing (at.Acting v effects p) e = present_calm (λ out. let wrong : at.Acting v effects p ≡ at.Outside = sym e ∙ out in absurd cc)
-          by_standing (at.Entering v others) e = present_calm (λ out. let wrong : at.Entering v others ≡ at.Outside = sym e ∙ out in absurd cc)
-          by_standing (at.Guarding v others) e = present_calm (λ out. let wrong : at.Guarding v others ≡ at.Outside = sym e ∙ out in absurd cc)
-          by_standing (at.Within v others) e = present_calm (λ out. let wrong : at.Within v others ≡ at.Outside = sym e ∙ out in absurd cc)
+  calm_now : (q : ℕ) → IsThere k q → IsCalm (standing_of c q)
+  calm_now q there = subst IsCalm (sym (at_c q)) (woken_calm q (standing_of before q) _ (rests.regions q there))
 
   pub woken_related : Related k core i c d
   woken_related =
@@ -300,7 +234,7 @@ module _ (k core : Table) (i : Images) (rows : CoreRows k core i) (layered : Lay
             (inside_after s (standing_of before (holder k s)) (rests.enclosed r s there (present_from r present) inner));
         opened = λ s r here h own_region. present_now r (rests.opened s r here (was_inside s h) own_region);
         closes_last = λ s tests e. closes s (standing_of before (holder k s)) (never (holder k s)) tests (sym (at_c (holder k s)) ∙ e);
-        calm = calm_now;
+        calm = λ q s there inner guarded_by. calm_now q there;
         unseen = λ o s here has inner guarded_by.
             still_looks k core i o (woken core (standing_of core_before (i.watcher_of o))) (standing_of d (i.watcher_of o))
             (starts.at_d k core i rows layered tree more_rows before core_before rests inputs (i.watcher_of o))

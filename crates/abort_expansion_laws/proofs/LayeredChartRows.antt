@@ -9,7 +9,7 @@ use Rattle.chart_machine.specs.Table.{table}
 use Rattle.abort_expansion.specs.Flags.{given, one}
 use Rattle.core_charts.specs.Aborts.{has_strong, has_weak}
 use Rattle.abort_expansion.specs.Expansion.{expanded}
-use Rattle.abort_expansion_laws.specs.Layered.{IsLayered}
+use Rattle.abort_expansion_laws.specs.Layered.{IsWeaklyLayered}
 use Rattle.abort_expansion_laws.specs.CoreRows.{own, Images}
 use Rattle.abort_expansion_laws.proofs.InsideLeaves.{LayeredRows}
 use Rattle.abort_expansion_laws.proofs.Walked.{World, FlagsFit}
@@ -38,7 +38,7 @@ given_there : (b : Bool) (x y : ℕ) → given b x ≡ Some y → b ≡ true
 given_there true x y e = refl
 given_there false x y e = absurd cc
 
-module _ (c : Chart) (rules : IsChart features.Extended c) (core_rules : IsChart features.Core (expanded c)) (layered : IsLayered c) where
+module _ (c : Chart) (rules : IsChart features.Extended c) (core_rules : IsChart features.Core (expanded c)) (layered : IsWeaklyLayered c) where
   abbrev k : Table
   k = table c
 
@@ -54,8 +54,6 @@ module _ (c : Chart) (rules : IsChart features.Extended c) (core_rules : IsChart
   pub layered_rows : LayeredRows k core i
   layered_rows =
       record {
-        strong_apart = λ o s has h. layered.strong_apart o s h has;
-        strong_once = kinds.strong_once k (kinds.layered_apart c layered) (whole.tree c rules core_rules).nested;
         weak_once = kinds.weak_once k (kinds.layered_apart c layered) (whole.tree c rules core_rules).nested;
         no_strong = no_strong c rules core_rules;
         simple_alone = simple_alone c rules core_rules;
@@ -87,7 +85,7 @@ module _ (c : Chart) (rules : IsChart features.Extended c) (core_rules : IsChart
       }
 
 -- each tick of a layered chart but the first begins with related configurations, without a step of the core
-module _ (c : Chart) (rules : IsChart features.Extended c) (core_rules : IsChart features.Core (expanded c)) (layered : IsLayered c)
+module _ (c : Chart) (rules : IsChart features.Extended c) (core_rules : IsChart features.Core (expanded c)) (layered : IsWeaklyLayered c)
     (before core_before : Configuration) (rests : Resting (table c) (table (expanded c)) (whole.i c rules core_rules) before core_before)
     (inputs : Inputs) where
   abbrev theirs : Images

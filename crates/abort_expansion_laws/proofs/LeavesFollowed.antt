@@ -23,7 +23,7 @@ use Rattle.abort_expansion.specs.Superstates.{stays}
 use Rattle.abort_expansion.specs.Transitions.{led}
 use Rattle.chart_machine_laws.specs.Tree.{holder}
 use Rattle.chart_machine_laws.proofs.ChartTables.{around_there}
-use Rattle.abort_expansion_laws.specs.Layered.{IsLayered}
+use Rattle.abort_expansion_laws.specs.Layered.{IsWeaklyLayered}
 use Rattle.abort_expansion_laws.specs.Stages.{Entry}
 use Rattle.abort_expansion_laws.specs.CoreRows.{own, IsState, IsSuper, joins, Images, CoreRows, flags_around}
 use Rattle.abort_expansion_laws.specs.Related.{Stands, outside, ended, left, trying, acting, entering, guarding, staying, within, behind, Related}
@@ -38,7 +38,7 @@ use Rattle.abort_expansion_laws.proofs.QuietBegins.{state_with_aborts}
 use Rattle.abort_expansion_laws.proofs.RowsOfCharts as whole
 use Rattle.abort_expansion_laws.proofs.SplitTerminates.{split_terminates, split_enters}
 use Rattle.abort_expansion_laws.proofs.StayingTerminates.{staying_terminates, staying_enters}
-use Rattle.abort_expansion_laws.proofs.StrongNotTaken.{IsGuarding}
+use Rattle.abort_expansion_laws.proofs.StrongNotTaken.{IsGuarding, MonitorGuards}
 use Rattle.abort_expansion_laws.proofs.StrongTaken.{strong_followed, strong_entered}
 use Rattle.abort_expansion_laws.proofs.TestTargets.{ends_untested}
 use Rattle.abort_expansion_laws.proofs.TickFollowed as ticks
@@ -86,7 +86,7 @@ module _ (k core : Table) (i : Images) (r s : ℕ) where
       absurd (not_behind (stays (flags_around k core i (holder k u)) (own k u)) (has_aborts (own k u)) (has_join (own k u)) _
       (ap (λ v. has_join (own k v)) state ∙ joined) over)
 
-module _ (c : Chart) (rules : IsChart features.Extended c) (core_rules : IsChart features.Core (expanded c)) (layered : IsLayered c) where
+module _ (c : Chart) (rules : IsChart features.Extended c) (core_rules : IsChart features.Core (expanded c)) (layered : IsWeaklyLayered c) where
   abbrev k : Table
   k = table c
 
@@ -125,15 +125,15 @@ module _ (c : Chart) (rules : IsChart features.Extended c) (core_rules : IsChart
     -- ---- a strong abort
 
     module _ (o : ℕ) (t : Transition) (tests : List Transition) (stands : standing_of now r ≡ at.Guarding o (t ∷ tests))
-        (holds : verdict now.variables t.trigger ≡ Some true) where
+        (monitor : MonitorGuards k core i o t tests (standing_of d (i.watcher_of o))) (holds : verdict now.variables t.trigger ≡ Some true) where
       guards : IsGuarding k core i r o (standing_of d (i.thread_of r))
-      guards = cases.guards c rules core_rules layered now d related owns r next goes o t tests stands
+      guards = cases.guards c rules core_rules layered now d related owns r next goes o t tests stands monitor
 
       here : IsState k o
       here = state_with_aborts k o guards.has
 
       flag : (x : ℕ) × ((i.flags_of o).strong ≡ Some x)
-      flag = cases.flag c rules core_rules layered now d related owns r next goes o t tests stands
+      flag = cases.flag c rules core_rules layered now d related owns r next goes o t tests stands monitor
 
       row : (rows.of_flag flag.0 ≡ o) × ((takes_kind (option_map (λ z. z.kind) (slice_get core.variables flag.0)) kind_is.Int ≡ true)
           × (flag.0 < length core.variables))
@@ -153,22 +153,26 @@ module _ (c : Chart) (rules : IsChart features.Extended c) (core_rules : IsChart
           by_effects (e ∷ es) some =
               strong_followed k core i rows (layered_rows c rules core_rules layered) (ticks.nested c rules core_rules)
               (whole.core_tree c rules core_rules).nested (whole.core_tree c rules core_rules).deeper (whole.core_tree c rules core_rules).children
-              (whole.tree c rules core_rules).children (ticks.counts c rules core_rules) (ticks.written_at c rules core_rules) Told (told_silent k core i) now d
-              related r o here t tests stands holds (λ q inner. related.calm q o (around_there k q o inner) inner guards_there) flag.0 flag.1
+              (whole.tree c rules core_rules).children (ticks.counts c rules core_rules) (ticks.written_at c rules core_rules)
+              (counter_rows c rules core_rules) (opening_rows c rules core_rules) (strong_at c rules core_rules) (whole.super_there c rules core_rules)
+              (whole.super_of c rules core_rules) Told (told_silent k core i) now d
+              related r o here t tests stands monitor holds (λ q inner. related.calm q o (around_there k q o inner) inner guards_there) flag.0 flag.1
               (strong_of c rules core_rules o flag.0 flag.1) ((counter_rows c rules core_rules).strong_not o flag.0 flag.1)
               (strong_at c rules core_rules o flag.0 flag.1) row.1.0 row.1.1 (watching_alone o here guards.has) e es some target
               (whole.super_of c rules core_rules o here guards.has) (flag_differs o flag.0 (inl flag.1))
-              (λ first. cases.strong_told c rules core_rules layered now d related owns r next goes o t tests stands) parts.free next goes
+              (λ first. cases.strong_told c rules core_rules layered now d related owns r next goes o t tests stands monitor) parts.free next goes
           by_effects [] none =
               strong_entered k core i rows (layered_rows c rules core_rules layered) (ticks.nested c rules core_rules)
               (whole.core_tree c rules core_rules).nested (whole.core_tree c rules core_rules).deeper (whole.core_tree c rules core_rules).children
-              (whole.tree c rules core_rules).children (ticks.counts c rules core_rules) (ticks.written_at c rules core_rules) Told (told_silent k core i) now d
-              related r o here t tests stands holds (λ q inner. related.calm q o (around_there k q o inner) inner guards_there) flag.0 flag.1
+              (whole.tree c rules core_rules).children (ticks.counts c rules core_rules) (ticks.written_at c rules core_rules)
+              (counter_rows c rules core_rules) (opening_rows c rules core_rules) (strong_at c rules core_rules) (whole.super_there c rules core_rules)
+              (whole.super_of c rules core_rules) Told (told_silent k core i) now d
+              related r o here t tests stands monitor holds (λ q inner. related.calm q o (around_there k q o inner) inner guards_there) flag.0 flag.1
               (strong_of c rules core_rules o flag.0 flag.1) ((counter_rows c rules core_rules).strong_not o flag.0 flag.1)
               (strong_at c rules core_rules o flag.0 flag.1) row.1.0 row.1.1 (watching_alone o here guards.has) none target
               (whole.super_of c rules core_rules o here guards.has) (flag_differs o flag.0 (inl flag.1))
-              (λ first. cases.strong_told c rules core_rules layered now d related owns r next goes o t tests stands) parts.free
-              (cases.law_of_entering c rules core_rules layered) (counter_rows c rules core_rules) (whole.super_there c rules core_rules)
+              (λ first. cases.strong_told c rules core_rules layered now d related owns r next goes o t tests stands monitor) parts.free
+              (cases.law_of_entering c rules core_rules layered)
               (cases.chart_first c rules core_rules layered now d related owns r next goes t.target target)
               (cases.core_first c rules core_rules layered now d related owns r next goes t.target target) next goes
 

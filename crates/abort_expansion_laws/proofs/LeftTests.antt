@@ -17,7 +17,7 @@ use Rattle.chart_machine.specs.declared.table.Table.{Table}
 use Rattle.chart_machine.specs.Table.{state_at}
 use Rattle.chart_machine.specs.Turns.{standing_of, has_ended, has_work, inside}
 use Rattle.chart_machine.specs.Machine.{machine}
-use Rattle.core_charts.specs.Aborts.{has_weak, has_aborts}
+use Rattle.core_charts.specs.Aborts.{has_aborts}
 use Rattle.abort_expansion.specs.Transitions.{go, is_raised, is_number, check, weak_checks}
 use Rattle.abort_expansion.specs.Superstates.{all_ended}
 use Rattle.chart_machine_laws.specs.Tree.{IsNested, IsThere, around, holder}
@@ -25,10 +25,11 @@ use Rattle.chart_machine_laws.proofs.LyingIn.{head_in, tail_in}
 use Rattle.abort_expansion_laws.specs.Stages.{Entry, Silent, Correspondence}
 use Rattle.abort_expansion_laws.specs.CoreRows.{own, IsState, Images, CoreRows, flags_around, pair}
 use Rattle.abort_expansion_laws.specs.Related.{Each, front, held_back, Stands, outside, ended, left, trying, acting, entering, guarding, staying}
-use Rattle.abort_expansion_laws.specs.Related.{within, behind, Watches, waits, looks, elsewhere, raise_each}
+use Rattle.abort_expansion_laws.specs.Related.{within, behind, Watches, waits, looks_strong, looks, elsewhere, raise_each}
 use Rattle.abort_expansion_laws.specs.Related.{still_in, not_ended, Stores, IsInside, guarded, open_inside}
 use Rattle.abort_expansion_laws.specs.Related.{Closes, Related, monitor_last}
 use Rattle.abort_expansion_laws.specs.Related.{guards as watch_guards}
+use Rattle.abort_expansion_laws.proofs.Fronts.{front_free}
 use Rattle.abort_expansion_laws.specs.StageReached.{some_work, stage_of, Stage}
 use Rattle.abort_expansion_laws.proofs.KnownVariables.{present_there}
 use Rattle.abort_expansion_laws.proofs.InsideLeaves.{LayeredRows}
@@ -184,7 +185,7 @@ module _ (k core : Table) (i : Images) (rows : CoreRows k core i) (layered : Lay
   weak_left r is present u = some_left u (held_back k core i r) (weak_all (i.thread_of r) r (i.places_of r).left is present (λ s inner. in_fork r s inner))
 
   pub front_none : (r : ℕ) (b : Bool) → front k core i b c r ≡ []
-  front_none r b = rw (free k core i c d related deep over (around k r)) refl
+  front_none r b = front_free k core i c r (free k core i c d related deep over (around k r)) b
 
   region_ends : (r : ℕ) → IsThere k r → (x y : Standing) → standing_of c r ≡ x → Stands k core i c r x y → EndsAt (i.thread_of r) y
   region_ends r is _ _ e outside = nothing_left at.Outside refl
@@ -274,6 +275,7 @@ module _ (k core : Table) (i : Images) (rows : CoreRows k core i) (layered : Lay
   watcher_ends : (o : ℕ) → IsState k o → has_aborts (own k o) ≡ true → (x y : Standing) → standing_of c (holder k o) ≡ x → Watches k core i o x y →
       EndsAt (i.watcher_of o) y
   watcher_ends o is has _ _ e (watch_guards some among) = absurd (works_not (holder k o) (at.Guarding o (map (λ z. z.1) some)) e refl)
+  watcher_ends o is has _ _ e (looks_strong some among) = absurd (works_not (holder k o) (at.Guarding o (map (λ z. z.1) some)) e refl)
   watcher_ends o is has _ _ e (waits [] ends among only) =
       subst (λ zs. EndsAt (i.watcher_of o) (at.Trying (i.watching_of o) (zs ++ monitor_last k core i o)))
       (sym (none_raised (λ t. t.immediate) (i.flags_of o).weak)) (count_left o is has ends e)

@@ -8,9 +8,11 @@ pub mod ListsOfTicks
 pub mod LowPriorities
 pub mod MoreValues
 pub mod CalmStandings
+pub mod Fronts
 pub mod Unchanged
 pub mod RegionGoesOn
 pub mod StageReached
+pub mod FrontFirst
 pub mod ImageSteps
 pub mod KindsApart
 pub mod KnownVariables
@@ -28,8 +30,12 @@ pub mod SimpleRows
 pub mod StandsInside
 pub mod DropsOut
 pub mod MonitorsApart
+pub mod ChecksUpTo
 pub mod StrongTestsQuiet
+pub mod WakesLow
+pub mod CheckNodes
 pub mod InsideLeaves
+pub mod AbortsHere
 pub mod StrongLeaves
 pub mod FlagAccess
 pub mod CoreSteps
@@ -43,7 +49,6 @@ pub mod DroppedInside
 pub mod AbortAnswered
 pub mod SuperstateLeft
 pub mod AbortFollowed
-pub mod OutsideAborts
 pub mod StrongTaken
 pub mod WeakNotTaken
 pub mod WeakSeen
@@ -195,7 +200,10 @@ pub mod PreemptionKept
 pub mod CasesFollowed
 pub mod LeavesFollowed
 pub mod WeakTestReady
+pub mod StrongTestReady
 pub mod StepsByCase
+pub mod HasLooked
+pub mod LooksBefore
 pub mod MonitorsReady
 pub mod StepsReady
 pub mod ByEvaluation

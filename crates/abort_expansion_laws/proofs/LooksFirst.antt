@@ -4,7 +4,7 @@ use Rattle.chart_machine.specs.declared.standing.Standing.{Standing}
 use Rattle.chart_machine.specs.declared.standing.Standing.TheVariants as at
 use Rattle.chart_machine.specs.declared.table.Table.{Table}
 use Rattle.abort_expansion_laws.specs.CoreRows.{Images}
-use Rattle.abort_expansion_laws.specs.Related.{Watches, guards, waits, looks, elsewhere, IsInside, guarded, open_inside, LooksFirst, looks_never, looks_first}
+use Rattle.abort_expansion_laws.specs.Related.{Watches, guards, waits, looks_strong, looks, elsewhere, IsInside, guarded, open_inside, LooksFirst, looks_never, looks_first}
 
 module _ (k core : Table) (i : Images) where
   pub looks_not_ended : (o : ℕ) (y : Standing) → LooksFirst k core i o y → y ≢ at.Ended
@@ -21,6 +21,7 @@ module _ (k core : Table) (i : Images) where
   -- the monitor of who is gone
   pub watch_gone : (o : ℕ) (x y : Standing) → Watches k core i o x y → (x ≡ at.Ended) ⊎ (x ≡ at.Outside) → y ≡ at.Outside
   watch_gone o _ _ (guards some among) gone = ⊎_elim (λ w. absurd cc) (λ w. absurd cc) gone
+  watch_gone o _ _ (looks_strong some among) gone = ⊎_elim (λ w. absurd cc) (λ w. absurd cc) gone
   watch_gone o _ _ (waits some joins among ends) gone = ⊎_elim (λ w. absurd cc) (λ w. absurd cc) gone
   watch_gone o _ _ (looks first some joins among ends) gone = ⊎_elim (λ w. absurd cc) (λ w. absurd cc) gone
   watch_gone o x _ (elsewhere _ not_guarding not_within) gone = refl
@@ -28,6 +29,7 @@ module _ (k core : Table) (i : Images) where
   -- a superstate is guarded, or open, or its monitor is not there
   pub open_or_out : (o : ℕ) (x y : Standing) → Watches k core i o x y → IsInside k core i o x ⊎ (y ≡ at.Outside)
   open_or_out o _ _ (guards some among) = inl (guarded (map (λ z. z.1) some))
+  open_or_out o _ _ (looks_strong some among) = inl (guarded (map (λ z. z.1) some))
   open_or_out o _ _ (waits some ends among only) = inl (open_inside (map (λ z. z.1) some ++ ends))
   open_or_out o _ _ (looks first some ends among only) = inl (open_inside (map (λ z. z.1) (first ∷ some) ++ ends))
   open_or_out o x _ (elsewhere _ a b) = inr refl

@@ -119,12 +119,13 @@ near_under p Child r of_r t u ne in_u (inr (inr down)) = (
       { generations = suc in_u.2.generations; descends = (u, down, in_u.2.descends) },
 )
 
--- below them, while r takes no step, each enabled thread stays below `top`, or stands where it stood, excused: what an
--- excused place leads to is below `top`
+-- below them, while r takes no step, each enabled thread stays below `top`, or stands excused: what an excused place leads to is
+-- below `top`, or excused as well
 pub low_under_kept : (p : Program) (q : Tables) → IsValid p q → (Child : ℕ → Type 0) (Excused : Status → Type 0) (r : ℕ) →
     ((k : ℕ) → Child k → parent_of p k ≡ Some r) →
     (c : Control) → IsConfiguration p c → (t : ℕ) (e : Effect) → effect p c t ≡ Some e → t ≢ r → (top : ℕ) →
-    ((m n : ℕ) → Excused (status_of c t) → StandsAt (status_of c t) m → Instant p m n → priority q n < top) →
+    ((m n : ℕ) → Excused (status_of c t) → StandsAt (status_of c t) m → Instant p m n →
+    (priority q n < top) ⊎ ((s : Status) → StandsAt s n → Excused s)) →
     LowUnder p q (Under p Child) Excused top c → LowUnder p q (Under p Child) Excused top (after e c)
 low_under_kept p q valid Child Excused r of_r c ok t e h ne top excuse low u within on =
     by_near (near p formed c ok t e (step_moves p formed c ok t e (does p c t e h)) u on)
@@ -142,7 +143,9 @@ low_under_kept p q valid Child Excused r of_r c ok t e h ne top excuse low u wit
         (priority_of q (status_of c t) < top) ⊎ Excused (status_of c t) → Goal
     by_edge m n at there edge (inl lt) =
         inl (omega (arith, (flow p q valid).falls m n edge, stands_priority q (status_of c t) m at, stands_priority q (status_of (after e c) u) n there, lt))
-    by_edge m n at there edge (inr x) = inl (omega (arith, excuse m n x at edge, stands_priority q (status_of (after e c) u) n there))
+    by_edge m n at there edge (inr x) =
+        ⊎_elim (λ lt. inl (omega (arith, lt, stands_priority q (status_of (after e c) u) n there))) (λ still. inr (still (status_of (after e c) u) there))
+        (excuse m n x at edge)
 
     by_came : Under p Child t → Came p c (after e c) t u → Goal
     by_came in_t (stayed before same) = by_stays (before, same)

@@ -34,7 +34,7 @@ use Rattle.abort_expansion_laws.proofs.LaterTicks.{weak_no_join}
 use Rattle.abort_expansion_laws.proofs.TickStarts.{some_kept}
 use Rattle.abort_expansion_laws.proofs.StageReached.{holds_other}
 use Rattle.abort_expansion_laws.specs.CoreRows.{WatcherImage}
-use Rattle.abort_expansion_laws.specs.Related.{Watches, waits, looks, elsewhere, monitor_last, raise_each}
+use Rattle.abort_expansion_laws.specs.Related.{Watches, waits, looks_strong, looks, elsewhere, monitor_last, raise_each}
 use Rattle.abort_expansion_laws.specs.Related.{guards as watch_guards}
 use Rattle.abort_expansion_laws.proofs.WeakSeen as seen
 
@@ -176,12 +176,14 @@ module _ (k core : Table) (i : Images) (rows : CoreRows k core i) (layered : Lay
     none_raised None = refl
     none_raised (Some y) = refl
 
+    there_by : {w : Standing} → standing_of c (holder k u) ≡ w → w ≢ at.Outside → IsThere k (holder k u)
+    there_by same present = present_there k core i c d related (holder k u) (λ z. present (sym same ∙ z))
+
     pub monitor_leaves : (w y : Standing) → standing_of c (holder k u) ≡ w → Watches k core i u w y → Leaves (i.watcher_of u) y
     monitor_leaves _ _ e (watch_guards among all) =
         absurd (works_not (holder k u) (there_by e (λ z. absurd cc)) in_o (at.Guarding u (map (λ z. z.1) among)) e refl)
-      where
-        there_by : {w : Standing} → standing_of c (holder k u) ≡ w → w ≢ at.Outside → IsThere k (holder k u)
-        there_by same present = present_there k core i c d related (holder k u) (λ z. present (sym same ∙ z))
+    monitor_leaves _ _ e (looks_strong among all) =
+        absurd (works_not (holder k u) (there_by e (λ z. absurd cc)) in_o (at.Guarding u (map (λ z. z.1) among)) e refl)
     monitor_leaves _ _ e (waits [] ends all only) =
         subst (λ zs. Leaves (i.watcher_of u) (at.Trying (i.watching_of u) (zs ++ monitor_last k core i u))) (sym (none_raised (i.flags_of u).weak))
         (tries (i.watching_of u) (monitor_last k core i u) (alone (i.watching_of u) (ap (λ z. z.regions) image.row))

@@ -20,7 +20,7 @@ use Rattle.chart_machine.specs.Table.{table, state_at}
 use Rattle.chart_machine.specs.Turns.{standing_of}
 use Rattle.chart_machine.specs.Machine.{machine, initial, start, stands_in, is_active}
 use Rattle.abort_expansion.specs.Expansion.{expanded}
-use Rattle.abort_expansion_laws.specs.Layered.{IsLayered}
+use Rattle.abort_expansion_laws.specs.Layered.{IsWeaklyLayered}
 use Rattle.abort_expansion_laws.specs.Ticks.{Keeps}
 use Rattle.abort_expansion_laws.specs.Preemption.{chart_machine, SeenAlike}
 use Rattle.abort_expansion_laws.specs.Segments.{Follows}
@@ -76,7 +76,7 @@ module _ (c : Chart) (rules : IsChart features.Extended c) (core_rules : IsChart
         Follows (machine core) (ticks.corr c rules core_rules) Told (start core inputs d) log e → EachFits (ticks.corr c rules core_rules) log →
         EachSpared (ticks.corr c rules core_rules) log
 
-  module _ (layered : IsLayered c) (Accepted : Inputs → Type 0) (Told : Configuration → Entry → Type 0)
+  module _ (layered : IsWeaklyLayered c) (Accepted : Inputs → Type 0) (Told : Configuration → Entry → Type 0)
       (told : (d : Configuration) (t : ℕ) (stage : Option (ℕ × ℕ)) (a : Access) → Told d (Silent t stage a))
       (spares : SparesTests Accepted Told) (Holds : Configuration → Type 0) (kept : ticks.KeptByChart c rules core_rules Holds)
       (followed : ticks.StepsFollowed c rules core_rules Holds Told) where

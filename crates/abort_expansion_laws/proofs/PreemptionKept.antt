@@ -8,7 +8,7 @@ use Rattle.chart_machine.specs.declared.standing.Configuration.{Configuration}
 use Rattle.chart_machine.specs.declared.standing.Move.{Move}
 use Rattle.chart_machine.specs.Table.{table, state_at}
 use Rattle.abort_expansion.specs.Expansion.{expanded}
-use Rattle.abort_expansion_laws.specs.Layered.{IsLayered}
+use Rattle.abort_expansion_laws.specs.Layered.{IsWeaklyLayered}
 use Rattle.abort_expansion_laws.specs.CoreRows.{IsState, IsSuper}
 use Rattle.abort_expansion_laws.specs.Stages.{Entry}
 use Rattle.abort_expansion_laws.specs.Ticks.{Keeps}
@@ -46,7 +46,7 @@ module _ (c : Chart) (rules : IsChart features.Extended c) (core_rules : IsChart
           (state_at (table c) s).opened inner
       opens s here super = let alike = (whole.state_fits c rules core_rules s here).opens super in (alike.inner, alike.regions)
 
-  pub preemption_kept : IsLayered c → (image : HasImage c) → ticks.StepsFollowed c rules core_rules (OwnTests (table c)) ToldHere →
+  pub preemption_kept : IsWeaklyLayered c → (image : HasImage c) → ticks.StepsFollowed c rules core_rules (OwnTests (table c)) ToldHere →
       Keeps (chart_machine c) (chart_machine (expanded c)) (AreAccepted image.program) (SeenAlike c)
   preemption_kept layered image followed =
       preemption_follows c rules core_rules layered (AreAccepted image.program) ToldHere

@@ -76,6 +76,8 @@ pub use Rattle.abort_expansion_laws.proofs.FlatStates.{flat_inside}
 pub use Rattle.abort_expansion_laws.proofs.FlatLayered.{flat_charts_are_layered}
 pub use Rattle.abort_expansion_laws.proofs.KindsApart.{layered_apart}
 pub use Rattle.abort_expansion_laws.proofs.MonitorLooks.{looked_before}
+pub use Rattle.abort_expansion_laws.proofs.LooksBefore.{looked_first}
+pub use Rattle.abort_expansion_laws.proofs.FrontFirst.{front_first}
 pub use Rattle.abort_expansion_laws.proofs.OpenedInside.{opened_elsewhere}
 pub use Rattle.abort_expansion_laws.proofs.LaterTicks.{woken_related}
 pub use Rattle.abort_expansion_laws.proofs.LocalVariables.{added_are_local}
@@ -131,6 +133,7 @@ pub use Rattle.abort_expansion_laws.proofs.DelayedBefore.{late_before, first_pro
 pub use Rattle.abort_expansion_laws.proofs.OwnTests.{owns_initially, owns_at_start, owns_still}
 pub use Rattle.abort_expansion_laws.proofs.TestTargets.{targets_there, ends_untested}
 pub use Rattle.abort_expansion_laws.proofs.QuietBegins.{monitors_stay_low, quiet_begins}
+pub use Rattle.abort_expansion_laws.proofs.CheckNodes.{wakes_low}
 pub use Rattle.abort_expansion_laws.proofs.QuietAtStart.{starts_low}
 pub use Rattle.abort_expansion_laws.proofs.TickFollowed.{tick_followed}
 pub use Rattle.abort_expansion_laws.proofs.TestsSpared.{tests_are_spared}

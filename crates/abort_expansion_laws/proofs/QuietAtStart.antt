@@ -1,4 +1,4 @@
--- As a tick starts, whatever lies in a superstate that is guarded resumes at its check of the strong flag, and is so below
+-- As a tick starts, whatever lies in a superstate that is guarded resumes before its check of the strong flag, and comes so below
 -- the nodes of the monitor that raise it.
 use Rattle.std.proofs.Common.{◌≡◌, ◌≢◌, ℕ, zero, suc, ◌<◌, ◌≤◌, ◌⊎◌, inl, inr, ⊎_elim, Bool, true, false, ◌||◌, Some, List, [], ◌∷◌, ◌++◌, map}
 use Rattle.std.proofs.Common.{length, Contains, refl, sym, ap, subst, ◌∙◌, arith, cond, unwrap_or}
@@ -31,13 +31,12 @@ use Rattle.chart_machine.specs.Steps.{step, access_of_trigger}
 use Rattle.abort_expansion.specs.Transitions.{is_raised}
 use Rattle.chart_lowering_laws.specs.Stands.{Lowered}
 use Rattle.compiled_charts_laws.proofs.LateTests.{is_late}
-use Rattle.compiled_charts_laws.proofs.TickStarts.{ResumedAt, Wakes, before_tests, behind_fork}
 use Rattle.chart_machine_laws.proofs.LyingIn.{IsNested, around, holder, head_in, tail_in, swapped}
 use Rattle.chart_machine_laws.specs.Tree.{IsThere}
 use Rattle.abort_expansion_laws.specs.CoreRows.{own, IsState, Images, CoreRows, WatcherImage}
 use Rattle.abort_expansion_laws.specs.Related.{Stands, outside}
 use Rattle.abort_expansion_laws.specs.Related.{ended, left}
-use Rattle.abort_expansion_laws.specs.Related.{trying, acting, entering, guarding, staying, within, behind, Watches, guards as watch_guards, waits, looks}
+use Rattle.abort_expansion_laws.specs.Related.{trying, acting, entering, guarding, staying, within, behind, Watches, guards as watch_guards, waits, looks_strong, looks}
 use Rattle.abort_expansion_laws.specs.Related.{elsewhere}
 use Rattle.abort_expansion_laws.specs.Related.{IsInside, guarded, open_inside, Related}
 use Rattle.abort_expansion_laws.proofs.FlagAccess.{raised_access}
@@ -47,7 +46,9 @@ use Rattle.abort_expansion_laws.proofs.MonitorsApart.{monitor_apart, monitors_ap
 use Rattle.chart_machine.specs.Turns.{ForkedApart}
 use Rattle.abort_expansion_laws.proofs.StageReached.{holds_other}
 use Rattle.abort_expansion_laws.proofs.StrongNotTaken.{inside_guarding}
-use Rattle.abort_expansion_laws.proofs.StrongTestsQuiet.{Resumes}
+use Rattle.abort_expansion_laws.proofs.ChecksUpTo.{ChecksUpTo, strong_around}
+use Rattle.abort_expansion_laws.proofs.StrongTestsQuiet.{Excused}
+use Rattle.abort_expansion_laws.proofs.WakesLow.{WakesLow, wakes_tests, wakes_fork}
 use Rattle.abort_expansion_laws.proofs.LowPriorities.{Under}
 use Rattle.abort_expansion_laws.proofs.QuietBegins.{LoweredTests, IsRaising, Beside, StaysLow}
 use Rattle.abort_expansion_laws.proofs.OneMonitor.{one_monitor}
@@ -70,6 +71,7 @@ module _ (k core : Table) (i : Images) (c : Configuration) where
   -- a monitor is there where its superstate is guarded, or open
   monitor_present : (o : ℕ) (x y : Standing) → Watches k core i o x y → y ≢ at.Outside → IsInside k core i o x
   monitor_present o _ _ (watch_guards some among) present = guarded (map (λ (z : ℕ × Transition). z.1) some)
+  monitor_present o _ _ (looks_strong some among) present = guarded (map (λ (z : ℕ × Transition). z.1) some)
   monitor_present o _ _ (waits some ends among all) present = open_inside (map (λ (z : ℕ × Transition). z.1) some ++ ends)
   monitor_present o _ _ (looks first some ends among all) present = open_inside (map (λ (z : ℕ × Transition). z.1) (first ∷ some) ++ ends)
   monitor_present o x _ (elsewhere _ a b) present = absurd (present refl)
@@ -78,6 +80,7 @@ module _ (k core : Table) (i : Images) (c : Configuration) where
   monitor_late : (o : ℕ) (x y : Standing) → Watches k core i o x y → is_late y ≡ true → ((tests : List Transition) × (x ≡ at.Guarding o tests)) ⊎
       ((tests : List Transition) × (x ≡ at.Within o tests))
   monitor_late o _ _ (watch_guards some among) late = inl (map (λ (z : ℕ × Transition). z.1) some, refl)
+  monitor_late o _ _ (looks_strong some among) late = inl (map (λ (z : ℕ × Transition). z.1) some, refl)
   monitor_late o _ _ (waits some ends among all) late = inr (map (λ (z : ℕ × Transition). z.1) some ++ ends, refl)
   monitor_late o _ _ (looks first some ends among all) late = inr (map (λ (z : ℕ × Transition). z.1) (first ∷ some) ++ ends, refl)
   monitor_late o x _ (elsewhere _ a b) late = absurd cc
@@ -93,7 +96,7 @@ module _ (k core : Table) (i : Images) (rows : CoreRows k core i) (layered : Lay
     is_late (standing_of d g) ≡ true)
     (top_parent : (t : ℕ) → IsThere core t → around core t ≡ [] → parent_of p t ≡ Some 0)
     (c d : Configuration) (related : Related k core i c d) (m : Control) (alike : Alike d m)
-    (wakes : (t : ℕ) → t ≢ 0 → Enabled p m t → Wakes p m t (standing_of d t))
+    (wakes : (t : ℕ) → t ≢ 0 → Enabled p m t → WakesLow p q m t (standing_of d t))
     (plain_open : (o : ℕ) (tests : List Transition) → standing_of c (holder k o) ≡ at.Within o tests → strong_aborts (own k o) ≡ []) where
   formed : IsFormed p
   formed = valid_formed p q valid
@@ -254,29 +257,28 @@ module _ (k core : Table) (i : Images) (rows : CoreRows k core i) (layered : Lay
           })
 
     abbrev Low : ℕ → Type 0
-    Low t = (priority_of q (status_of m t) < priority q n) ⊎ Resumes p q (priority q n) (status_of m t)
+    Low t = (priority_of q (status_of m t) < priority q n) ⊎ Excused p q (priority q n) (strong_around k o) (status_of m t)
 
     -- a thread that resumes at its check, be it that of a region or a monitor
     module _ (t : ℕ) (apart : ForkedApart core t (i.watcher_of o) (i.thread_of (holder k o))) where
-      resumes_low : ResumedAt p m t (access_of_trigger (Some (is_raised raises_it.flag))) → Low t
-      resumes_low x = inr (x.depth, x.node, x.at, x.resumes, check_below t apart x.node x.owned x.does)
-
       by_first : (y : Standing) →
           SeesFirst k core i rows layered tree core_children children c d related o raises_it.flag has raises_it.is_flag (ap guards guarding_now) y →
-          Wakes p m t y → Low t
-      by_first _ out (before_tests s ts is resumes) = absurd cc
-      by_first _ out (behind_fork s is) = absurd cc
-      by_first _ over (before_tests s ts is resumes) = absurd cc
-      by_first _ over (behind_fork s is) = absurd cc
-      by_first _ (checks z w rest triggered) (before_tests s ts is resumes) =
-          let are : ts ≡ w ∷ rest = cc in resumes_low (resumes w rest (is_raised raises_it.flag) are triggered)
-      by_first _ (checks z w rest triggered) (behind_fork s is) = absurd cc
-      by_first _ (forks z w rest) (before_tests s ts is resumes) = absurd cc
-      by_first _ (forks z w rest) (behind_fork s is) = absurd cc
+          WakesLow p q m t y → Low t
+      by_first _ out (wakes_tests u tests is soon) = absurd cc
+      by_first _ out (wakes_fork u is) = absurd cc
+      by_first _ over (wakes_tests u tests is soon) = absurd cc
+      by_first _ over (wakes_fork u is) = absurd cc
+      by_first _ (checks z place tests up) (wakes_tests u others is soon) =
+          let are : tests ≡ others = cc in
+          inr (soon raises_it.flag place (strong_around k o) (priority q n) (subst (ChecksUpTo raises_it.flag place (strong_around k o)) are up)
+          (λ node owned does. check_below t apart node owned does))
+      by_first _ (checks z place tests up) (wakes_fork u is) = absurd cc
+      by_first _ (forks z w rest) (wakes_tests u tests is soon) = absurd cc
+      by_first _ (forks z w rest) (wakes_fork u is) = absurd cc
 
-    woken_there : (t : ℕ) (y : Standing) → Wakes p m t y → y ≢ at.Outside
-    woken_there t y (before_tests s ts is resumes) e = let wrong : at.Trying s ts ≡ at.Outside = sym is ∙ e in absurd cc
-    woken_there t y (behind_fork s is) e = let wrong : at.Within s [] ≡ at.Outside = sym is ∙ e in absurd cc
+    woken_there : (t : ℕ) (y : Standing) → WakesLow p q m t y → y ≢ at.Outside
+    woken_there t y (wakes_tests u tests is soon) e = let wrong : at.Trying u tests ≡ at.Outside = sym is ∙ e in absurd cc
+    woken_there t y (wakes_fork u is) e = let wrong : at.Within u [] ≡ at.Outside = sym is ∙ e in absurd cc
 
     low : (t : ℕ) → Under p (Beside k core i rows core_tree p q valid Alike lowered tests late_before o) t → Enabled p m t → Low t
     low t under on = by_sort (rows.each t (core_present t present))
@@ -286,7 +288,7 @@ module _ (k core : Table) (i : Images) (rows : CoreRows k core i) (layered : Lay
             none_at_root under.2.generations (i.thread_of (holder k o)) under.0 under.1.0
             (subst (λ z. Descends p under.2.generations z under.0) same under.2.descends)
 
-        woke : Wakes p m t (standing_of d t)
+        woke : WakesLow p q m t (standing_of d t)
         woke = wakes t not_root on
 
         present : standing_of d t ≢ at.Outside
@@ -297,7 +299,7 @@ module _ (k core : Table) (i : Images) (rows : CoreRows k core i) (layered : Lay
             subst Low (sym is)
             (by_first (i.thread_of v) (region_apart v in_o) (standing_of d (i.thread_of v))
             (sees_first k core i rows layered tree core_children children c d related o raises_it.flag has raises_it.is_flag (ap guards guarding_now) v there
-            in_o) (subst (λ z. Wakes p m z (standing_of d z)) is woke))
+            in_o) (subst (λ z. WakesLow p q m z (standing_of d z)) is woke))
           where
             there_now : standing_of c v ≢ at.Outside
             there_now =
@@ -317,7 +319,7 @@ module _ (k core : Table) (i : Images) (rows : CoreRows k core i) (layered : Lay
             subst Low (sym is)
             (by_first (i.watcher_of w) (monitor_beside w there has_too in_o) (standing_of d (i.watcher_of w))
             (monitor_sees k core i rows layered tree core_children children c d related o raises_it.flag has raises_it.is_flag (ap guards guarding_now) w there
-            has_too in_o) (subst (λ z. Wakes p m z (standing_of d z)) is woke))
+            has_too in_o) (subst (λ z. WakesLow p q m z (standing_of d z)) is woke))
 
         by_sort : ((r : ℕ) × IsThere k r × (t ≡ i.thread_of r)) ⊎ ((s : ℕ) × IsState k s × (has_aborts (own k s) ≡ true) × (t ≡ i.watcher_of s)) → Low t
         by_sort (inl r) = of_region r.0 r.1 r.2

@@ -35,11 +35,12 @@ use Rattle.chart_machine_laws.proofs.ChartTables.{within_or_past}
 use Rattle.chart_machine_laws.specs.Tree.{IsThere}
 use Rattle.abort_expansion_laws.specs.CoreRows.{own, IsState, Images, CoreRows, WatcherImage}
 use Rattle.abort_expansion_laws.specs.Related.{raises, raise_each, Related, monitor_last}
+use Rattle.abort_expansion_laws.proofs.ChecksUpTo.{strong_around}
 use Rattle.abort_expansion_laws.proofs.FlagAccess.{put_access}
 use Rattle.abort_expansion_laws.proofs.KnownVariables.{present_there, stepped, not_so}
 use Rattle.abort_expansion_laws.proofs.StageReached.{inside_in}
-use Rattle.abort_expansion_laws.proofs.StrongNotTaken.{IsGuarding, guarding_back, MonitorGuards, guards_back}
-use Rattle.abort_expansion_laws.proofs.StrongTestsQuiet.{Resumes, StillLow, Inner, IsQuiet, quiet_kept, along}
+use Rattle.abort_expansion_laws.proofs.StrongNotTaken.{IsGuarding, guarding_back, MonitorGuards}
+use Rattle.abort_expansion_laws.proofs.StrongTestsQuiet.{Excused, StillLow, Inner, IsQuiet, quiet_kept, along}
 use Rattle.abort_expansion_laws.proofs.LowPriorities.{Under, LowUnder}
 
 -- what more is taken of the lowering, of delayed tests
@@ -61,6 +62,7 @@ pub record GuardTold (k core : Table) (i : Images) (d : Configuration) (r g : �
   pub others : List Transition
   pub stands : standing_of now r ≡ at.Guarding superstate (test ∷ others)
   pub monitor : g ≡ i.watcher_of superstate
+  pub ready : MonitorGuards k core i superstate test others (standing_of d (i.watcher_of superstate))
   pub acts : a ≡ access_of_trigger test.trigger
 
 late_works : (k : Table) (c : Configuration) (x : Standing) → is_late x ≡ true → has_work k c x ≡ true
@@ -109,7 +111,7 @@ module _ (k core : Table) (i : Images) (rows : CoreRows k core i) (tree : IsNest
 
   -- the holder waits, and what lies beside the monitor is below the node
   abbrev pub StaysLow : (o n : ℕ) → Control → Type 0
-  StaysLow o n m = StillLow p q valid (Beside o) (i.thread_of (holder k o)) (lowered.join_of (i.main_of o)) (priority q n) m
+  StaysLow o n m = StillLow p q valid (Beside o) (i.thread_of (holder k o)) (lowered.join_of (i.main_of o)) (priority q n) (strong_around k o) m
 
   -- so it is of each monitor that has a delayed test to make
   pub record MonitorsLow (d : Configuration) : Type 0 where
@@ -144,7 +146,7 @@ module _ (k core : Table) (i : Images) (rows : CoreRows k core i) (tree : IsNest
       low : (o : ℕ) → IsState k o → has_aborts (own k o) ≡ true → is_late (standing_of next (i.watcher_of o)) ≡ true → (n : ℕ) → IsRaising o n →
           StaysLow o n f.last
       low o there has late n raises_it =
-          along p q valid (Beside o) (home o) (lowered.join_of (i.main_of o)) (priority q n) (λ u child. child.0) f.run keeps.control f.last nobody f.leads
+          along p q valid (Beside o) (home o) (lowered.join_of (i.main_of o)) (priority q n) (strong_around k o) (λ u child. child.0) f.run keeps.control f.last nobody f.leads
           before
         where
           was_late : is_late (standing_of d (i.watcher_of o)) ≡ true
@@ -186,9 +188,7 @@ module _ (k core : Table) (i : Images) (rows : CoreRows k core i) (tree : IsNest
     o_there = state_with_aborts k told.superstate region.has
 
     monitor : MonitorGuards k core i told.superstate told.test told.others (standing_of d (i.watcher_of told.superstate))
-    monitor =
-        guards_back k core i told.superstate (standing_of told.now (holder k told.superstate)) (standing_of d (i.watcher_of told.superstate))
-        (told.related.watchers told.superstate o_there region.has) told.test told.others (ap (standing_of told.now) region.held ∙ told.stands)
+    monitor = told.ready
 
     flag : (x : ℕ) × ((i.flags_of told.superstate).strong ≡ Some x)
     flag = rows.strong_there told.superstate monitor.number told.test o_there monitor.first
@@ -261,9 +261,10 @@ module _ (k core : Table) (i : Images) (rows : CoreRows k core i) (tree : IsNest
               control = keeps.control;
               stands = keeps.stands;
               waits = subst (λ h. status_of keeps.control (i.thread_of h) ≡ status.Waiting (lowered.join_of (i.main_of told.superstate))) region.held low.waits;
+              many = strong_around k told.superstate;
               low = subst (λ h. LowUnder p q
                   (Under p (Inner k core i rows tree p q valid Stands lowered (i.thread_of h) (i.watcher_of told.superstate)))
-                  (Resumes p q (priority q n.taken)) (priority q n.taken) keeps.control) region.held low.low;
+                  (Excused p q (priority q n.taken) (strong_around k told.superstate)) (priority q n.taken) keeps.control) region.held low.low;
             }
 
     pub quiet_begins : StaysQuiet r a next

@@ -1,5 +1,5 @@
 -- A region goes on, and so does its thread: what corresponds still does.
-use Rattle.std.proofs.Common.{◌≡◌, ◌≢◌, ℕ, zero, suc, ◌<◌, ◌≤◌, ◌⊎◌, inl, inr, ⊎_elim, Bool, true, false, ◌||◌, Option, Some, None, List, [], ◌∷◌, ◌++◌, length}
+use Rattle.std.proofs.Common.{◌≡◌, ◌≢◌, ℕ, zero, suc, ◌<◌, ◌≤◌, ◌⊎◌, inl, inr, ⊎_elim, true, false, ◌||◌, Option, Some, None, List, [], ◌∷◌, ◌++◌, length}
 use Rattle.std.proofs.Common.{slice_get, slice_set}
 use Rattle.std.proofs.Common.{Contains, refl, sym, ap, subst, ◌∙◌, arith}
 use Rattle.sc_values.specs.declared.value.Value.{Value}
@@ -12,13 +12,14 @@ use Rattle.chart_machine.specs.declared.table.Table.{Table}
 use Rattle.chart_machine.specs.Table.{state_at}
 use Rattle.chart_machine.specs.Turns.{standing_of, has_ended, guards, is_guarded}
 use Rattle.tick_laws.proofs.Lists.{same_or_not}
-use Rattle.chart_machine_laws.proofs.LyingIn.{around, holder, head_in, tail_in}
+use Rattle.chart_machine_laws.proofs.LyingIn.{around, holder, none_in, head_or_tail, head_in, tail_in}
 use Rattle.abort_expansion_laws.proofs.TablesCorrespond.{IsThere}
 use Rattle.abort_expansion_laws.specs.CoreRows.{own, IsState, Images, CoreRows, RegionImage, WatcherImage}
 use Rattle.abort_expansion_laws.specs.Related.{IsCalm, calm_outside, Closes, Stands, outside, ended, left, trying, acting, entering, guarding, staying}
 use Rattle.abort_expansion_laws.specs.Related.{LooksFirst}
 use Rattle.abort_expansion_laws.specs.Related.{within, behind, Watches, IsInside, open_inside, Stores, FlagsAreDown, still_in, not_ended, Related}
-use Rattle.abort_expansion_laws.proofs.Unchanged.{none_among, both_ways, stands_same, stands_other, SameShape, stands_so, stands_kept, nobody_lies}
+use Rattle.abort_expansion_laws.proofs.Fronts.{front_same}
+use Rattle.abort_expansion_laws.proofs.Unchanged.{none_among, none_are, both_ways, stands_same, stands_other, SameShape, stands_so, stands_kept, nobody_lies}
 use Rattle.abort_expansion_laws.proofs.LooksFirst.{out_looks, still_looks, watch_gone}
 use Rattle.chart_machine_laws.proofs.ChartTables.{around_there}
 
@@ -306,23 +307,27 @@ module _ (k core : Table) (i : Images) (rows : CoreRows k core i) where
     out_so q _ _ e (within s join tests super held stays open_still leads) = absurd cc
     out_so q _ _ e (behind s tests super held over) = absurd cc
 
-    either_same : (a b x y : Bool) → a ≡ b → x ≡ y → (a || x) ≡ (b || y)
-    either_same a b x y e f = rw (e, f) refl
-
-    -- something around is held by the region, or who guards around is as before
-    held_or_not : (zs : List ℕ) → ((s : ℕ) × Contains zs s × (holder k s ≡ r)) ⊎ (is_guarded k c' zs ≡ is_guarded k c zs)
-    held_or_not [] = inr refl
+    -- something around is held by the region, or nothing is
+    held_or_not : (zs : List ℕ) → ((s : ℕ) × Contains zs s × (holder k s ≡ r)) ⊎ ((s : ℕ) → Contains zs s → holder k s ≢ r)
+    held_or_not [] = inr (λ s h. absurd (none_in s h))
     held_or_not (s ∷ zs) =
         ⊎_elim (λ e. inl (s, head_in s zs, e))
         (λ ne.
         ⊎_elim (λ h. inl (h.0, tail_in s h.0 zs h.1, h.2))
-        (λ same. inr (either_same _ _ _ _ (ap guards (rests_so (holder k s) ne)) same)) (held_or_not zs))
+        (λ none. inr (λ u h. ⊎_elim (λ is. subst (λ v. holder k v ≢ r) is ne) (λ tail. none u tail) (head_or_tail s u zs h))) (held_or_not zs))
         (same_or_not (holder k s) r)
+
+    -- then who guards around is as before
+    guards_so : (s : ℕ) → holder k s ≢ r → guards (standing_of c' (holder k s)) ≡ guards (standing_of c (holder k s))
+    guards_so s ne = ap guards (rests_so (holder k s) ne)
+
+    stands_beside : (q : ℕ) → ((s : ℕ) → Contains (around k q) s → holder k s ≢ r) → (x w : Standing) → Stands k core i c q x w → Stands k core i c' q x w
+    stands_beside q none x w stands = stands_so k core i c c' ends_so q (front_same k core i c c' q (λ s h. guards_so s (none s h))) x w stands
 
     stands_then : (q : ℕ) → IsThere k q → (x w : Standing) → standing_of c q ≡ x → Stands k core i c q x w → Stands k core i c' q x w
     stands_then q there x w is stands =
         ⊎_elim (λ h. out_so q x w (sym is ∙ out_in q h.0 there h.1 h.2) stands)
-        (λ same. stands_so k core i c c' ends_so q same x w stands) (held_or_not (around k q))
+        (λ none. stands_beside q none x w stands) (held_or_not (around k q))
 
     not_around : (s : ℕ) → Contains (around k r) s → holder k s ≢ r
     not_around s around_it held = go.was_there (out_in r s go.there around_it held)
@@ -354,7 +359,11 @@ module _ (k core : Table) (i : Images) (rows : CoreRows k core i) where
 
     -- nobody guards it, as before
     pub bare_free : is_guarded k c' (around k r) ≡ false
-    bare_free = ⊎_elim (λ h. absurd (not_around h.0 h.1 h.2)) (λ same. same ∙ go.free) (held_or_not (around k r))
+    bare_free =
+        none_are (λ s. guards (standing_of c' (holder k s))) (around k r)
+        (λ s h on.
+        both_ways (guards (standing_of c' (holder k s))) on
+        (guards_so s (not_around s h) ∙ none_among (λ v. guards (standing_of c (holder k v))) (around k r) s go.free h))
 
     pub bare_goes_on : Related k core i c' d'
     bare_goes_on =
@@ -366,7 +375,7 @@ module _ (k core : Table) (i : Images) (rows : CoreRows k core i) where
           ends = go.ends;
           was_there = go.was_there;
           is_there = go.is_there;
-          stands = ⊎_elim (λ h. absurd (not_around h.0 h.1 h.2)) (λ same. stands_so k core i c c' ends_so r same y z go.stands) (held_or_not (around k r));
+          stands = stands_beside r not_around y z go.stands;
           others = λ q there ne. stands_then q there (standing_of c q) (standing_of d (i.thread_of q)) refl (related.regions q there);
           watches = go.watches;
           inside = λ s held inner. absurd (go.bare s inner);

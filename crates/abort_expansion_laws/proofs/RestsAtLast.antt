@@ -15,7 +15,7 @@ use Rattle.abort_expansion_laws.proofs.Simulation.{Segment}
 use Rattle.abort_expansion_laws.specs.Stages.{Entry, Silent, Correspondence}
 use Rattle.abort_expansion_laws.specs.CoreRows.{own, Images, CoreRows, pair}
 use Rattle.abort_expansion_laws.specs.Related.{Stands, outside, ended, left, trying, acting, entering, guarding, staying}
-use Rattle.abort_expansion_laws.specs.Related.{within, behind, Watches, waits, looks, elsewhere, FlagsAreDown, Related}
+use Rattle.abort_expansion_laws.specs.Related.{within, behind, Watches, waits, looks_strong, looks, elsewhere, FlagsAreDown, Related}
 use Rattle.abort_expansion_laws.specs.Related.{guards as watch_guards}
 use Rattle.abort_expansion_laws.specs.StageReached.{Stage}
 use Rattle.abort_expansion_laws.proofs.InsideLeaves.{LayeredRows}
@@ -66,6 +66,7 @@ module _ (k core : Table) (i : Images) (rows : CoreRows k core i) (layered : Lay
 
   watcher_rests : (o : ℕ) (x y : Standing) → standing_of c (holder k o) ≡ x → Watches k core i o x y → WatchRests k core i o x (last_of y)
   watcher_rests o _ _ e (watch_guards some among) = absurd (works_not (holder k o) (at.Guarding o (map (λ z. z.1) some)) e refl)
+  watcher_rests o _ _ e (looks_strong some among) = absurd (works_not (holder k o) (at.Guarding o (map (λ z. z.1) some)) e refl)
   watcher_rests o _ _ e (waits [] ends among only) = watch_within ends
   watcher_rests o _ _ e (waits (z ∷ some) ends among only) =
       let weak : is_weak z.1.kind ≡ true =

@@ -17,7 +17,7 @@ use Rattle.chart_machine.specs.Table.{table}
 use Rattle.chart_machine.specs.Turns.{standing_of, has_work}
 use Rattle.chart_machine.specs.Steps.{to, verdict, tested, taken, step, deed_of, entering_on, guarding_on}
 use Rattle.abort_expansion.specs.Expansion.{expanded}
-use Rattle.abort_expansion_laws.specs.Layered.{IsLayered}
+use Rattle.abort_expansion_laws.specs.Layered.{IsWeaklyLayered}
 use Rattle.abort_expansion_laws.specs.Preemption.{chart_machine, SeenAlike, HasImage}
 use Rattle.abort_expansion_laws.specs.Ticks.{Keeps}
 use Rattle.abort_expansion_laws.specs.Stages.{Entry}
@@ -31,9 +31,10 @@ use Rattle.abort_expansion_laws.proofs.PreemptionKept.{ToldHere, preemption_kept
 use Rattle.abort_expansion_laws.proofs.RowsOfCharts as whole
 use Rattle.abort_expansion_laws.proofs.TestTargets.{ends_untested}
 use Rattle.abort_expansion_laws.proofs.TickFollowed as ticks
+use Rattle.abort_expansion_laws.proofs.StrongTestReady.{strong_ready}
 use Rattle.abort_expansion_laws.proofs.WeakTestReady.{when_ready}
 
-module _ (c : Chart) (rules : IsChart features.Extended c) (core_rules : IsChart features.Core (expanded c)) (layered : IsLayered c) where
+module _ (c : Chart) (rules : IsChart features.Extended c) (core_rules : IsChart features.Core (expanded c)) (layered : IsWeaklyLayered c) where
   abbrev k : Table
   k = table c
 
@@ -83,9 +84,15 @@ module _ (c : Chart) (rules : IsChart features.Extended c) (core_rules : IsChart
     by_guarding : (s : ℕ) (t : Transition) (tests : List Transition) → standing_of now r ≡ at.Guarding s (t ∷ tests) → (o : Option Bool) →
         verdict now.variables t.trigger ≡ o → Followed now d r next
     by_guarding s t tests stands None e = undone (ap (deed_of k now r) stands ∙ none_tested s t (guarding_on k r s tests) e)
-    by_guarding s t tests stands (Some true) e = leave.strong_taken c rules core_rules layered now d related owns r next goes s t tests stands e
-    by_guarding s t [] stands (Some false) e = one.last_fails c rules core_rules layered now d related owns r next goes s t [] stands refl e
-    by_guarding s t (u ∷ tests) stands (Some false) e = one.next_strong c rules core_rules layered now d related owns r next goes s t u tests stands e
+    by_guarding s t tests stands (Some true) e =
+        strong_ready c rules core_rules layered now d related owns r next goes s t tests stands
+        (λ z at_test monitor. leave.strong_taken c rules core_rules layered now z at_test owns r next goes s t tests stands monitor e)
+    by_guarding s t [] stands (Some false) e =
+        strong_ready c rules core_rules layered now d related owns r next goes s t [] stands
+        (λ z at_test monitor. one.last_fails c rules core_rules layered now z at_test owns r next goes s t [] stands monitor refl e)
+    by_guarding s t (u ∷ tests) stands (Some false) e =
+        strong_ready c rules core_rules layered now d related owns r next goes s t (u ∷ tests) stands
+        (λ z at_test monitor. one.next_strong c rules core_rules layered now z at_test owns r next goes s t u tests stands monitor e)
 
     by_within : (s : ℕ) (t : Transition) (tests : List Transition) → standing_of now r ≡ at.Within s (t ∷ tests) → (o : Option Bool) →
         verdict now.variables t.trigger ≡ o → Contains (own k s) t × ((is_weak t.kind ≡ true) ⊎ (is_join t.kind ≡ true)) → Followed now d r next

@@ -24,7 +24,7 @@ use Rattle.abort_expansion_laws.proofs.MoreValues.{verdict_over_more}
 use Rattle.abort_expansion_laws.specs.CoreRows.{own, IsState, joins, Images, CoreRows}
 use Rattle.abort_expansion_laws.specs.Related.{monitor_last}
 use Rattle.abort_expansion_laws.specs.Related.{AreAmong, raises, raise_each, Stands, outside, ended, left, trying, acting, entering, guarding, staying}
-use Rattle.abort_expansion_laws.specs.Related.{within, behind, Watches, guards as watch_guards, waits, looks, elsewhere, IsInside, guarded, open_inside}
+use Rattle.abort_expansion_laws.specs.Related.{within, behind, Watches, guards as watch_guards, IsInside, guarded, open_inside}
 use Rattle.abort_expansion_laws.specs.Related.{Related}
 use Rattle.abort_expansion_laws.proofs.Unchanged.{never_guarded}
 use Rattle.abort_expansion_laws.proofs.StageReached.{Stage}
@@ -78,7 +78,7 @@ pub record MonitorGuards (k core : Table) (i : Images) (o : ℕ) (t : Transition
       ++ (raising (λ z. z.immediate) 1 (i.flags_of o).weak 1 (weak_aborts (own k o)) ++ monitor_last k core i o))
 
 module _ (k core : Table) (i : Images) (o : ℕ) where
-  from_some : (some : List (ℕ × Transition)) → AreAmong (strong_aborts (own k o)) some → (t : Transition) (tests : List Transition) →
+  pub from_some : (some : List (ℕ × Transition)) → AreAmong (strong_aborts (own k o)) some → (t : Transition) (tests : List Transition) →
       map (λ (x : ℕ × Transition). x.1) some ≡ t ∷ tests →
       MonitorGuards k core i o t tests (at.Trying (i.watching_of o) (raise_each (λ z. false) (i.flags_of o).strong some
       ++ (raising (λ z. z.immediate) 1 (i.flags_of o).weak 1 (weak_aborts (own k o)) ++ monitor_last k core i o)))
@@ -96,30 +96,18 @@ module _ (k core : Table) (i : Images) (o : ℕ) where
             ++ (raising (λ w. w.immediate) 1 (i.flags_of o).weak 1 (weak_aborts (own k o)) ++ monitor_last k core i o))) same;
       }
 
-  pub guards_back : (x y : Standing) → Watches k core i o x y → (t : Transition) (tests : List Transition) → x ≡ at.Guarding o (t ∷ tests) →
-      MonitorGuards k core i o t tests y
-  guards_back _ _ (watch_guards some among) t tests e =
-      let same : map (λ (x : ℕ × Transition). x.1) some ≡ t ∷ tests = cc in from_some some among t tests same
-  guards_back _ _ (waits some joins among ends) t tests e = absurd cc
-  guards_back _ _ (looks first some joins among ends) t tests e = absurd cc
-  guards_back x _ (elsewhere z a b) t tests e = absurd (a (t ∷ tests) e)
-
   pub inside_guarding : (s : ℕ) (x : Standing) → IsInside k core i s x → (tests : List Transition) → x ≡ at.Guarding o tests → s ≡ o
   inside_guarding s _ (guarded others) tests e = cc
   inside_guarding s _ (open_inside others) tests e = absurd cc
 
 module _ (k core : Table) (i : Images) (rows : CoreRows k core i) (tree : IsNested k) (counts : ℕ → Bool) (written_at : ℕ → ℕ)
     (c d : Configuration) (related : Related k core i c d) (r o : ℕ) (o_there : IsState k o) (t u : Transition) (tests : List Transition)
-    (stands : standing_of c r ≡ at.Guarding o (t ∷ u ∷ tests)) where
+    (stands : standing_of c r ≡ at.Guarding o (t ∷ u ∷ tests)) (monitor : MonitorGuards k core i o t (u ∷ tests) (standing_of d (i.watcher_of o))) where
   pub there : IsThere k r
   there = present_there k core i c d related r (λ e. let wrong : at.Guarding o (t ∷ u ∷ tests) ≡ at.Outside = sym stands ∙ e in absurd cc)
 
   pub region : IsGuarding k core i r o (standing_of d (i.thread_of r))
   region = guarding_back k core i c r (standing_of c r) (standing_of d (i.thread_of r)) (related.regions r there) o (t ∷ u ∷ tests) stands
-
-  pub monitor : MonitorGuards k core i o t (u ∷ tests) (standing_of d (i.watcher_of o))
-  monitor = guards_back k core i o (standing_of c (holder k o)) (standing_of d (i.watcher_of o)) (related.watchers o o_there region.has) t (u ∷ tests)
-      (ap (standing_of c) region.held ∙ stands)
 
   flag : (x : ℕ) × ((i.flags_of o).strong ≡ Some x)
   flag = rows.strong_there o monitor.number t o_there monitor.first

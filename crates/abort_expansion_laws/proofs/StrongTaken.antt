@@ -1,5 +1,5 @@
 -- A strong abort is taken: the whole step is followed.
-use Rattle.std.proofs.Common.{◌≡◌, ◌≢◌, ℕ, ◌<◌, inl, inr, Bool, true, false, pos, Option, Some, None, List, [], ◌∷◌, ◌++◌, map, length, slice_get, Contains}
+use Rattle.std.proofs.Common.{◌≡◌, ◌≢◌, ℕ, ◌<◌, inl, inr, Bool, true, false, pos, Option, Some, List, [], ◌∷◌, ◌++◌, map, length, slice_get, Contains}
 use Rattle.std.proofs.Common.{refl, sym, ap, subst, ◌∙◌, arith}
 use Rattle.std.specs.Prelude.{option_map}
 use Rattle.std.proofs.lemmas.List.{append_assoc}
@@ -28,30 +28,36 @@ use Rattle.abort_expansion_laws.proofs.TablesCorrespond.{IsThere}
 use Rattle.abort_expansion_laws.proofs.FlagAccess.{raised_access}
 use Rattle.abort_expansion_laws.specs.CoreRows.{own, IsState, IsSuper, Images, CoreRows, flags_around, behind_transitions}
 use Rattle.abort_expansion_laws.specs.Related.{monitor_last}
-use Rattle.abort_expansion_laws.specs.Related.{raises, raise_each, IsCalm, IsInside, guarded, Related}
-use Rattle.abort_expansion_laws.proofs.StageReached.{Stage, stage_of}
+use Rattle.abort_expansion_laws.specs.Related.{raises, raise_each, IsCalm, IsInside, guarded, Stores, Related}
+use Rattle.abort_expansion_laws.proofs.StageReached.{Stage, stage_of, holds_other}
 use Rattle.abort_expansion_laws.proofs.ImageSteps.{pair}
 use Rattle.abort_expansion_laws.proofs.KnownVariables.{present_there}
-use Rattle.abort_expansion_laws.proofs.StrongNotTaken.{IsGuarding, guarding_back, MonitorGuards, guards_back}
-use Rattle.abort_expansion_laws.proofs.InsideLeaves.{LayeredRows, strong_of}
+use Rattle.abort_expansion_laws.proofs.StrongNotTaken.{IsGuarding, guarding_back, MonitorGuards}
+use Rattle.abort_expansion_laws.proofs.InsideLeaves.{LayeredRows}
+use Rattle.abort_expansion_laws.proofs.MayLeave.{MayLeave}
 use Rattle.abort_expansion_laws.proofs.StrongLeaves.{may_leave}
-use Rattle.abort_expansion_laws.proofs.OutsideAborts.{plain_around, no_strong_checks}
-use Rattle.abort_expansion_laws.proofs.AbortNext.{AbortNext}
+use Rattle.abort_expansion_laws.proofs.AbortNext.{AbortNext, IsDownAround}
 use Rattle.abort_expansion_laws.proofs.SuperstateLeft.{chart_takes}
 use Rattle.abort_expansion_laws.proofs.AbortFollowed.{with_effects, without_effects}
 use Rattle.abort_expansion_laws.proofs.StartingRegions.{CounterRows}
+use Rattle.abort_expansion_laws.proofs.OpensFork.{OpeningRows}
+use Rattle.abort_expansion_laws.proofs.EnteringSimple.{once_append}
+use Rattle.abort_expansion_laws.proofs.JoinsFork.{strong_once}
+use Rattle.tick_laws.proofs.Lists.{map_contains}
+use Rattle.core_charts.specs.Aborts.{has_aborts}
 use Rattle.abort_expansion_laws.proofs.EffectAhead.{BeginsAt}
 use Rattle.abort_expansion_laws.proofs.Owed.{Enters}
-use Rattle.core_charts.specs.Aborts.{has_strong}
 
 module _ (k core : Table) (i : Images) (rows : CoreRows k core i) (more : LayeredRows k core i) (tree : IsNested k) (core_tree : IsNested core)
     (deep : (q s : ℕ) → Contains (around core q) s → holder core s < q)
     (core_children : (s r : ℕ) → Contains (state_at core s).regions r → around core r ≡ s ∷ around core (holder core s))
     (children : (s r : ℕ) → Contains (state_at k s).regions r → around k r ≡ s ∷ around k (holder k s))
-    (counts : ℕ → Bool) (written_at : ℕ → ℕ) (Told : Configuration → Entry → Type 0)
+    (counts : ℕ → Bool) (written_at : ℕ → ℕ) (counters : CounterRows k core i rows counts written_at) (opening : OpeningRows k core i rows)
+    (strong_at : (s x : ℕ) → (i.flags_of s).strong ≡ Some x → written_at x ≡ 0) (super_there : (q s : ℕ) → Contains (around k q) s → IsState k s)
+    (super_of : (s : ℕ) → IsState k s → has_aborts (own k s) ≡ true → IsSuper k s) (Told : Configuration → Entry → Type 0)
     (told : (e : Configuration) (t : ℕ) (at_stage : Option (ℕ × ℕ)) (a : Access) → Told e (Silent t at_stage a))
     (c d : Configuration) (related : Related k core i c d) (r o : ℕ) (o_there : IsState k o) (t : Transition) (others : List Transition)
-    (stands : standing_of c r ≡ at.Guarding o (t ∷ others))
+    (stands : standing_of c r ≡ at.Guarding o (t ∷ others)) (monitor : MonitorGuards k core i o t others (standing_of d (i.watcher_of o)))
     (true_there : verdict c.variables t.trigger ≡ Some true) (calm : (q : ℕ) → Contains (around k q) o → IsCalm (standing_of c q))
     (x : ℕ) (flag : (i.flags_of o).strong ≡ Some x) (of_flag : rows.of_flag x ≡ o) (no_counter : counts x ≡ false) (at_none : written_at x ≡ 0)
     (is_int : takes_kind (option_map (λ z. z.kind) (slice_get core.variables x)) (kind_of (value_is.Int (pos 0))) ≡ true) (in_range : x < length core.variables)
@@ -64,10 +70,6 @@ module _ (k core : Table) (i : Images) (rows : CoreRows k core i) (more : Layere
 
   region : IsGuarding k core i r o (standing_of d (i.thread_of r))
   region = guarding_back k core i c r (standing_of c r) (standing_of d (i.thread_of r)) (related.regions r there) o (t ∷ others) stands
-
-  monitor : MonitorGuards k core i o t others (standing_of d (i.watcher_of o))
-  monitor = guards_back k core i o (standing_of c (holder k o)) (standing_of d (i.watcher_of o)) (related.watchers o o_there region.has) t others
-      (ap (standing_of c) region.held ∙ stands)
 
   abbrev behind_it : List Transition
   behind_it = map (raises (λ z. false) x) monitor.others ++ (raising (λ z. z.immediate) 1 (i.flags_of o).weak 1
@@ -82,14 +84,15 @@ module _ (k core : Table) (i : Images) (rows : CoreRows k core i) (more : Layere
   home_of : holder core (i.main_of (rows.of_flag x)) ≡ i.thread_of r
   home_of = ap (λ s. holder core (i.main_of s)) of_flag ∙ (rows.held o ∙ ap i.thread_of region.held)
 
-  sees_flag : (t : ℕ) → Contains (around core t) (i.main_of o) → IsSilent corr t (Some (i.thread_of r, 1)) (access_of_trigger (Some (is_raised x)))
+  sees_flag : (t : ℕ) → Contains (around core t) (i.main_of o) →
+      IsSilent corr t (Some (i.thread_of (holder k o), 1)) (access_of_trigger (Some (is_raised x)))
   sees_flag t in_o =
-      subst (IsSilent corr t (Some (i.thread_of r, 1))) (sym (raised_access x))
-      (silent_test corr t (Some (i.thread_of r, 1)) x (rows.strong_added o x flag)
+      subst (IsSilent corr t (Some (i.thread_of (holder k o), 1))) (sym (raised_access x))
+      (silent_test corr t (Some (i.thread_of (holder k o), 1)) x (rows.strong_added o x flag)
       (inr (inr (no_counter, subst (λ s. Contains (around core t) (i.main_of s)) (sym of_flag) in_o), (1, stage_is, omega (at_none, arith)))))
     where
-      stage_is : ◌≡◌ {A = Option (ℕ × ℕ)} (Some (i.thread_of r, 1)) (Some (holder core (i.main_of (rows.of_flag x)), 1))
-      stage_is = ap (λ (h : ℕ). Some (h, 1)) (sym home_of)
+      stage_is : ◌≡◌ {A = Option (ℕ × ℕ)} (Some (i.thread_of (holder k o), 1)) (Some (holder core (i.main_of (rows.of_flag x)), 1))
+      stage_is = ap (λ (h : ℕ). Some (h, 1)) (sym (home_of ∙ ap i.thread_of (sym region.held)))
 
   guards_now : guards (standing_of c (holder k o)) ≡ true
   guards_now = ap (λ q. guards (standing_of c q)) region.held ∙ ap guards stands
@@ -100,21 +103,47 @@ module _ (k core : Table) (i : Images) (rows : CoreRows k core i) (more : Layere
   abbrev closing_ones : List Transition
   closing_ones = closing (flags_around k core i r) (i.flags_of o) (i.places_of r) (terminations (own k o))
 
-  strong_here : has_strong (own k o) ≡ true
-  strong_here = strong_of k core i more o x flag
-
-  -- no superstate around has strong aborts
-  none_around : strong_checks true (i.places_of r).left (flags_around k core i r) ≡ []
-  none_around = no_strong_checks k core i more tree r o strong_here region.held true
+  abbrev checks_around : List Transition
+  checks_around = strong_checks true (i.places_of r).left (flags_around k core i r)
 
   continues : at_once (behind_transitions k core i r o) ≡
-      strong_checks true (i.places_of r).left (flags_around k core i r)
-      ++ at_once (answers (i.places_of r) (Some x) 1 (strong_aborts (own k o)) ++ (weak_answers ++ closing_ones))
+      checks_around ++ ([] ++ at_once (answers (i.places_of r) (Some x) 1 (strong_aborts (own k o)) ++ (weak_answers ++ closing_ones)))
   continues =
-      ap (λ zs. at_once (((zs ++ answers (i.places_of r) (i.flags_of o).strong 1 (strong_aborts (own k o))) ++ weak_answers) ++ closing_ones)) none_around
-      ∙ (ap (λ f. at_once ((answers (i.places_of r) f 1 (strong_aborts (own k o)) ++ weak_answers) ++ closing_ones)) flag
-      ∙ (ap at_once (append_assoc (answers (i.places_of r) (Some x) 1 (strong_aborts (own k o))) weak_answers closing_ones)
-      ∙ ap (λ zs. zs ++ at_once (answers (i.places_of r) (Some x) 1 (strong_aborts (own k o)) ++ (weak_answers ++ closing_ones))) (sym none_around)))
+      ap at_once
+      (append_assoc (checks_around ++ answers (i.places_of r) (i.flags_of o).strong 1 (strong_aborts (own k o))) weak_answers closing_ones
+      ∙ append_assoc checks_around (answers (i.places_of r) (i.flags_of o).strong 1 (strong_aborts (own k o))) (weak_answers ++ closing_ones))
+      ∙ (once_append checks_around (answers (i.places_of r) (i.flags_of o).strong 1 (strong_aborts (own k o)) ++ (weak_answers ++ closing_ones))
+      ∙ (ap (λ zs. zs ++ at_once (answers (i.places_of r) (i.flags_of o).strong 1 (strong_aborts (own k o)) ++ (weak_answers ++ closing_ones)))
+      (strong_once (i.places_of r).left (flags_around k core i r))
+      ∙ ap (λ f. checks_around ++ at_once (answers (i.places_of r) f 1 (strong_aborts (own k o)) ++ (weak_answers ++ closing_ones))) flag))
+
+  present : standing_of c r ≢ at.Outside
+  present e = let wrong : at.Guarding o (t ∷ others) ≡ at.Outside = sym stands ∙ e in absurd cc
+
+  -- the strong flags around are down
+  around_down : (s y : ℕ) → Contains (around k r) s → (i.flags_of s).strong ≡ Some y → IsDownAround k core i rows tree counts written_at d r x s y
+  around_down s y around_it strong =
+      record {
+        added = rows.strong_added s y strong;
+        differs = λ e.
+            let is : s ≡ o = sym owner ∙ (ap rows.of_flag e ∙ of_flag) in
+            holds_other k tree r o (subst (Contains (around k r)) is around_it) region.held;
+        low =
+            subst (λ f. Stores k core i d.variables f 0) strong
+            (related.flags s (super_there r s around_it) (related.enclosed r s there present around_it)).strong;
+        home_is = ap (λ v. holder core (i.main_of v)) owner ∙ rows.held s;
+        reads = inr (
+          inr (
+            counters.strong_not s y strong,
+            subst (λ v. Contains (around core (i.thread_of r)) (i.main_of v)) (sym owner)
+                (subst (λ zs. Contains zs (i.main_of s)) (sym (rows.encloses r)) (map_contains i.main_of (around k r) s around_it)),
+          ),
+          (1, refl, (let zero_is = strong_at s y strong in omega (zero_is, arith))),
+        );
+      }
+    where
+      owner : rows.of_flag y ≡ s
+      owner = (opening.flag_of s y (inl strong)).0
 
   strong_next : IsSuper k o → ((s : ℕ) → s ≢ o → ((i.flags_of s).strong ≢ Some x) × ((i.flags_of s).weak ≢ Some x) × ((i.flags_of s).counter ≢ Some x)) →
       is_guarded k c (around k r) ≡ false → AbortNext k core i rows tree counts written_at c d r o 0 x t
@@ -147,12 +176,12 @@ module _ (k core : Table) (i : Images) (rows : CoreRows k core i) (more : Layere
         no_counter = no_counter;
         written = at_none;
         flags_differ = flags_differ;
-        leaves = λ first raised values same over.
-            may_leave k core i rows more tree core_children children o x (strong_of k core i more o x flag) flag c d related guards_now calm corr
-            (i.thread_of r) 1 first sees_flag raised same o_there over;
-        around_down = λ s y around_it strong.
-            let none : (i.flags_of s).strong ≡ None = more.no_strong s (plain_around k core i more tree r o strong_here region.held s around_it) in
-            let wrong : Some y ≡ None = sym strong ∙ none in absurd cc;
+        leaves = λ first raised values same over g in_o.
+            subst (λ h. MayLeave core corr (i.thread_of h) 1 (i.main_of o) first g (standing_of first g)) region.held
+            (may_leave k core i rows more tree core_children children counts written_at counters opening strong_at super_there super_of o x region.has flag
+            o_there c d related guards_now (subst (λ q. is_guarded k c (around k q) ≡ false) (sym region.held) free) calm first raised values same sees_flag
+            over g in_o);
+        around_down = around_down;
         earlier = [];
         aborts = strong_aborts (own k o);
         behind_them = weak_answers ++ closing_ones;
@@ -176,8 +205,7 @@ module _ (k core : Table) (i : Images) (rows : CoreRows k core i) (more : Layere
   module _ (no_effects : t.effects ≡ []) (target_there : t.target < length (region_at k r).states) (super : IsSuper k o)
       (flags_differ : (s : ℕ) → s ≢ o → ((i.flags_of s).strong ≢ Some x) × ((i.flags_of s).weak ≢ Some x) × ((i.flags_of s).counter ≢ Some x))
       (told_test : Told d (Watched r (i.watcher_of o) 0 (access_of_trigger t.trigger))) (free : is_guarded k c (around k r) ≡ false)
-      (enters : Enters k core i rows tree counts written_at Told) (counters : CounterRows k core i rows counts written_at)
-      (super_there : (q s : ℕ) → Contains (around k q) s → IsState k s)
+      (enters : Enters k core i rows tree counts written_at Told)
       (chart_first : BeginsAt r (state_at k (state_in k r t.target)).entered)
       (core_first : BeginsAt (i.thread_of r) (state_at core (i.entry_of (state_in k r t.target))).entered) where
     pub strong_entered : (last : Configuration) → step k r c ≡ Some last →

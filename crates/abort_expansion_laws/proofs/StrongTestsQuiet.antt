@@ -2,10 +2,11 @@
 -- taken from the lowering of the core chart.
 use Rattle.std.proofs.Common.{◌≡◌, ◌≢◌, ℕ, suc, ◌<◌, ◌≤◌, ◌⊎◌, inl, inr, ⊎_elim, true, Option, Some, None, List, [], ◌∷◌, Contains, refl, sym, ap, subst, ◌∙◌}
 use Rattle.std.proofs.Common.{arith}
-use Rattle.std.specs.Prelude.{option_and_then}
+use Rattle.std.specs.Prelude.{option_and_then, option_map, unwrap_or}
 use Rattle.std.proofs.lemmas.Option.{same_Some}
 use Rattle.sc_values.specs.Access.{Access, Nothing, no_access, Precedes, init_update, init_read, update_read}
 use Rattle.sc_values.specs.Runs.{replay}
+use Rattle.sc_values.specs.declared.operation.Operation.{Operation}
 use Rattle.sc_graph.specs.declared.tables.Tables.{Tables}
 use Rattle.sc_graph.specs.declared.control.Control.{Control}
 use Rattle.sc_graph.specs.declared.control.Status.{Status}
@@ -13,7 +14,7 @@ use Rattle.sc_graph.specs.declared.control.Status.TheVariants as status
 use Rattle.sc_graph.specs.declared.program.Step.TheVariants as steps
 use Rattle.sc_graph.specs.Program.{Program, parent_of, owner_of, step_at}
 use Rattle.sc_graph.specs.Threads.{Below}
-use Rattle.sc_graph.specs.Accesses.{accesses}
+use Rattle.sc_graph.specs.Accesses.{accesses, access_of as access_of_node}
 use Rattle.sc_graph.specs.Control.{status_of}
 use Rattle.sc_graph.specs.Steps.{Effect, after, effect}
 use Rattle.sc_graph.specs.Steps as of_nodes
@@ -57,60 +58,102 @@ waits_still p formed m ok u e h r j ne waits =
     let moves : StepMoves p m u e = step_moves p formed m ok u e (does p m u e h) in
     after_other p formed m u e moves r ne (λ child. moves.was_idle r j child waits) ∙ waits
 
--- a resume node that leads to a node below this priority
-abbrev pub Resumes : Program → Tables → ℕ → Status → Type 0
-Resumes p q top s = (depth n : ℕ) × (s ≡ status.At depth) × (step_at p depth ≡ Some (steps.Depth n)) × (priority q n < top)
+-- this node is below a priority, or it leads on to such by tests, at most so many, and from where a thread resumes: so it writes nothing
+pub data SoonLow (p : Program) (q : Tables) (top : ℕ) : (many n : ℕ) → Type 0 where
+  soon_low : (many n : ℕ) → priority q n < top → SoonLow p q top many n
+  soon_resumed : (many n m : ℕ) → step_at p n ≡ Some (steps.Depth m) → SoonLow p q top many m → SoonLow p q top many n
+  soon_tested : (many n on_true on_false : ℕ) (code : List Operation) → step_at p n ≡ Some (steps.Cond code on_true on_false) → SoonLow p q top many on_true →
+      SoonLow p q top many on_false → SoonLow p q top (suc many) n
+
+-- who stands there is excused
+abbrev pub Excused : Program → Tables → (top many : ℕ) → Status → Type 0
+Excused p q top many s = (n : ℕ) × StandsAt s n × SoonLow p q top many n
+
+stands_once : (s : Status) (a b : ℕ) → StandsAt s a → StandsAt s b → a ≡ b
+stands_once status.Absent a b x y = absurd x
+stands_once (status.At n) a b x y = sym x ∙ y
+stands_once (status.Waiting j) a b x y = sym x ∙ y
+stands_once (status.Paused d) a b x y = absurd x
+stands_once status.Ended a b x y = absurd x
+
+pub soon_more : (p : Program) (q : Tables) (top many n : ℕ) → SoonLow p q top many n → SoonLow p q top (suc many) n
+soon_more p q top _ _ (soon_low many n lt) = soon_low (suc many) n lt
+soon_more p q top _ _ (soon_resumed many n m found soon) = soon_resumed (suc many) n m found (soon_more p q top many m soon)
+soon_more p q top _ _ (soon_tested many n on_true on_false code found first second) =
+    soon_tested (suc many) n on_true on_false code found (soon_more p q top many on_true first) (soon_more p q top many on_false second)
 
 module _ (p : Program) (q : Tables) (valid : IsValid p q) where
   formed : IsFormed p
   formed = valid_formed p q valid
 
-  excuse : (top : ℕ) (s : Status) (m n : ℕ) → Resumes p q top s → StandsAt s m → Instant p m n → priority q n < top
-  excuse top s m n x here (by_successor taken found succ) =
-      let is : StandsAt (status.At x.0) m = subst (λ z. StandsAt z m) x.2 here in
-      let same : taken ≡ steps.Depth x.1 = same_Some taken (steps.Depth x.1) (sym found ∙ (ap (step_at p) (sym is) ∙ x.3)) in
-      ⊎_elim (λ e. subst (λ z. priority q z < top) e x.4) (λ none. absurd (none_in n none))
-      (head_or_tail x.1 n [] (subst (λ z. Contains (successors z) n) same succ))
-  excuse top s m n x here (by_entry t children j k fork child entry) =
-      let is : StandsAt (status.At x.0) m = subst (λ z. StandsAt z m) x.2 here in
-      let wrong : Some (steps.Fork children j) ≡ Some (steps.Depth x.1) = sym fork.forks ∙ (ap (step_at p) (sym is) ∙ x.3) in absurd cc
-  excuse top s m n x here (by_exit f t children k fork child owned exits) =
-      let is : StandsAt (status.At x.0) m = subst (λ z. StandsAt z m) x.2 here in
-      let wrong : Some steps.Exit ≡ Some (steps.Depth x.1) = sym exits ∙ (ap (step_at p) (sym is) ∙ x.3) in absurd cc
+  -- what it leads to is such a node too
+  pub soon_goes : (top many m n : ℕ) → SoonLow p q top many m → Instant p m n → SoonLow p q top many n
+  soon_goes top _ _ n (soon_low many m lt) edge = let falls = (flow p q valid).falls m n edge in soon_low many n (omega (falls, lt, arith))
+  soon_goes top _ _ n (soon_resumed many m to found soon) (by_successor taken is succ) =
+      let same : taken ≡ steps.Depth to = same_Some taken (steps.Depth to) (sym is ∙ found) in
+      ⊎_elim (λ e. subst (SoonLow p q top many) e soon) (λ none. absurd (none_in n none))
+      (head_or_tail to n [] (subst (λ z. Contains (successors z) n) same succ))
+  soon_goes top _ _ n (soon_resumed many m to found soon) (by_entry t children j k fork child entry) =
+      let wrong : Some (steps.Fork children j) ≡ Some (steps.Depth to) = sym fork.forks ∙ found in absurd cc
+  soon_goes top _ _ n (soon_resumed many m to found soon) (by_exit f t children k fork child owned exits) =
+      let wrong : Some steps.Exit ≡ Some (steps.Depth to) = sym exits ∙ found in absurd cc
+  soon_goes top _ _ n (soon_tested many m on_true on_false code found first second) (by_successor taken is succ) =
+      let same : taken ≡ steps.Cond code on_true on_false = same_Some taken (steps.Cond code on_true on_false) (sym is ∙ found) in
+      ⊎_elim (λ e. subst (SoonLow p q top (suc many)) e (soon_more p q top many on_true first))
+      (λ tail.
+      ⊎_elim (λ e. subst (SoonLow p q top (suc many)) e (soon_more p q top many on_false second)) (λ none. absurd (none_in n none)) (head_or_tail on_false n [] tail))
+      (head_or_tail on_true n (on_false ∷ []) (subst (λ z. Contains (successors z) n) same succ))
+  soon_goes top _ _ n (soon_tested many m on_true on_false code found first second) (by_entry t children j k fork child entry) =
+      let wrong : Some (steps.Fork children j) ≡ Some (steps.Cond code on_true on_false) = sym fork.forks ∙ found in absurd cc
+  soon_goes top _ _ n (soon_tested many m on_true on_false code found first second) (by_exit f t children k fork child owned exits) =
+      let wrong : Some steps.Exit ≡ Some (steps.Cond code on_true on_false) = sym exits ∙ found in absurd cc
+
+  -- if it writes, it is below the priority itself
+  pub soon_writes : (top many n : ℕ) → SoonLow p q top many n → (accesses p n).writes ≢ Nothing → priority q n < top
+  soon_writes top _ _ (soon_low many n lt) writes = lt
+  soon_writes top _ _ (soon_resumed many n m found soon) writes =
+      absurd (writes (ap (λ o. (unwrap_or (option_map access_of_node o) no_access).writes) found))
+  soon_writes top _ _ (soon_tested many n on_true on_false code found first second) writes =
+      absurd (writes (ap (λ o. (unwrap_or (option_map access_of_node o) no_access).writes) found))
 
   -- along a run in which r takes no step
-  pub record StillLow (Child : ℕ → Type 0) (r j top : ℕ) (m : Control) : Type 0 where
+  pub record StillLow (Child : ℕ → Type 0) (r j top many : ℕ) (m : Control) : Type 0 where
     pub ok : IsConfiguration p m
     pub waits : status_of m r ≡ status.Waiting j
-    pub low : LowUnder p q (Under p Child) (Resumes p q top) top m
+    pub low : LowUnder p q (Under p Child) (Excused p q top many) top m
 
-  one_step : (Child : ℕ → Type 0) (r j top : ℕ) → ((k : ℕ) → Child k → parent_of p k ≡ Some r) → (m next : Control) (u : ℕ) → u ≢ r →
+  one_step : (Child : ℕ → Type 0) (r j top many : ℕ) → ((k : ℕ) → Child k → parent_of p k ≡ Some r) → (m next : Control) (u : ℕ) → u ≢ r →
       of_nodes.step p u m ≡ Some next →
-      StillLow Child r j top m → StillLow Child r j top next
-  one_step Child r j top of_r m next u ne h low =
+      StillLow Child r j top many m → StillLow Child r j top many next
+  one_step Child r j top many of_r m next u ne h low =
       let e = map_some (λ z. after z m) (effect p m u) next h in
-      subst (StillLow Child r j top) e.2
+      subst (StillLow Child r j top many) e.2
       (record {
         ok = configuration_kept p formed m u e.0 low.ok e.1;
         waits = waits_still p formed m low.ok u e.0 e.1 r j (λ z. ne (sym z)) low.waits;
-        low = low_under_kept p q valid Child (Resumes p q top) r of_r m low.ok u e.0 e.1 ne top
-            (λ a b x here edge. excuse top (status_of m u) a b x here edge) low.low;
+        low = low_under_kept p q valid Child (Excused p q top many) r of_r m low.ok u e.0 e.1 ne top
+            (λ a b x here edge.
+            inr (λ s stands_there. (
+              b,
+              stands_there,
+              soon_goes top many a b (subst (SoonLow p q top many) (stands_once (status_of m u) x.0 a x.1 here) x.2) edge,
+            ))) low.low;
       })
 
-  pub along : (Child : ℕ → Type 0) (r j top : ℕ) → ((k : ℕ) → Child k → parent_of p k ≡ Some r) → (run : List ℕ) (m last : Control) →
+  pub along : (Child : ℕ → Type 0) (r j top many : ℕ) → ((k : ℕ) → Child k → parent_of p k ≡ Some r) → (run : List ℕ) (m last : Control) →
       ((u : ℕ) → Contains run u → u ≢ r) →
-      replay (programs.machine p) run m ≡ Some last → StillLow Child r j top m → StillLow Child r j top last
-  along Child r j top of_r [] m last others leads low = subst (StillLow Child r j top) (same_Some m last leads) low
-  along Child r j top of_r (u ∷ run) m last others leads low = by_step (of_nodes.step p u m) refl leads
-      (λ next h rest. along Child r j top of_r run next last (λ v h. others v (later u v run h)) rest
-      (one_step Child r j top of_r m next u (others u (head_in u run)) h low))
+      replay (programs.machine p) run m ≡ Some last → StillLow Child r j top many m → StillLow Child r j top many last
+  along Child r j top many of_r [] m last others leads low = subst (StillLow Child r j top many) (same_Some m last leads) low
+  along Child r j top many of_r (u ∷ run) m last others leads low = by_step (of_nodes.step p u m) refl leads
+      (λ next h rest. along Child r j top many of_r run next last (λ v h. others v (later u v run h)) rest
+      (one_step Child r j top many of_r m next u (others u (head_in u run)) h low))
     where
       later : (a b : ℕ) (zs : List ℕ) → Contains zs b → Contains (a ∷ zs) b
       later a b zs h = let lt = h.1 in (suc h.0, omega (lt, arith), h.2)
 
       by_step : (o : Option Control) → of_nodes.step p u m ≡ o → option_and_then (replay (programs.machine p) run) o ≡ Some last →
-          ((next : Control) → of_nodes.step p u m ≡ Some next → replay (programs.machine p) run next ≡ Some last → StillLow Child r j top last) →
-          StillLow Child r j top last
+          ((next : Control) → of_nodes.step p u m ≡ Some next → replay (programs.machine p) run next ≡ Some last → StillLow Child r j top many last) →
+          StillLow Child r j top many last
       by_step None is rest goes = absurd cc
       by_step (Some next) is rest goes = goes next is rest
 
@@ -139,7 +182,8 @@ module _ (k core : Table) (i : Images) (rows : CoreRows k core i) (tree : IsNest
     pub control : Control
     pub stands : Stands d control
     pub waits : status_of control (i.thread_of r) ≡ status.Waiting (lowered.join_of (i.main_of superstate))
-    pub low : LowUnder p q (Under p (Inner (i.thread_of r) monitor)) (Resumes p q (priority q raising)) (priority q raising) control
+    pub many : ℕ
+    pub low : LowUnder p q (Under p (Inner (i.thread_of r) monitor)) (Excused p q (priority q raising) many) (priority q raising) control
 
   pub quiet_kept : (r : ℕ) (a : Access) (d next : Configuration) (t : ℕ) → IsQuiet r a d → step core t d ≡ Some next → t ≢ i.thread_of r → IsQuiet r a next
   quiet_kept r a d next t quiet steps ne =
@@ -159,6 +203,7 @@ module _ (k core : Table) (i : Images) (rows : CoreRows k core i) (tree : IsNest
         control = f.last;
         stands = f.stands;
         waits = still.waits;
+        many = quiet.many;
         low = still.low;
       }
     where
@@ -171,10 +216,10 @@ module _ (k core : Table) (i : Images) (rows : CoreRows k core i) (tree : IsNest
           (f.by u h)
 
       still : StillLow p q valid (Inner (i.thread_of r) quiet.monitor) (i.thread_of r) (lowered.join_of (i.main_of quiet.superstate))
-          (priority q quiet.raising) f.last
+          (priority q quiet.raising) quiet.many f.last
       still =
           along p q valid (Inner (i.thread_of r) quiet.monitor) (i.thread_of r) (lowered.join_of (i.main_of quiet.superstate)) (priority q quiet.raising)
-          (λ u child. child.0) f.run quiet.control f.last nobody f.leads
+          quiet.many (λ u child. child.0) f.run quiet.control f.last nobody f.leads
           (record { ok = lowered.configuration d quiet.control quiet.stands; waits = quiet.waits; low = quiet.low })
 
   -- ---- the tree of threads
@@ -193,14 +238,10 @@ module _ (k core : Table) (i : Images) (rows : CoreRows k core i) (tree : IsNest
     pub enabled : is_enabled core d (i.thread_of u) ≡ true
     pub enclosed : (s f : ℕ) (tests : List Transition) → Contains (around core (i.thread_of u)) s → standing_of d (holder core s) ≡ at.Within f tests → f ≡ s
 
-  no_writes : (b : Access) → b ≡ no_access → b.writes ≢ Nothing → ⊥
-  no_writes b e writes = writes (ap (λ z. z.writes) e)
-
-  pub spares : (depth_silent : (n m : ℕ) → step_at p n ≡ Some (steps.Depth m) → accesses p n ≡ no_access) →
-      (r : ℕ) (a : Access) (d : Configuration) (u : ℕ) (b : Access) → IsQuiet r a d → LiesUnder k u r → ToldOf d u →
+  pub spares : (r : ℕ) (a : Access) (d : Configuration) (u : ℕ) (b : Access) → IsQuiet r a d → LiesUnder k u r → ToldOf d u →
       b ≡ access_of (standing_of d (i.thread_of u)) → ¬ Precedes b a
-  spares depth_silent r a d u b quiet (inr root) told acts first = let lt = quiet.there.0 in absurd (omega (root, lt, arith))
-  spares depth_silent r a d u b quiet (inl (s, around_it, held)) told acts first =
+  spares r a d u b quiet (inr root) told acts first = let lt = quiet.there.0 in absurd (omega (root, lt, arith))
+  spares r a d u b quiet (inl (s, around_it, held)) told acts first =
       never_before p q valid quiet.tested quiet.raising n.node quiet.leads lower
       (record {
         first = t;
@@ -264,34 +305,34 @@ module _ (k core : Table) (i : Images) (rows : CoreRows k core i) (tree : IsNest
         below_of (around core (i.thread_of u)) (i.thread_of u) c.child refl c.lies,
       )
 
+      node_writes : (accesses p n.node).writes ≢ Nothing
+      node_writes = subst (λ z. z.writes ≢ Nothing) (sym n.does) writes
+
+      Low : Status → Type 0
+      Low s = (priority_of q s < priority q quiet.raising) ⊎ Excused p q (priority q quiet.raising) quiet.many s
+
       at_own : status_of quiet.control (i.thread_of u) ≡ status.At n.node → priority q n.node < priority q quiet.raising
-      at_own e = by_low (quiet.low (i.thread_of u) under (stands n.node e))
+      at_own e = by_low (subst Low e (quiet.low (i.thread_of u) under (stands n.node e)))
         where
-          by_low : (priority_of q (status_of quiet.control (i.thread_of u)) < priority q quiet.raising) ⊎ Resumes p q (priority q quiet.raising)
-              (status_of quiet.control (i.thread_of u)) →
-              priority q n.node < priority q quiet.raising
-          by_low (inl lt) = subst (λ z. priority_of q z < priority q quiet.raising) e lt
+          by_low : Low (status.At n.node) → priority q n.node < priority q quiet.raising
+          by_low (inl lt) = lt
           by_low (inr x) =
-              let here : status.At n.node ≡ status.At x.0 = sym e ∙ x.2 in
-              let same : n.node ≡ x.0 = cc in
-              absurd (no_writes (access_of (standing_of d (i.thread_of u))) (sym n.does ∙ (ap (accesses p) same ∙ depth_silent x.0 x.1 x.3)) writes)
+              soon_writes p q valid (priority q quiet.raising) quiet.many n.node (subst (SoonLow p q (priority q quiet.raising) quiet.many) (sym x.1) x.2)
+              node_writes
 
       at_depth : (depth : ℕ) → status_of quiet.control (i.thread_of u) ≡ status.At depth → step_at p depth ≡ Some (steps.Depth n.node) →
           priority q n.node < priority q quiet.raising
-      at_depth depth e is = by_low (quiet.low (i.thread_of u) under (stands depth e))
+      at_depth depth e is = by_low (subst Low e (quiet.low (i.thread_of u) under (stands depth e)))
         where
-          by_low : (priority_of q (status_of quiet.control (i.thread_of u)) < priority q quiet.raising) ⊎ Resumes p q (priority q quiet.raising)
-              (status_of quiet.control (i.thread_of u)) →
-              priority q n.node < priority q quiet.raising
-          by_low (inl lt) =
-              let less : priority q depth < priority q quiet.raising = subst (λ z. priority_of q z < priority q quiet.raising) e lt in
-              let falls : priority q n.node ≤ priority q depth = (flow p q valid).falls depth n.node
-              (by_successor (steps.Depth n.node) is (contains_head n.node [])) in omega (less, falls, arith)
+          edge : Instant p depth n.node
+          edge = by_successor (steps.Depth n.node) is (contains_head n.node [])
+
+          by_low : Low (status.At depth) → priority q n.node < priority q quiet.raising
+          by_low (inl lt) = let falls : priority q n.node ≤ priority q depth = (flow p q valid).falls depth n.node edge in omega (lt, falls, arith)
           by_low (inr x) =
-              let here : status.At depth ≡ status.At x.0 = sym e ∙ x.2 in
-              let same : depth ≡ x.0 = cc in
-              let step_same : steps.Depth n.node ≡ steps.Depth x.1 = same_Some (steps.Depth n.node) (steps.Depth x.1) (sym is ∙ (ap (step_at p) same ∙ x.3)) in
-              let node_same : n.node ≡ x.1 = cc in subst (λ z. priority q z < priority q quiet.raising) (sym node_same) x.4
+              soon_writes p q valid (priority q quiet.raising) quiet.many n.node
+              (soon_goes p q valid (priority q quiet.raising) quiet.many depth n.node
+              (subst (SoonLow p q (priority q quiet.raising) quiet.many) (sym x.1) x.2) edge) node_writes
 
       lower : priority q n.node < priority q quiet.raising
       lower = ⊎_elim at_own (λ x. at_depth x.0 x.1 x.2) n.at

@@ -18,7 +18,7 @@ use Rattle.chart_machine_laws.proofs.LyingIn.{head_or_tail}
 use Rattle.chart_machine_laws.proofs.ChartTables.{around_there}
 use Rattle.abort_expansion_laws.specs.CoreRows.{own, IsState, is_final, IsSuper, Images, flags_around, ends}
 use Rattle.abort_expansion_laws.specs.Related.{Related, Stands, outside, ended, left, trying, acting, entering, guarding, staying, within, behind, Watches}
-use Rattle.abort_expansion_laws.specs.Related.{guards, waits, looks, elsewhere, IsInside, guarded, open_inside}
+use Rattle.abort_expansion_laws.specs.Related.{guards, waits, looks_strong, looks, elsewhere, IsInside, guarded, open_inside}
 use Rattle.abort_expansion_laws.proofs.TablesCorrespond.{contains_map}
 use Rattle.abort_expansion_laws.proofs.Unchanged.{nobody_lies}
 use Rattle.abort_expansion_laws.proofs.KnownVariables.{present_there}
@@ -48,6 +48,7 @@ module _ (k core : Table) (i : Images) (more : EntryRows k core i) (c d : Config
   watcher_out : (o : ℕ) (x y : Standing) → Watches k core i o x y → ((tests : List Transition) → x ≢ at.Guarding o tests) →
       ((tests : List Transition) → x ≢ at.Within o tests) → y ≡ at.Outside
   watcher_out o _ _ (guards some among) not_guarding not_within = absurd (not_guarding _ refl)
+  watcher_out o _ _ (looks_strong some among) not_guarding not_within = absurd (not_guarding _ refl)
   watcher_out o _ _ (waits some joins_left among ends) not_guarding not_within = absurd (not_within _ refl)
   watcher_out o _ _ (looks first some joins_left among ends) not_guarding not_within = absurd (not_within _ refl)
   watcher_out o _ _ (elsewhere x not_guarding not_within) never never_within = refl

@@ -7,7 +7,7 @@ use Rattle.core_charts.specs.Rules.{IsChart}
 use Rattle.chart_machine.specs.declared.standing.Configuration.{Configuration}
 use Rattle.chart_machine.specs.Table.{table}
 use Rattle.abort_expansion.specs.Expansion.{expanded}
-use Rattle.abort_expansion_laws.specs.Layered.{IsLayered}
+use Rattle.abort_expansion_laws.specs.Layered.{IsWeaklyLayered}
 use Rattle.abort_expansion_laws.specs.Stages.{Entry, Silent}
 use Rattle.abort_expansion_laws.proofs.Owed.{Enters}
 use Rattle.abort_expansion_laws.proofs.RowsOfCharts as whole
@@ -15,7 +15,7 @@ use Rattle.abort_expansion_laws.proofs.MoreRows.{alone, counter_rows, is_counter
 use Rattle.abort_expansion_laws.proofs.ChartsOpened.{entry_rows, unflagged, charts_settle}
 use Rattle.abort_expansion_laws.proofs.Entering.{enters}
 
-module _ (c : Chart) (rules : IsChart features.Extended c) (core_rules : IsChart features.Core (expanded c)) (layered : IsLayered c)
+module _ (c : Chart) (rules : IsChart features.Extended c) (core_rules : IsChart features.Core (expanded c)) (layered : IsWeaklyLayered c)
     (Told : Configuration → Entry → Type 0)
     (told : (e : Configuration) (t : ℕ) (stage : Option (ℕ × ℕ)) (a : Access) → Told e (Silent t stage a)) where
   pub targets_are_entered : Enters (table c) (table (expanded c)) (whole.i c rules core_rules) (whole.rows_of_chart c rules core_rules)

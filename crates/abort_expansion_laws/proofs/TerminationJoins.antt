@@ -27,7 +27,7 @@ use Rattle.abort_expansion_laws.proofs.MoreValues.{same_verdict}
 use Rattle.abort_expansion_laws.proofs.FlagAccess.{number_access}
 use Rattle.abort_expansion_laws.specs.CoreRows.{own, IsState, IsSuper, joins, Images, CoreRows, WatcherImage, SplitImage, flags_around, watchers}
 use Rattle.abort_expansion_laws.specs.CoreRows.{behind_transitions, pair}
-use Rattle.abort_expansion_laws.specs.Related.{raise_each, Watches, guards as watch_guards, waits, looks, elsewhere, IsInside, open_inside, still_in}
+use Rattle.abort_expansion_laws.specs.Related.{raise_each, Watches, guards as watch_guards, waits, looks_strong, looks, elsewhere, IsInside, open_inside, still_in}
 use Rattle.abort_expansion_laws.specs.Related.{not_ended, Stores, Related, monitor_last}
 use Rattle.abort_expansion_laws.proofs.Unchanged.{no_guards, unguarded}
 use Rattle.abort_expansion_laws.proofs.StageReached.{Stage, holds_other, inside_in}
@@ -52,6 +52,7 @@ none_still k core i c (q ∷ rs) over =
 monitor_counts : (k core : Table) (i : Images) (s : ℕ) (t : Transition) (rest : List Transition) → is_join t.kind ≡ true → (x y : Standing) →
     Watches k core i s x y → x ≡ at.Within s (t ∷ rest) → y ≡ at.Trying (i.watching_of s) (monitor_last k core i s)
 monitor_counts k core i s t rest join _ _ (watch_guards some among) e = absurd cc
+monitor_counts k core i s t rest join _ _ (looks_strong some among) e = absurd cc
 monitor_counts k core i s t rest join _ _ (waits [] ends among only) e =
     ap (λ zs. at.Trying (i.watching_of s) (zs ++ monitor_last k core i s)) (none_raised (i.flags_of s).weak)
   where

@@ -19,7 +19,7 @@ use Rattle.abort_expansion_laws.proofs.TablesCorrespond.{IsThere, contains_map}
 use Rattle.chart_machine_laws.proofs.ChartTables.{around_there}
 use Rattle.abort_expansion_laws.specs.CoreRows.{own, IsState, Images, CoreRows, flags_around}
 use Rattle.abort_expansion_laws.specs.Related.{Each, is_behind, Stands, outside, ended, left, trying, acting, entering, guarding, staying, within, behind}
-use Rattle.abort_expansion_laws.specs.Related.{Watches, guards as watch_guards, waits, looks, elsewhere, IsInside, guarded, open_inside, Closes, Related}
+use Rattle.abort_expansion_laws.specs.Related.{Watches, guards as watch_guards, waits, looks_strong, looks, elsewhere, IsInside, guarded, open_inside, Closes, Related}
 use Rattle.abort_expansion_laws.proofs.KnownVariables.{both_true}
 use Rattle.abort_expansion_laws.proofs.StartingRegions.{Once, CounterRows}
 use Rattle.abort_expansion_laws.proofs.SettledInOrder.{ended_back}
@@ -144,7 +144,9 @@ module _ (k core : Table) (i : Images) (rows : CoreRows k core i) (tree : IsNest
 
   watcher_over : (u : ℕ) (x y : Standing) → Watches k core i u x y → IsOver x → IsOver y
   watcher_over u _ _ (watch_guards some among) (inl e) = absurd cc
+  watcher_over u _ _ (looks_strong some among) (inl e) = absurd cc
   watcher_over u _ _ (watch_guards some among) (inr e) = absurd cc
+  watcher_over u _ _ (looks_strong some among) (inr e) = absurd cc
   watcher_over u _ _ (waits some joins among ends) (inl e) = absurd cc
   watcher_over u _ _ (waits some joins among ends) (inr e) = absurd cc
   watcher_over u _ _ (looks first some joins among ends) (inl e) = absurd cc

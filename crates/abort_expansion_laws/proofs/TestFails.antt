@@ -20,7 +20,8 @@ use Rattle.abort_expansion_laws.proofs.TablesCorrespond.{IsThere}
 use Rattle.abort_expansion_laws.proofs.MoreValues.{verdict_over_more}
 use Rattle.abort_expansion_laws.specs.CoreRows.{IsSimple, Images, CoreRows}
 use Rattle.abort_expansion_laws.specs.Related.{held_back, tests_of, Stands, outside, ended, left, trying, acting, entering, guarding, staying, within, behind}
-use Rattle.abort_expansion_laws.specs.Related.{Watches, guards as watch_guards, waits, looks, elsewhere, IsInside, guarded, open_inside, Related}
+use Rattle.abort_expansion_laws.specs.Related.{Watches, guards as watch_guards, waits, looks_strong, looks, elsewhere, IsInside, guarded, open_inside, Related}
+use Rattle.abort_expansion_laws.proofs.Fronts.{front_free}
 use Rattle.abort_expansion_laws.proofs.Unchanged.{never_guarded}
 use Rattle.abort_expansion_laws.proofs.StageReached.{Stage}
 use Rattle.abort_expansion_laws.proofs.ImageSteps.{pair, ImageStep, image_segment}
@@ -73,7 +74,7 @@ module _ (k core : Table) (i : Images) (c : Configuration) (r : ℕ) where
   -- as long as nobody guards it, no strong checks stand in front
   pub no_front : (tests : List Transition) → is_guarded k c (around k r) ≡ false →
       tests_of k core i c r tests ≡ map (led (i.places_of r)) tests ++ held_back k core i r
-  no_front tests free = rw (free) refl
+  no_front tests free = ap (λ zs. zs ++ map (led (i.places_of r)) tests ++ held_back k core i r) (front_free k core i c r free false)
 
 -- ---- no monitor watches a simple state
 
@@ -82,6 +83,7 @@ module _ (k core : Table) (i : Images) where
       ((tests : List Transition) → x ≢ at.Guarding o tests) → ((tests : List Transition) → x ≢ at.Within o tests) →
       ((tests : List Transition) → x' ≢ at.Guarding o tests) → ((tests : List Transition) → x' ≢ at.Within o tests) → Watches k core i o x' y
   watch_other o _ _ x' (watch_guards some among) not_g not_w g w = absurd (not_g (map (λ x. x.1) some) refl)
+  watch_other o _ _ x' (looks_strong some among) not_g not_w g w = absurd (not_g (map (λ x. x.1) some) refl)
   watch_other o _ _ x' (waits some joins among ends) not_g not_w g w = absurd (not_w (map (λ x. x.1) some ++ joins) refl)
   watch_other o _ _ x' (looks first some joins among ends) not_g not_w g w = absurd (not_w (map (λ x. x.1) (first ∷ some) ++ joins) refl)
   watch_other o x _ x' (elsewhere z a b) not_g not_w g w = elsewhere x' g w

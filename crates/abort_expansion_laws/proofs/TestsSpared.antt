@@ -1,14 +1,12 @@
 -- What a valid image gives of its core chart: within a tick no strong test is overwritten.
 use Rattle.std.proofs.Common.{◌≡◌, ◌≢◌, ℕ, inl, inr, ⊎_elim, true, false, Some, List, [], ◌∷◌, refl, sym, ap, subst, ◌∙◌}
-use Rattle.std.proofs.Common.{unwrap_or, option_map}
+use Rattle.std.proofs.Common.{option_map}
 use Rattle.std.proofs.Math.Logic.{∥∥₁_map}
 use Rattle.std.proofs.lemmas.Grind.{not_there}
 use Rattle.sc_values.specs.Access.{Access, Precedes, no_access}
 use Rattle.sc_graph.specs.declared.control.Control.{Control}
-use Rattle.sc_graph.specs.declared.program.Step.TheVariants as steps
 use Rattle.sc_graph.specs.declared.tables.Tables.{Tables}
-use Rattle.sc_graph.specs.Accesses.{accesses, access_of as access_of_node}
-use Rattle.sc_graph.specs.Program.{Program, step_at}
+use Rattle.sc_graph.specs.Program.{Program}
 use Rattle.sc_graph.specs.Tick.{Inputs, AreAccepted}
 use Rattle.sc_graph.specs.Tick as graph_tick
 use Rattle.sc_graph.specs.Valid.{IsFormed, IsValid}
@@ -42,11 +40,12 @@ use Rattle.compiled_charts_laws.proofs.Stands.{stand_alike, waits_there}
 use Rattle.compiled_charts_laws.proofs.TestNodes.{test_node}
 use Rattle.compiled_charts_laws.proofs.TickStarts as tick_starts
 use Rattle.chart_machine_laws.specs.Tree.{holder}
-use Rattle.abort_expansion_laws.specs.Layered.{IsLayered}
+use Rattle.abort_expansion_laws.specs.Layered.{IsWeaklyLayered}
 use Rattle.abort_expansion_laws.specs.Preemption.{HasImage}
 use Rattle.abort_expansion_laws.specs.Segments.{Follows}
 use Rattle.abort_expansion_laws.specs.Stages.{Entry, Image, Watched, Silent, Correspondence, IsSpared, EachSpared}
 use Rattle.abort_expansion_laws.specs.CoreRows.{own, IsState, Images, CoreRows}
+use Rattle.abort_expansion_laws.proofs.CheckNodes.{wakes_low}
 use Rattle.abort_expansion_laws.proofs.DelayedBefore.{late_before, first_prompt}
 use Rattle.abort_expansion_laws.proofs.EachSpared.{each_spared}
 use Rattle.abort_expansion_laws.proofs.LayeredChartRows.{layered_rows, start_rows, started_related}
@@ -98,17 +97,13 @@ opened_plain k (at.Within u others) o tests never e = by (strong_aborts (own k u
     by [] none e = let same : u ≡ o = cc in ap (λ v. strong_aborts (own k v)) (sym same) ∙ none
     by (t ∷ strong) some e = absurd cc
 
--- a resume node neither reads nor writes
-resumes_silently : (p : Program) (n m : ℕ) → step_at p n ≡ Some (steps.Depth m) → accesses p n ≡ no_access
-resumes_silently p n m e = ap (λ o. unwrap_or (option_map access_of_node o) no_access) e
-
 -- what does not write comes before nothing
 writes_not : (b a : Access) → b ≡ no_access → ¬ Precedes b a
 writes_not b a none first = precedes_writes b a first (ap (λ z. z.writes) none)
 
 -- ---- the image of a chart
 
-module _ (c : Chart) (rules : IsChart features.Extended c) (core_rules : IsChart features.Core (expanded c)) (layered : IsLayered c)
+module _ (c : Chart) (rules : IsChart features.Extended c) (core_rules : IsChart features.Core (expanded c)) (layered : IsWeaklyLayered c)
     (scl : Scl) (low : IsLowering (expanded c) scl) (q : Tables) (valid : IsValid (program_of (numbered scl)) q) where
   abbrev k : Table
   k = table c
@@ -178,7 +173,7 @@ module _ (c : Chart) (rules : IsChart features.Extended c) (core_rules : IsChart
       (λ is.
       ⊎_elim (λ none. writes_not b a none)
       (λ image.
-      spares k core i rows (whole.core_tree c rules core_rules).nested p q valid Alike lowered (resumes_silently p) r a d u b is inner
+      spares k core i rows (whole.core_tree c rules core_rules).nested p q valid Alike lowered r a d u b is inner
       (told_of d next u image goes) (ap (λ z. z.access) acts)) told)) log d e follows keeps
 
   -- as it starts
@@ -224,7 +219,7 @@ module _ (c : Chart) (rules : IsChart features.Extended c) (core_rules : IsChart
             (λ t there none. tick_starts.top_parent (expanded c) scl q low valid t there none) (start k inputs before) (start core inputs d)
             (started_related c rules core_rules layered before d rested.rests inputs) (graph_tick.start p inputs m)
             (tick_starts.starts_alike (expanded c) scl q low valid inputs accepted d m between)
-            (tick_starts.wakes_there (expanded c) scl q low valid inputs accepted d m between) (plain_open rested.rests) o there has late n raises_it
+            (wakes_low (expanded c) scl low q valid inputs accepted d m between) (plain_open rested.rests) o there has late n raises_it
 
     pub spared_in_tick : RestsAlike c rules core_rules before d → (log : List Entry) (e : Configuration) →
         Follows (machine core) (ticks.corr c rules core_rules) (Told k core i) (start core inputs d) log e → EachSpared (ticks.corr c rules core_rules) log
@@ -232,7 +227,7 @@ module _ (c : Chart) (rules : IsChart features.Extended c) (core_rules : IsChart
 
 -- ---- over lists of ticks
 
-module _ (c : Chart) (rules : IsChart features.Extended c) (core_rules : IsChart features.Core (expanded c)) (layered : IsLayered c) (image : HasImage c) where
+module _ (c : Chart) (rules : IsChart features.Extended c) (core_rules : IsChart features.Core (expanded c)) (layered : IsWeaklyLayered c) (image : HasImage c) where
   abbrev Kept : Type 0
   Kept = KeepsRules image.scl.name image.scl.variables image.scl.body
 

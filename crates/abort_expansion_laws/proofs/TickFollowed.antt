@@ -14,7 +14,7 @@ use Rattle.chart_machine.specs.Machine.{machine, initial, start}
 use Rattle.chart_machine.specs.Steps.{step}
 use Rattle.abort_expansion.specs.Expansion.{expanded}
 use Rattle.chart_machine_laws.specs.Tree.{IsNested}
-use Rattle.abort_expansion_laws.specs.Layered.{IsLayered}
+use Rattle.abort_expansion_laws.specs.Layered.{IsWeaklyLayered}
 use Rattle.abort_expansion_laws.specs.Stages.{Entry, Silent, Correspondence, EachFits, EachSpared, NoneReached}
 use Rattle.abort_expansion_laws.specs.CoreRows.{Images, CoreRows, expanded_of, pair}
 use Rattle.abort_expansion_laws.specs.Related.{Related}
@@ -73,7 +73,7 @@ module _ (c : Chart) (rules : IsChart features.Extended c) (core_rules : IsChart
     pub rests : Resting k core i at_end core_at_end
     pub over : IsOver (machine k) at_end
 
-  module _ (layered : IsLayered c) (Told : Configuration → Entry → Type 0)
+  module _ (layered : IsWeaklyLayered c) (Told : Configuration → Entry → Type 0)
       (told : (d : Configuration) (t : ℕ) (stage : Option (ℕ × ℕ)) (a : Access) → Told d (Silent t stage a))
       (Holds : Configuration → Type 0) (kept : KeptByChart Holds) (followed : StepsFollowed Holds Told) where
     record IsWithin (now core_now : Configuration) : Type 0 where

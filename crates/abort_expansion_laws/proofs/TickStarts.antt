@@ -3,7 +3,7 @@ use Rattle.std.proofs.Common.{◌≡◌, ◌≢◌, ℕ, zero, suc, ◌<◌, ◌
 use Rattle.std.proofs.Common.{◌∷◌, ◌++◌, map, length, unwrap_or, Contains, refl, sym, ap, subst, ◌∙◌, arith}
 use Rattle.std.specs.Prelude.{filter, reverse}
 use Rattle.std.specs.List.{list_any}
-use Rattle.std.proofs.lemmas.List.{append_assoc, append-nil, length-map}
+use Rattle.std.proofs.lemmas.List.{append-nil}
 use Rattle.std.proofs.lemmas.List.Folds.{flat_map-map}
 use Rattle.std.proofs.lemmas.Option.{slice_get_past}
 use Rattle.std.proofs.lemmas.Bool.{cases_lt}
@@ -15,22 +15,22 @@ use Rattle.chart_machine.specs.declared.standing.Standing.TheVariants as at
 use Rattle.chart_machine.specs.declared.standing.Configuration.{Configuration}
 use Rattle.chart_machine.specs.declared.table.Table.{Table}
 use Rattle.chart_machine.specs.Table.{state_at}
-use Rattle.chart_machine.specs.Turns.{standing_of, has_ended, guards as has_to_guard, is_guarded}
+use Rattle.chart_machine.specs.Turns.{standing_of, has_ended, guards as has_to_guard}
 use Rattle.chart_machine.specs.Steps.{state_in}
 use Rattle.chart_machine.specs.Machine.{woken, guarded_first}
 use Rattle.abort_expansion.specs.declared.flags.Flags.{Flags}
 use Rattle.abort_expansion.specs.Flags.{has_join, aborts_around}
 use Rattle.core_charts.specs.Aborts.{has_strong, has_weak, has_aborts}
-use Rattle.abort_expansion.specs.Transitions.{check, led, strong_checks, weak_checks, raising}
+use Rattle.abort_expansion.specs.Transitions.{check, led, strong_checks, weak_checks}
 use Rattle.abort_expansion.specs.Superstates.{stays}
 use Rattle.chart_machine_laws.specs.Tree.{IsNested, IsThere, around, holder}
-use Rattle.abort_expansion_laws.specs.CoreRows.{own, IsState, IsSuper, IsSimple, joins, Images, CoreRows, flags_around}
+use Rattle.abort_expansion_laws.specs.CoreRows.{own, IsState, IsSuper, joins, Images, CoreRows, flags_around}
 use Rattle.abort_expansion_laws.specs.Related.{Each, front, held_back, tests_of}
 use Rattle.abort_expansion_laws.specs.Related.{is_behind, Stands, outside, ended, left, trying, guarding}
 use Rattle.abort_expansion_laws.specs.Related.{staying, within, behind, IsInside, guarded}
 use Rattle.abort_expansion_laws.specs.Related.{open_inside}
-use Rattle.abort_expansion_laws.proofs.StageReached.{any_in}
-use Rattle.abort_expansion_laws.proofs.InsideLeaves.{LayeredRows, none_checked}
+use Rattle.abort_expansion_laws.proofs.Fronts.{none_of_each, front_whole}
+use Rattle.abort_expansion_laws.proofs.InsideLeaves.{LayeredRows}
 use Rattle.abort_expansion_laws.proofs.Owed.{RestsIn, rests_outside, rests_ended, rests_left}
 use Rattle.abort_expansion_laws.proofs.Owed.{rests_trying, rests_staying, rests_within, rests_behind}
 use Rattle.abort_expansion_laws.proofs.Owed.{Resting}
@@ -84,12 +84,12 @@ module _ (f : ℕ → Flags) (b : Bool) (place : ℕ) (k : Table) (tree : IsNest
   pub no_strong_checks : (zs : List ℕ) → ((s : ℕ) → Contains zs s → (f s).strong ≡ None) → strong_checks b place (map f (reverse zs)) ≡ []
   no_strong_checks zs none =
       flat_map-map (λ z. check b place z.strong) f (reverse zs) ∙
-      none_checked k tree (λ s. check b place (f s).strong) zs (λ s h. ap (check b place) (none s h))
+      none_of_each (λ s. check b place (f s).strong) zs (λ s h. ap (check b place) (none s h))
 
   pub no_weak_checks : (zs : List ℕ) → ((s : ℕ) → Contains zs s → (f s).weak ≡ None) → weak_checks b place (map f (reverse zs)) ≡ []
   no_weak_checks zs none =
       flat_map-map (λ z. check b place z.weak) f (reverse zs) ∙
-      none_checked k tree (λ s. check b place (f s).weak) zs (λ s h. ap (check b place) (none s h))
+      none_of_each (λ s. check b place (f s).weak) zs (λ s h. ap (check b place) (none s h))
 
 -- what more is asked of the rows: flags are there for aborts alone, and added variables are no inputs
 pub record StartRows (k core : Table) (i : Images) (rows : CoreRows k core i) : Type 0 where
@@ -154,32 +154,16 @@ module _ (k core : Table) (i : Images) (rows : CoreRows k core i) (layered : Lay
       let strong = some_kept (λ t. is_strong t.kind) (own k s) some in
       ap has_to_guard (at_c (holder k s) ∙ (ap (woken k) e ∙ guards_then k s tests strong.0 strong.1.0 strong.1.1))
 
-  -- where nobody guards around, nobody around has a flag for strong aborts
-  no_flags : (r : ℕ) → IsThere k r → standing_of before r ≢ at.Outside → is_guarded k c (around k r) ≡ false → (s : ℕ) → Contains (around k r) s →
-      (i.flags_of s).strong ≡ None
-  no_flags r is present free s h = by_flag (i.flags_of s).strong refl
-    where
-      by_flag : (o : Option ℕ) → (i.flags_of s).strong ≡ o → (i.flags_of s).strong ≡ None
-      by_flag None e = e
-      by_flag (Some x) e =
-          let open_now = is_open s (standing_of before (holder k s)) refl (rests.enclosed r s is present h) in
-          let certain : is_guarded k c (around k r) ≡ true =
-          any_in (λ u. has_to_guard (standing_of c (holder k u))) (around k r) s h (will_guard s open_now.0 open_now.1 (more_rows.strong_for s x e)) in
-          let wrong : true ≡ false = sym certain ∙ free in absurd cc
+  -- whoever around has a flag for strong aborts will guard
+  flags_guard : (r : ℕ) → IsThere k r → standing_of before r ≢ at.Outside → (s x : ℕ) → Contains (around k r) s → (i.flags_of s).strong ≡ Some x →
+      has_to_guard (standing_of c (holder k s)) ≡ true
+  flags_guard r is present s x h e =
+      let open_now = is_open s (standing_of before (holder k s)) refl (rests.enclosed r s is present h) in
+      will_guard s open_now.0 open_now.1 (more_rows.strong_for s x e)
 
   front_all : (r : ℕ) (b : Bool) → IsThere k r → standing_of before r ≢ at.Outside →
       front k core i b c r ≡ strong_checks b (i.places_of r).left (flags_around k core i r)
-  front_all r b is present = by_guard (is_guarded k c (around k r)) refl
-    where
-      by_guard : (g : Bool) → is_guarded k c (around k r) ≡ g → front k core i b c r ≡ strong_checks b (i.places_of r).left (flags_around k core i r)
-      by_guard true e = rw (e) refl
-      by_guard false e =
-          let none : strong_checks b (i.places_of r).left (flags_around k core i r) ≡ [] =
-          no_strong_checks i.flags_of b (i.places_of r).left k tree (around k r) (no_flags r is present e) in
-          front_none e ∙ sym none
-        where
-          front_none : is_guarded k c (around k r) ≡ false → front k core i b c r ≡ []
-          front_none e = rw (e) refl
+  front_all r b is present = front_whole k core i c r (flags_guard r is present) b
 
   -- ---- where regions stand
 

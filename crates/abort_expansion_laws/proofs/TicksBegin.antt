@@ -9,7 +9,7 @@ use Rattle.chart_machine.specs.declared.table.Table.{Table}
 use Rattle.chart_machine.specs.Table.{table}
 use Rattle.chart_machine.specs.Machine.{machine, initial, start}
 use Rattle.abort_expansion.specs.Expansion.{expanded}
-use Rattle.abort_expansion_laws.specs.Layered.{IsLayered}
+use Rattle.abort_expansion_laws.specs.Layered.{IsWeaklyLayered}
 use Rattle.abort_expansion_laws.specs.Stages.{Entry, Silent, NoneReached}
 use Rattle.abort_expansion_laws.specs.CoreRows.{Images, pair}
 use Rattle.abort_expansion_laws.specs.Related.{Related}
@@ -21,7 +21,7 @@ use Rattle.abort_expansion_laws.proofs.MoreRows.{is_counter, stage_of_write}
 use Rattle.abort_expansion_laws.proofs.LayeredChartRows.{later_ticks_begin}
 use Rattle.abort_expansion_laws.proofs.FirstTickBegins.{first_tick_begins}
 
-module _ (c : Chart) (rules : IsChart features.Extended c) (core_rules : IsChart features.Core (expanded c)) (layered : IsLayered c)
+module _ (c : Chart) (rules : IsChart features.Extended c) (core_rules : IsChart features.Core (expanded c)) (layered : IsWeaklyLayered c)
     (Told : Configuration → Entry → Type 0)
     (told : (e : Configuration) (t : ℕ) (stage : Option (ℕ × ℕ)) (a : Access) → Told e (Silent t stage a)) where
   abbrev k : Table

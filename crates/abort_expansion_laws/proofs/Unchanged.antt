@@ -1,5 +1,5 @@
 -- What a step of one region leaves as it is.
-use Rattle.std.proofs.Common.{◌≡◌, ◌≢◌, ℕ, zero, suc, ◌<◌, ◌≤◌, ◌⊎◌, inl, inr, ⊎_elim, Bool, true, false, Some, List, [], ◌∷◌, ◌++◌, length, slice_get}
+use Rattle.std.proofs.Common.{◌≡◌, ◌≢◌, ℕ, zero, suc, ◌<◌, ◌≤◌, ◌⊎◌, inl, inr, ⊎_elim, Bool, true, false, Some, List, [], ◌∷◌, ◌++◌, map, length, slice_get}
 use Rattle.std.proofs.Common.{slice_set, unwrap_or, Contains, refl, sym, ap, subst, ◌∙◌, arith}
 use Rattle.std.specs.List.{list_all, list_any}
 use Rattle.std.proofs.lemmas.Option.{slice_get_past}
@@ -12,11 +12,13 @@ use Rattle.chart_machine.specs.declared.table.Table.{Table}
 use Rattle.chart_machine.specs.Table.{state_at}
 use Rattle.chart_machine.specs.Turns.{standing_of, has_ended, guards, is_guarded}
 use Rattle.chart_machine_laws.proofs.LyingIn.{around, holder, none_in, head_or_tail, head_in, tail_in}
+use Rattle.abort_expansion_laws.proofs.Fronts.{front_same}
 use Rattle.abort_expansion_laws.proofs.TablesCorrespond.{IsThere}
 use Rattle.abort_expansion_laws.specs.CoreRows.{own, IsState, Images, CoreRows}
+use Rattle.abort_expansion.specs.Transitions.{led}
 use Rattle.abort_expansion_laws.specs.Related.{IsCalm, front, held_back, tests_of, is_behind, Stands}
 use Rattle.abort_expansion_laws.specs.Related.{outside, ended, left, trying, acting, entering, guarding, staying, within, behind, Watches}
-use Rattle.abort_expansion_laws.specs.Related.{guards as watch_guards, waits, looks, elsewhere, IsInside, Related}
+use Rattle.abort_expansion_laws.specs.Related.{guards as watch_guards, looks_strong, waits, looks, elsewhere, IsInside, Related}
 
 -- ---- one region comes to stand elsewhere
 
@@ -64,37 +66,30 @@ module _ (k core : Table) (i : Images) (c d : Configuration) (ends : (q : ℕ) �
   over_same : (s : ℕ) → is_behind k core i d s ≡ is_behind k core i c s
   over_same s = rw (all_ended_by c d ends (state_at k s).regions) refl
 
-  pub stands_so : (r : ℕ) → is_guarded k d (around k r) ≡ is_guarded k c (around k r) → (x y : Standing) → Stands k core i c r x y → Stands k core i d r x y
-  stands_so r guarded _ _ outside = outside
-  stands_so r guarded _ _ (ended inner) = ended (λ s ss e. over_same s ∙ inner s ss e)
-  stands_so r guarded _ _ (left s ss e over) = left s ss e (over_same s ∙ over)
-  stands_so r guarded _ _ (trying s tests simple held) =
+  pub stands_so : (r : ℕ) → ((b : Bool) → front k core i b d r ≡ front k core i b c r) → (x y : Standing) → Stands k core i c r x y → Stands k core i d r x y
+  stands_so r fronts _ _ outside = outside
+  stands_so r fronts _ _ (ended inner) = ended (λ s ss e. over_same s ∙ inner s ss e)
+  stands_so r fronts _ _ (left s ss e over) = left s ss e (over_same s ∙ over)
+  stands_so r fronts _ _ (trying s tests simple held) =
       subst (λ z. Stands k core i d r (at.Trying s tests) (at.Trying (i.main_of s) z)) tests_too (trying s tests simple held)
     where
       tests_too : tests_of k core i d r tests ≡ tests_of k core i c r tests
-      tests_too = rw (guarded) refl
-  stands_so r guarded _ _ (acting s u p e effects lt) = acting s u p e effects lt
-  stands_so r guarded _ _ (entering s fork t tests super held leads) = entering s fork t tests super held leads
-  stands_so r guarded _ _ (guarding s join t tests has held leads) = guarding s join t tests has held leads
-  stands_so r guarded _ _ (staying s tests super held stays) = staying s tests super held stays
-  stands_so r guarded _ _ (within s join tests super held stays open_still leads) = within s join tests super held stays (over_same s ∙ open_still) leads
-  stands_so r guarded _ _ (behind s tests super held over) =
-      subst (λ z. Stands k core i d r (at.Within s tests) (at.Trying (i.behind_of s) (z ++ held_back k core i r))) front_too
+      tests_too = ap (λ zs. zs ++ map (led (i.places_of r)) tests ++ held_back k core i r) (fronts false)
+  stands_so r fronts _ _ (acting s u p e effects lt) = acting s u p e effects lt
+  stands_so r fronts _ _ (entering s fork t tests super held leads) = entering s fork t tests super held leads
+  stands_so r fronts _ _ (guarding s join t tests has held leads) = guarding s join t tests has held leads
+  stands_so r fronts _ _ (staying s tests super held stays) = staying s tests super held stays
+  stands_so r fronts _ _ (within s join tests super held stays open_still leads) = within s join tests super held stays (over_same s ∙ open_still) leads
+  stands_so r fronts _ _ (behind s tests super held over) =
+      subst (λ z. Stands k core i d r (at.Within s tests) (at.Trying (i.behind_of s) (z ++ held_back k core i r))) (fronts true)
       (behind s tests super held (over_same s ∙ over))
-    where
-      front_too : front k core i true d r ≡ front k core i true c r
-      front_too = rw (guarded) refl
 
 module _ (k core : Table) (i : Images) (c d : Configuration) (same : SameShape c d) where
   pub all_ended_same : (rs : List ℕ) → list_all (λ r. has_ended (standing_of d r)) rs ≡ list_all (λ r. has_ended (standing_of c r)) rs
   all_ended_same rs = all_ended_by c d same.ends rs
 
-  pub guarded_same : (zs : List ℕ) → is_guarded k d zs ≡ is_guarded k c zs
-  guarded_same [] = refl
-  guarded_same (s ∷ zs) = rw (same.guards_alike (holder k s), guarded_same zs) refl
-
   pub stands_kept : (r : ℕ) (x y : Standing) → Stands k core i c r x y → Stands k core i d r x y
-  stands_kept r x y stands = stands_so k core i c d same.ends r (guarded_same (around k r)) x y stands
+  stands_kept r x y stands = stands_so k core i c d same.ends r (front_same k core i c d r (λ s h. same.guards_alike (holder k s))) x y stands
 
 -- ---- who lies in a region where nobody is inside of anything
 
@@ -133,6 +128,7 @@ module _ (k core : Table) (i : Images) (rows : CoreRows k core i) (c d : Configu
 
   not_watching : (o : ℕ) (x y : Standing) → Watches k core i o x y → guards y ≡ false
   not_watching o _ _ (watch_guards some among) = refl
+  not_watching o _ _ (looks_strong some among) = refl
   not_watching o _ _ (waits some joins among ends) = refl
   not_watching o _ _ (looks first some joins among ends) = refl
   not_watching o x _ (elsewhere z a b) = refl

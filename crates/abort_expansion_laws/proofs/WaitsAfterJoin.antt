@@ -15,7 +15,8 @@ use Rattle.abort_expansion_laws.proofs.TablesCorrespond.{IsThere}
 use Rattle.abort_expansion_laws.specs.CoreRows.{Images, CoreRows, joins}
 use Rattle.abort_expansion_laws.specs.Related.{held_back, Stores, LooksFirst}
 use Rattle.abort_expansion_laws.proofs.Pending.{Sound, IsJoining, Over, Covered, Flagged, Pending, IsBusy, joins_then, Reached}
-use Rattle.abort_expansion_laws.specs.Related.{is_behind, front, Stands, outside, left, behind, Watches, guards as watch_guards, waits, looks, elsewhere}
+use Rattle.abort_expansion_laws.specs.Related.{is_behind, front, Stands, outside, left, behind, Watches, guards as watch_guards, waits, looks_strong, looks, elsewhere}
+use Rattle.abort_expansion_laws.proofs.Fronts.{front_free}
 use Rattle.abort_expansion_laws.proofs.TablesCorrespond.{contains_map}
 use Rattle.abort_expansion_laws.proofs.InsideAround.{inside_around}
 use Rattle.abort_expansion_laws.proofs.StageReached.{inside_in}
@@ -169,7 +170,7 @@ module _ (k core : Table) (i : Images) (rows : CoreRows k core i) (tree : IsNest
   thread_ne q ne e = ne (rows.region_once q r e)
 
   no_front : front k core i true c r ≡ []
-  no_front = let free : is_guarded k c (around k r) ≡ false = subst (λ q. is_guarded k c (around k q) ≡ false) held over_it.free in rw (free) refl
+  no_front = front_free k core i c r (subst (λ q. is_guarded k c (around k q) ≡ false) held over_it.free) true
 
   settled_now : Stands k core i c r (standing_of c r) (standing_of z g)
   settled_now =
@@ -234,6 +235,7 @@ module _ (k core : Table) (i : Images) (rows : CoreRows k core i) (tree : IsNest
 
   watch_not_ended : (u : ℕ) (x y : Standing) → Watches k core i u x y → y ≢ at.Ended
   watch_not_ended u _ _ (watch_guards some among) e = absurd cc
+  watch_not_ended u _ _ (looks_strong some among) e = absurd cc
   watch_not_ended u _ _ (waits some others among all) e = absurd cc
   watch_not_ended u _ _ (looks first some others among all) e = absurd cc
   watch_not_ended u x _ (elsewhere w a b) e = absurd cc

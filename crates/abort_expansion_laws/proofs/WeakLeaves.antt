@@ -26,6 +26,7 @@ use Rattle.abort_expansion_laws.proofs.FlagAccess.{number_access}
 use Rattle.abort_expansion_laws.specs.CoreRows.{own, IsState, IsSuper, Images, CoreRows, flags_around, behind_transitions}
 use Rattle.abort_expansion_laws.specs.Related.{front, held_back, Stands, outside, ended, left, trying, acting, entering, guarding, staying}
 use Rattle.abort_expansion_laws.specs.Related.{within, behind, IsInside, guarded, open_inside, not_ended, Stores, Related}
+use Rattle.abort_expansion_laws.proofs.Fronts.{front_free}
 use Rattle.abort_expansion_laws.proofs.KnownVariables.{present_there}
 use Rattle.abort_expansion_laws.proofs.StartingRegions.{CounterRows}
 use Rattle.abort_expansion_laws.proofs.OpensFork.{OpeningRows}
@@ -267,7 +268,7 @@ module _ (k core : Table) (i : Images) (rows : CoreRows k core i) (layered : Lay
       Leaves (i.thread_of q) (at.Trying u (front k core i b c q ++ held_back k core i q))
   only_held q u b there in_o present alone =
       let not_around : is_guarded k c (around k q) ≡ false = not_guarded q there in_o present in
-      let none : front k core i b c q ≡ [] = rw (not_around) refl in
+      let none : front k core i b c q ≡ [] = front_free k core i c q not_around b in
       let all : front k core i b c q ++ held_back k core i q ≡ sees q ∷ [] = ap (λ zs. zs ++ held_back k core i q) none ∙ one_held q in_o in
       subst (λ zs. Leaves (i.thread_of q) (at.Trying u zs)) (sym all) (tries u (sees q ∷ []) alone (sees_it q there in_o))
 
@@ -287,7 +288,8 @@ module _ (k core : Table) (i : Images) (rows : CoreRows k core i) (layered : Lay
   by_stands q there in_o _ _ (guarding s join t tests has_some its leads) is = absurd (works_not q there in_o (at.Guarding s (t ∷ tests)) is refl)
   by_stands q there in_o _ _ (staying s tests super its stay) is = absurd (never_stays q s in_o stay)
   by_stands q there in_o _ _ (within s join tests super its stays_not open_still leads) is =
-      fork_leaves k core i rows layered tree core_children children o has c d related corr (i.thread_of r) 3 first same o_there q s join tests in_o is super its
+      fork_leaves k core i rows layered tree core_children children o has c d related corr (i.thread_of r) 3 first same o_there q s join in_o
+      (subst (IsInside k core i s) (sym is) (open_inside tests)) super its
       stays_not open_still leads (continuation_leaves q s there in_o (super_state s super) its tests is)
   by_stands q there in_o _ _ (behind s tests super its over_it) is =
       only_held q (i.behind_of s) true there in_o (λ e. let wrong : at.Within s tests ≡ at.Outside = sym is ∙ e in absurd cc) (layered.behind_alone s)

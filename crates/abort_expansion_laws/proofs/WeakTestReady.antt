@@ -1,5 +1,5 @@
 -- When a weak test is next in the chart, it comes to be so at the monitor: if that has yet to look at the strong flags around, it looks.
-use Rattle.std.proofs.Common.{◌≡◌, ℕ, true, false, Some, List, [], ◌∷◌, ◌++◌, map, Contains, refl, sym, ap, subst, ◌∙◌}
+use Rattle.std.proofs.Common.{◌≡◌, ℕ, true, false, Some, List, [], ◌∷◌, Contains, sym, ap, subst, ◌∙◌}
 use Rattle.sc_values.specs.Runs.{act_of}
 use Rattle.core_charts.specs.declared.features.Features.TheVariants as features
 use Rattle.core_charts.specs.declared.region.Transition.{Transition}
@@ -7,24 +7,24 @@ use Rattle.core_charts.specs.Chart.{Chart}
 use Rattle.core_charts.specs.Rules.{IsChart}
 use Rattle.core_charts.specs.Tests.{is_weak, is_join}
 use Rattle.core_charts.specs.Aborts.{has_strong, has_weak, has_aborts}
-use Rattle.chart_machine.specs.declared.standing.Standing.{Standing}
 use Rattle.chart_machine.specs.declared.standing.Standing.TheVariants as at
 use Rattle.chart_machine.specs.declared.standing.Configuration.{Configuration}
 use Rattle.chart_machine.specs.declared.table.Table.{Table}
 use Rattle.chart_machine.specs.Table.{table}
-use Rattle.chart_machine.specs.Turns.{standing_of}
+use Rattle.chart_machine.specs.Turns.{standing_of, is_guarded}
 use Rattle.chart_machine.specs.Steps.{step}
 use Rattle.chart_machine.specs.Machine.{machine}
 use Rattle.abort_expansion.specs.Expansion.{expanded}
 use Rattle.abort_expansion_laws.specs.Stages.{Entry}
-use Rattle.chart_machine_laws.specs.Tree.{holder}
-use Rattle.abort_expansion_laws.specs.Layered.{IsLayered}
+use Rattle.chart_machine_laws.specs.Tree.{around, holder}
+use Rattle.abort_expansion_laws.specs.Layered.{IsWeaklyLayered}
 use Rattle.abort_expansion_laws.specs.CoreRows.{own, IsState, Images}
-use Rattle.abort_expansion_laws.specs.Related.{raise_each, monitor_last, Watches, guards as watch_guards, waits, looks, elsewhere, Related}
+use Rattle.abort_expansion_laws.specs.Related.{Related}
 use Rattle.abort_expansion_laws.proofs.StageReached.{Stage}
 use Rattle.abort_expansion_laws.proofs.KnownVariables.{Stepped}
 use Rattle.abort_expansion_laws.proofs.LaterTicks.{weak_no_join}
-use Rattle.abort_expansion_laws.proofs.MonitorLooks.{looked_before}
+use Rattle.abort_expansion_laws.proofs.HasLooked.{looked_weak}
+use Rattle.abort_expansion_laws.proofs.LooksBefore.{looked_first}
 use Rattle.abort_expansion_laws.proofs.MoreRows.{opening_rows, strong_at, counter_rows}
 use Rattle.abort_expansion_laws.proofs.OwnTests.{OwnTests}
 use Rattle.abort_expansion_laws.proofs.PreemptionKept.{ToldHere}
@@ -32,10 +32,10 @@ use Rattle.abort_expansion_laws.proofs.QuietBegins.{state_with_aborts}
 use Rattle.abort_expansion_laws.proofs.RowsOfCharts as whole
 use Rattle.abort_expansion_laws.proofs.TickFollowed as ticks
 use Rattle.abort_expansion_laws.proofs.ToldSteps.{told_silent}
-use Rattle.abort_expansion_laws.proofs.WeakNotTaken.{within_back, MonitorWaits, from_waiting}
+use Rattle.abort_expansion_laws.proofs.WeakNotTaken.{within_back, MonitorWaits}
 use Rattle.abort_expansion_laws.proofs.CasesFollowed as cases
 
-module _ (c : Chart) (rules : IsChart features.Extended c) (core_rules : IsChart features.Core (expanded c)) (layered : IsLayered c) where
+module _ (c : Chart) (rules : IsChart features.Extended c) (core_rules : IsChart features.Core (expanded c)) (layered : IsWeaklyLayered c) where
   abbrev k : Table
   k = table c
 
@@ -76,28 +76,12 @@ module _ (c : Chart) (rules : IsChart features.Extended c) (core_rules : IsChart
     abbrev GoesOn : Type 0
     GoesOn = (z : Configuration) → Related k core i now z → MonitorWaits k core i o t tests (standing_of z (i.watcher_of o)) → Followed now z r next
 
-    by_watch : GoesOn → (x y : Standing) → Watches k core i o x y → x ≡ at.Within o (t ∷ tests) → standing_of now (holder k o) ≡ x →
-        standing_of d (i.watcher_of o) ≡ y → Followed now d r next
-    by_watch goes_on _ _ (watch_guards some among) e x_is y_is = absurd cc
-    by_watch goes_on _ _ (waits some ends among only) e x_is y_is =
-        let same : map (λ (z : ℕ × Transition). z.1) some ++ ends ≡ t ∷ tests = cc in
-        goes_on d related (subst (MonitorWaits k core i o t tests) (sym y_is) (from_waiting k core i o some ends among only t tests no_join same))
-    by_watch goes_on _ _ (looks first some ends among only) e x_is y_is =
-        let same : map (λ (z : ℕ × Transition). z.1) (first ∷ some) ++ ends ≡ t ∷ tests = cc in
-        looked_before k core i (ticks.rows c rules core_rules) (ticks.nested c rules core_rules) (ticks.counts c rules core_rules)
-        (ticks.written_at c rules core_rules) (counter_rows c rules core_rules) (opening_rows c rules core_rules) (strong_at c rules core_rules)
-        (whole.super_there c rules core_rules) Told (told_silent k core i) now d related r o here has held
-        (cases.there c rules core_rules layered now d related owns r next goes)
-        (λ out. let wrong : at.Within o (t ∷ tests) ≡ at.Outside = sym stands ∙ out in absurd cc) parts.works parts.free
-        (raise_each (λ z. z.immediate) (i.flags_of o).weak (first ∷ some) ++ monitor_last k core i o) y_is
-        (subst (λ w. Watches k core i o w (at.Trying (i.watching_of o)
-        (raise_each (λ z. z.immediate) (i.flags_of o).weak (first ∷ some) ++ monitor_last k core i o))) (sym x_is) (waits (first ∷ some) ends among only))
-        (act_of (machine k) now r ∷ []) (Stage k i.thread_of next) (Related k core i next)
-        (λ z related_z at_test others. goes_on z related_z
-        (subst (MonitorWaits k core i o t tests) (sym at_test) (from_waiting k core i o (first ∷ some) ends among only t tests no_join same)))
-    by_watch goes_on x _ (elsewhere _ a b) e x_is y_is = absurd (b (t ∷ tests) e)
-
     pub when_ready : GoesOn → Followed now d r next
     when_ready goes_on =
-        by_watch goes_on (standing_of now (holder k o)) (standing_of d (i.watcher_of o)) (related.watchers o here has) (ap (standing_of now) held ∙ stands)
-        refl refl
+        looked_first k core i (ticks.rows c rules core_rules) (ticks.nested c rules core_rules) (ticks.counts c rules core_rules)
+        (ticks.written_at c rules core_rules) (counter_rows c rules core_rules) (opening_rows c rules core_rules) (strong_at c rules core_rules)
+        (whole.super_there c rules core_rules) Told (told_silent k core i) now d related o here has
+        (subst (λ q. is_guarded k now (around k q) ≡ false) (sym held) parts.free) (act_of (machine k) now r ∷ []) (Stage k i.thread_of next)
+        (Related k core i next)
+        (λ z related_z looked others. goes_on z related_z
+        (looked_weak k core i o (standing_of now (holder k o)) (standing_of z (i.watcher_of o)) looked t tests (ap (standing_of now) held ∙ stands) no_join))

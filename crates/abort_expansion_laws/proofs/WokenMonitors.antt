@@ -12,15 +12,14 @@ use Rattle.chart_machine.specs.Machine.{woken, guarded_first}
 use Rattle.core_charts.specs.Aborts.{has_strong, has_weak, has_aborts}
 use Rattle.abort_expansion.specs.Transitions.{strong_checks, weak_checks, raising}
 use Rattle.abort_expansion.specs.Superstates.{all_ended}
-use Rattle.chart_machine_laws.specs.Tree.{IsNested, around, holder}
+use Rattle.chart_machine_laws.specs.Tree.{IsNested, holder}
 use Rattle.abort_expansion_laws.specs.CoreRows.{own, IsState, Images, CoreRows, flags_around}
 use Rattle.abort_expansion_laws.specs.Related.{monitor_last}
-use Rattle.abort_expansion_laws.specs.Related.{raise_each, AreAmong, Watches, guards, looks, elsewhere, LooksFirst, looks_never, looks_first}
-use Rattle.abort_expansion_laws.proofs.InsideLeaves.{LayeredRows, true_or_false}
-use Rattle.abort_expansion_laws.proofs.OutsideAborts.{plain_around}
+use Rattle.abort_expansion_laws.specs.Related.{raise_each, AreAmong, Watches, looks_strong, looks, elsewhere, LooksFirst, looks_never, looks_first}
+use Rattle.abort_expansion_laws.proofs.InsideLeaves.{LayeredRows}
 use Rattle.abort_expansion_laws.proofs.Owed.{WatchRests, watch_within, watch_elsewhere}
 use Rattle.abort_expansion_laws.proofs.WokenConfigurations.{numbered_from, numbered_are, all_among, raising_is, each_kept, guards_then, open_then}
-use Rattle.abort_expansion_laws.proofs.TickStarts.{StartRows, no_strong_checks, kept_none, some_kept}
+use Rattle.abort_expansion_laws.proofs.TickStarts.{StartRows, some_kept}
 
 -- a list of five, the first in front of the others
 five : (a b c d e : List Transition) → a ++ b ++ c ++ d ++ e ≡ a ++ (b ++ (c ++ (d ++ e)))
@@ -52,34 +51,21 @@ module _ (k core : Table) (i : Images) (rows : CoreRows k core i) (layered : Lay
       (raising (λ t. t.immediate) 1 (i.flags_of o).weak 1 (weak_aborts (own k o))) (all_ended (i.flags_of o).counter)
       (weak_checks true 1 (flags_around k core i (holder k o)))
 
-  -- where it has strong aborts itself there are no such flags
-  none_around : has_strong (own k o) ≡ true → checks ≡ []
-  none_around strong =
-      no_strong_checks i.flags_of false 1 k tree (around k (holder k o))
-      (λ s h. layered.no_strong s (plain_around k core i layered tree (holder k o) o strong refl s h))
-
-  has_first : (t : Transition) (strong : List Transition) → strong_aborts (own k o) ≡ t ∷ strong → has_strong (own k o) ≡ true
-  has_first t strong e =
-      ⊎_elim (λ some. some)
-      (λ none. let wrong : t ∷ strong ≡ [] = sym e ∙ kept_none (λ z. is_strong z.kind) (own k o) none in absurd cc)
-      (true_or_false (has_strong (own k o)))
-
-  -- all strong tests, where there are some; else the checks, and then all weak ones
+  -- the checks, and then all strong tests, where there are some, or all weak ones
   within_woken : (tests : List Transition) (strong : List Transition) → strong_aborts (own k o) ≡ strong →
       Watches k core i o (woken k (at.Within o tests)) (at.Trying (i.watching_of o) (state_at core (i.watching_of o)).transitions)
   within_woken tests (t ∷ strong) e =
       let all : List Transition = strong_aborts (own k o) in
       let chart : woken k (at.Within o tests) ≡ at.Guarding o (map (λ x. x.1) (numbered_from 0 all)) =
       guards_then k o tests t strong e ∙ ap (at.Guarding o) (sym e ∙ sym (numbered_are 0 all)) in
-      let monitor : (state_at core (i.watching_of o)).transitions ≡ raise_each (λ t. false) (i.flags_of o).strong (numbered_from 0 all)
-      ++ (raising (λ t. t.immediate) 1 (i.flags_of o).weak 1 (weak_aborts (own k o)) ++ monitor_last k core i o) =
+      let monitor : (state_at core (i.watching_of o)).transitions ≡ checks ++ (raise_each (λ t. false) (i.flags_of o).strong (numbered_from 0 all)
+      ++ (raising (λ t. t.immediate) 1 (i.flags_of o).weak 1 (weak_aborts (own k o)) ++ monitor_last k core i o)) =
       transitions_are ∙
-      (ap (λ zs. zs ++ behind_checks) (none_around (has_first t strong e)) ∙
-      ap (λ zs. zs ++ (raising (λ t. t.immediate) 1 (i.flags_of o).weak 1 (weak_aborts (own k o)) ++ monitor_last k core i o))
-      (raising_is (λ t. false) (i.flags_of o).strong 0 all)) in
+      ap (λ zs. checks ++ (zs ++ (raising (λ t. t.immediate) 1 (i.flags_of o).weak 1 (weak_aborts (own k o)) ++ monitor_last k core i o)))
+      (raising_is (λ t. false) (i.flags_of o).strong 0 all) in
       subst (λ z. Watches k core i o z (at.Trying (i.watching_of o) (state_at core (i.watching_of o)).transitions)) (sym chart)
       (subst (λ zs. Watches k core i o (at.Guarding o (map (λ x. x.1) (numbered_from 0 all))) (at.Trying (i.watching_of o) zs)) (sym monitor)
-      (guards (numbered_from 0 all) (all_among all)))
+      (looks_strong (numbered_from 0 all) (all_among all)))
   within_woken tests [] e =
       let all : List Transition = weak_aborts (own k o) in
       let first = some_kept (λ t. is_weak t.kind) (own k o)

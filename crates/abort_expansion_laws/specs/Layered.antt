@@ -1,5 +1,5 @@
--- Layered charts: no superstate with strong aborts lies inside another one with strong aborts, and none with weak aborts inside another one
--- with weak aborts.
+-- Weakly layered charts: no superstate with weak aborts lies inside another one with weak aborts. Layered ones: besides that none with strong aborts
+-- lies inside another one with strong aborts.
 use Rattle.std.specs.Prelude.{◌≡◌, ℕ, true, false, Contains}
 use Rattle.core_charts.specs.declared.features.Features.TheVariants as features
 use Rattle.core_charts.specs.Chart.{Chart}
@@ -14,9 +14,12 @@ use Rattle.abort_expansion_laws.specs.Flat.{IsFlat}
 abbrev pub LiesInside : Chart → (s o : ℕ) → Type 0
 LiesInside c s o = Contains (around (table c) (holder (table c) s)) o
 
-pub record IsLayered (c : Chart) : Type 0 where
-  pub strong_apart : (o s : ℕ) → LiesInside c s o → has_strong (own (table c) o) ≡ true → has_strong (own (table c) s) ≡ false
+pub record IsWeaklyLayered (c : Chart) : Type 0 where
   pub weak_apart : (o s : ℕ) → LiesInside c s o → has_weak (own (table c) o) ≡ true → has_weak (own (table c) s) ≡ false
+
+pub record IsLayered (c : Chart) : Type 0 where
+  pub weakly : IsWeaklyLayered c
+  pub strong_apart : (o s : ℕ) → LiesInside c s o → has_strong (own (table c) o) ≡ true → has_strong (own (table c) s) ≡ false
 
 -- flat charts, in which no superstate with aborts lies inside another one with such, are layered
 abbrev pub FlatChartsAreLayered : Type 0

@@ -1,4 +1,4 @@
--- The law of the expansion of aborts: a layered chart with a valid image is kept by its core chart.
+-- The law of the expansion of aborts: a weakly layered chart with a valid image is kept by its core chart.
 use Rattle.std.specs.Prelude.{ℕ, ◌≡◌, ◌↔◌, true, Some, length, take}
 use Rattle.sc_graph.specs.Program.{Program}
 use Rattle.sc_graph.specs.Tick.{AreAccepted}
@@ -15,7 +15,7 @@ use Rattle.abort_expansion.specs.Expansion.{expanded, state_map}
 use Rattle.scl.specs.declared.program.Scl.{Scl}
 use Rattle.chart_lowering.specs.Lowering.{lowered}
 use Rattle.scl_graph.specs.Answers.{IsGraph}
-use Rattle.abort_expansion_laws.specs.Layered.{IsLayered}
+use Rattle.abort_expansion_laws.specs.Layered.{IsWeaklyLayered}
 use Rattle.abort_expansion_laws.specs.Ticks.{Reactive, Keeps}
 
 abbrev pub chart_machine : Chart → Reactive
@@ -41,9 +41,9 @@ pub record HasImage (c : Chart) : Type 0 where
   pub tables : Tables
   pub valid : IsValid program tables
 
--- each list of ends of a layered chart, over inputs that are accepted, has one of its core chart that is seen alike, where that keeps the
--- rules of core charts
+-- each list of ends of a weakly layered chart, over inputs that are accepted, has one of its core chart that is seen alike, where that keeps
+-- the rules of core charts
 abbrev pub PreemptionIsKept : Type 0
 PreemptionIsKept =
-    (c : Chart) → IsChart features.Extended c → IsChart features.Core (expanded c) → IsLayered c → (image : HasImage c) →
+    (c : Chart) → IsChart features.Extended c → IsChart features.Core (expanded c) → IsWeaklyLayered c → (image : HasImage c) →
     Keeps (chart_machine c) (chart_machine (expanded c)) (AreAccepted image.program) (SeenAlike c)

@@ -1,8 +1,8 @@
--- A configuration of a layered chart within a tick, and that of its core chart which stands for it. The core's is given by the
+-- A configuration of a weakly layered chart within a tick, and that of its core chart which stands for it. The core's is given by the
 -- chart's, but for monitors that have yet to look at the strong flags around: weak checks and the count test of a monitor are always held
 -- back to the end of the tick, or to an abort.
 use Rattle.std.specs.Prelude.{◌≡◌, ◌≢◌, ℕ, suc, ◌+◌, ◌<◌, Bool, true, false, not, ◌&&◌, pos, Option, Some, None, List, [], ◌∷◌, ◌++◌, map, length, slice_get}
-use Rattle.std.specs.Prelude.{Contains, if◌then◌else◌}
+use Rattle.std.specs.Prelude.{Contains, if◌then◌else◌, reverse, flat_map}
 use Rattle.std.specs.List.{list_all}
 use Rattle.sc_values.specs.declared.value.Value.{Value}
 use Rattle.sc_values.specs.declared.value.Value.TheVariants as value_is
@@ -15,11 +15,11 @@ use Rattle.chart_machine.specs.declared.standing.Standing.TheVariants as at
 use Rattle.chart_machine.specs.declared.standing.Configuration.{Configuration}
 use Rattle.chart_machine.specs.declared.table.Table.{Table}
 use Rattle.chart_machine.specs.Table.{state_at, region_at}
-use Rattle.chart_machine.specs.Turns.{standing_of, has_ended, guards as has_to_guard, is_guarded}
+use Rattle.chart_machine.specs.Turns.{standing_of, has_ended, guards as has_to_guard}
 use Rattle.chart_machine.specs.Steps.{state_in}
 use Rattle.abort_expansion.specs.declared.flags.Flags.{Flags}
 use Rattle.abort_expansion.specs.Flags.{has_join}
-use Rattle.abort_expansion.specs.Transitions.{put, go, place_of, counting, led, led_by, strong_checks, weak_checks, raising}
+use Rattle.abort_expansion.specs.Transitions.{put, go, place_of, counting, led, led_by, check, strong_checks, weak_checks, raising}
 use Rattle.abort_expansion.specs.Superstates.{stays, is_prepared, resets, all_ended}
 use Rattle.chart_machine_laws.specs.Tree.{around, holder}
 use Rattle.chart_machine_laws.specs.Tree.{IsThere}
@@ -35,6 +35,7 @@ pub data IsCalm : Standing → Type 0 where
   calm_ended : IsCalm at.Ended
   calm_trying : (s : ℕ) (tests : List Transition) → IsCalm (at.Trying s tests)
   calm_within : (s : ℕ) (tests : List Transition) → IsCalm (at.Within s tests)
+  calm_guarding : (s : ℕ) (tests : List Transition) → IsCalm (at.Guarding s tests)
 
 -- these are some of all, each with its number
 abbrev pub AreAmong : List Transition → List (ℕ × Transition) → Type 0
@@ -55,10 +56,13 @@ module _ (k core : Table) (i : Images) where
   abbrev pub flags_here : ℕ → List Flags
   flags_here r = flags_around k core i r
 
-  -- the strong checks that stand in front as long as strong aborts are still to be tested; they are delayed in a simple state, and
-  -- not in a continuation
+  -- the strong check of a superstate stands in front as long as its strong aborts are still to be tested
+  abbrev pub ahead : Bool → (place : ℕ) → Configuration → ℕ → List Transition
+  ahead immediate place c s = if has_to_guard (standing_of c (holder k s)) then check immediate place (i.flags_of s).strong else []
+
+  -- those of all superstates around, the outermost first; they are delayed in a simple state, and not in a continuation
   abbrev pub front : Bool → Configuration → ℕ → List Transition
-  front immediate c r = if is_guarded k c (around k r) then strong_checks immediate (i.places_of r).left (flags_here r) else []
+  front immediate c r = flat_map (λ s. ahead immediate (i.places_of r).left c s) (reverse (around k r))
 
   -- the weak checks, which are held back
   abbrev pub held_back : ℕ → List Transition
@@ -110,6 +114,11 @@ module _ (k core : Table) (i : Images) where
         Watches o (at.Guarding o (map (λ x. x.1) some))
         (at.Trying (i.watching_of o) (raise_each (λ t. false) (i.flags_of o).strong some
         ++ (raising (λ t. t.immediate) 1 (i.flags_of o).weak 1 (weak_aborts (own k o)) ++ monitor_last o)))
+    -- it has yet to look at the strong flags around, before its first strong test
+    looks_strong : (some : List (ℕ × Transition)) → AreAmong (strong_aborts (own k o)) some →
+        Watches o (at.Guarding o (map (λ x. x.1) some))
+        (at.Trying (i.watching_of o) (strong_checks false 1 (flags_here (holder k o)) ++ (raise_each (λ t. false) (i.flags_of o).strong some
+        ++ (raising (λ t. t.immediate) 1 (i.flags_of o).weak 1 (weak_aborts (own k o)) ++ monitor_last o))))
     waits : (some : List (ℕ × Transition)) (joins : List Transition) → AreAmong (weak_aborts (own k o)) some → Each (λ t. is_join t.kind ≡ true) joins →
         Watches o (at.Within o (map (λ x. x.1) some ++ joins))
         (at.Trying (i.watching_of o) (raise_each (λ t. t.immediate) (i.flags_of o).weak some ++ monitor_last o))

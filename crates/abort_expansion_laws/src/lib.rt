@@ -1,4 +1,4 @@
-//! The expansion of aborts keeps layered charts: the law, over the definitions alone.
+//! The expansion of aborts keeps weakly layered charts: the law, over the definitions alone.
 //!
 //! `specs/Preemption` says the law. What it is proved of, from records of what the core's table has for each region and
 //! state (`specs/CoreRows`) on, is listed in `proofs/Proved`.
@@ -29,7 +29,7 @@ pub fn expanded_charts_have_rows()
     ensures { ExpandedChartsHaveRows }
 {}
 
-/// A layered chart that has a valid image, and whose core chart keeps the rules of core charts, is kept by its core
+/// A weakly layered chart that has a valid image, and whose core chart keeps the rules of core charts, is kept by its core
 /// chart: each list of ends of the chart, one for each of a list of inputs that are accepted, has one of the core chart
 /// for the same inputs, in each of which the declared variables have the same values and the same states are active.
 /// This function does nothing; its contract is the law.

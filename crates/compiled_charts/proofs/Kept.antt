@@ -184,7 +184,7 @@ module _ (c : Chart) (image : Image) (is : IsImageOfChart c image) (kept : Keeps
       let r : AreReaction image ticks (initial image.program) controls = are_reaction image ticks (initial image.program) controls are in
       record {
         each =
-            layered_shown c rules image.program (preemption_holds c rules is.lowers.core layered has_image) ticks controls r.accepted
+            layered_shown c rules image.program (preemption_holds c rules is.lowers.core layered.weakly has_image) ticks controls r.accepted
             (λ ends reacts. (one (state_of_node core) own).each ticks ends controls r.accepted reacts r.reacts);
         some = layered_reacts c rules image.program (reacts c rules layered has_image low) ticks r.accepted;
       }

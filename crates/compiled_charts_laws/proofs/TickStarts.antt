@@ -1,19 +1,15 @@
--- As a tick starts, a core chart and the graph of its lowering stand alike, and each thread that has work resumes at the
--- node of its region's first test.
+-- As a tick starts, a core chart and the graph of its lowering stand alike, and each thread that has work resumes before the
+-- tests of its region.
 use Rattle.std.proofs.Common.{◌≡◌, ◌≢◌, ℕ, zero, suc, ◌<◌, ⊎_elim, true, false, Option, Some, None, List, [], ◌∷◌, map, length, slice_get}
 use Rattle.std.proofs.Common.{unwrap_or, Contains, refl, sym, ap, subst, ◌∙◌, arith}
 use Rattle.std.proofs.lemmas.Option.{slice_get_within}
-use Rattle.sc_values.specs.declared.expression.Expr.{Expr}
-use Rattle.sc_values.specs.Access.{Access}
-use Rattle.sc_values.specs.Expr.{postorder}
 use Rattle.sc_values.specs.Runs.{IsOver, Ends}
 use Rattle.sc_graph.specs.declared.control.Control.{Control}
 use Rattle.sc_graph.specs.declared.control.Status.{Status}
 use Rattle.sc_graph.specs.declared.control.Status.TheVariants as status
 use Rattle.sc_graph.specs.declared.program.Step.TheVariants as node_step
 use Rattle.sc_graph.specs.declared.tables.Tables.{Tables}
-use Rattle.sc_graph.specs.Program.{Program, owner_of, parent_of, step_at}
-use Rattle.sc_graph.specs.Accesses.{accesses}
+use Rattle.sc_graph.specs.Program.{parent_of, step_at, Program}
 use Rattle.sc_graph.specs.Control.{status_of, all_ended, status_enabled}
 use Rattle.sc_graph.specs.Machine as graph
 use Rattle.sc_graph.specs.Tick.{Inputs, AreAccepted}
@@ -30,11 +26,9 @@ use Rattle.chart_machine.specs.declared.standing.Configuration.{Configuration}
 use Rattle.chart_machine.specs.declared.table.Table.{Table}
 use Rattle.chart_machine.specs.Table.{table, region_at}
 use Rattle.chart_machine.specs.Turns.{standing_of}
-use Rattle.chart_machine.specs.Steps.{access_of_trigger}
 use Rattle.chart_machine.specs.Machine as chart
 use Rattle.scl.specs.declared.program.Scl.{Scl}
 use Rattle.scl.specs.Block.{Block, End, Pause}
-use Rattle.scl.specs.Labels.{before}
 use Rattle.scl.specs.Places.{Place, whole, after_pause}
 use Rattle.scl.specs.Numbering.{Numbered, numbered}
 use Rattle.scl.specs.Meaning.{State, Doing, Away, Todo, Forked, Resting, Resuming, Finished, doing}
@@ -56,8 +50,7 @@ use Rattle.chart_lowering_laws.proofs.TicksKept.{keeps_runs}
 use Rattle.node_states.specs.Nodes.{state_of_node}
 use Rattle.compiled_charts_laws.specs.Stands.{StandAlike}
 use Rattle.compiled_charts_laws.proofs.StepsFollowed.{status_is}
-use Rattle.compiled_charts_laws.proofs.Mirrored.{owned, stepped}
-use Rattle.compiled_charts_laws.proofs.TestNodes.{tried, tried_node, tried_access}
+use Rattle.compiled_charts_laws.proofs.Mirrored.{stepped}
 use Rattle.compiled_charts_laws.proofs.Ticks as ticks
 use Rattle.compiled_charts_laws.proofs.Told.{nodes_stand}
 
@@ -106,24 +99,6 @@ started_at : (root : Block) (ds : List Doing) (t : ℕ) →
     unwrap_or (slice_get (text.threads_at_start root ds) (suc t)) Away ≡ text.woken (unwrap_or (slice_get ds (suc t)) Away)
 started_at root [] t = refl
 started_at root (d ∷ ds) t = woken_at ds t
-
--- a thread that resumes, and the node of its own to which it then goes on, with what that reads and writes
-pub record ResumedAt (q : Program) (m : Control) (t : ℕ) (a : Access) : Type 0 where
-  pub depth : ℕ
-  pub node : ℕ
-  pub at : status_of m t ≡ status.At depth
-  pub resumes : step_at q depth ≡ Some (node_step.Depth node)
-  pub owned : owner_of q node ≡ Some t
-  pub does : accesses q node ≡ a
-
--- where the region of a thread stands that has work as a tick starts: before tests, the first of which the thread is to
--- make; or in a superstate whose fork is over
-pub data Wakes (q : Program) (m : Control) (t : ℕ) (x : Standing) : Type 0 where
-  before_tests : (s : ℕ) (tests : List Transition) → x ≡ stand.Trying s tests →
-      ((test : Transition) (rest : List Transition) (e : Expr) → tests ≡ test ∷ rest → test.trigger ≡ Some e →
-      ResumedAt q m t (access_of_trigger (Some e))) →
-      Wakes q m t x
-  behind_fork : (s : ℕ) → x ≡ stand.Within s [] → Wakes q m t x
 
 module _ (c : Chart) (p : Scl) (q : Tables) (low : IsLowering c p) (valid : IsValid (program_of (numbered p)) q) where
   abbrev K : Table
@@ -194,6 +169,13 @@ module _ (c : Chart) (p : Scl) (q : Tables) (low : IsLowering c p) (valid : IsVa
     no_node : (t n : ℕ) → standing (doing x.state t) ≡ status.At n → ⊥
     no_node t n is = x.rests.nobody_at t n (status_is P x.state e x.corresponds t ∙ is)
 
+    -- where the region of a thread stands that has work as a tick starts: before tests, which stand behind the pause where the thread resumes; or in a
+    -- superstate whose fork is over
+    pub data WakesIn (t : ℕ) (y : Standing) : Type 0 where
+      at_tests : (u n : ℕ) (tests : List Transition) (rest : Block) → y ≡ stand.Trying u tests → status_of m t ≡ status.At (suc n) →
+          step_at G (suc n) ≡ Some (node_step.Depth (leads P.root rest)) → Place P.root t rest → TriesOut K P.root L u tests rest → WakesIn t y
+      at_fork : (u : ℕ) → y ≡ stand.Within u [] → WakesIn t y
+
     module _ (t n : ℕ) (rest : Block) (resumes : doing s t ≡ Resuming n rest) where
       at_pause : Place P.root t (Pause n rest)
       at_pause = subst (IsOfText P.root t) resumes (of_graph.places t)
@@ -201,27 +183,12 @@ module _ (c : Chart) (p : Scl) (q : Tables) (low : IsLowering c p) (valid : IsVa
       has : HasNodes G n t (node_step.Surf (suc n)) (node_step.Depth (leads P.root rest))
       has = mirrors.nodes t (Pause n rest) at_pause
 
-      resumed : (u : ℕ) (test : Transition) (others : List Transition) (f : Expr) → test.trigger ≡ Some f → TriesOut K P.root L u (test ∷ others) rest →
-          ResumedAt G m t (access_of_trigger (Some f))
-      resumed u test others f triggered tries =
-          let h = tried c p low t u test others f triggered rest tries in
-          record {
-            depth = suc n;
-            node = h.0;
-            at = status_is P s m of_graph t ∙ ap standing resumes;
-            resumes = stepped P G mirrors (suc n) t (node_step.Depth (leads P.root rest)) has.second ∙ ap (λ z. Some (node_step.Depth z)) (ap number h.4);
-            owned = owned P G mirrors h.0 t (node_step.Cond (postorder f) (leads P.root (before h.1 h.3)) (leads P.root (before h.2 h.3)))
-                (tried_node c p low t u test others f triggered rest (after_pause t n rest at_pause) h);
-            does = tried_access c p low t u test others f triggered rest (after_pause t n rest at_pause) h;
-          }
-
-      live : (y : Standing) → Live K P.root L t y (Resuming n rest) → HeldBy K P.root L t y → Wakes G m t y
+      live : (y : Standing) → Live K P.root L t y (Resuming n rest) → HeldBy K P.root L t y → WakesIn t y
       live (stand.Trying u tests) now_at held =
-          before_tests u tests refl
-          (λ test others f are triggered.
-          resumed u test others f triggered
-          (subst (λ ts. TriesOut K P.root L u ts rest) (sym now_at.0 ∙ are) (held.1.wakes n rest now_at.1)))
-      live (stand.Within u tests) now_at held = behind_fork u (ap (stand.Within u) now_at.0)
+          at_tests u n tests rest refl (status_is P s m of_graph t ∙ ap standing resumes)
+          (stepped P G mirrors (suc n) t (node_step.Depth (leads P.root rest)) has.second) (after_pause t n rest at_pause)
+          (subst (λ ts. TriesOut K P.root L u ts rest) (sym now_at.0) (held.1.wakes n rest now_at.1))
+      live (stand.Within u tests) now_at held = at_fork u (ap (stand.Within u) now_at.0)
       live stand.Outside now_at held = absurd now_at
       live stand.Ended now_at held = absurd now_at
       live (stand.Entering u tests) now_at held = absurd now_at
@@ -229,18 +196,18 @@ module _ (c : Chart) (p : Scl) (q : Tables) (low : IsLowering c p) (valid : IsVa
       live (stand.Acting u [] place) now_at held = absurd now_at
       live (stand.Acting u (f ∷ effects) place) now_at held = absurd now_at
 
-      resumes_in : IsRegionOf K t → Wakes G m t (standing_of now t)
+      resumes_in : IsRegionOf K t → WakesIn t (standing_of now t)
       resumes_in there = by (given K now s (region_at K t).around) (subst (λ z. Fits K P.root L t (given K now s (region_at K t).around) (standing_of now t) z)
           resumes (of_chart.each t there))
         where
-          by : (g : Giving) → Fits K P.root L t g (standing_of now t) (Resuming n rest) → Wakes G m t (standing_of now t)
+          by : (g : Giving) → Fits K P.root L t g (standing_of now t) (Resuming n rest) → WakesIn t (standing_of now t)
           by Turn fits = live (standing_of now t) fits.0 fits.1
           by Nothing fits = let wrong : Resuming n rest ≡ Away = fits.1 in absurd (cc)
           by Ready fits = let wrong : Resuming n rest ≡ Away = fits.1 in absurd (cc)
           by Past fits = let wrong : Resuming n rest ≡ Away = fits.1 in absurd (cc)
 
     -- the thread of a region that has work, as a tick starts
-    pub wakes_there : (t : ℕ) → t ≢ 0 → Enabled G m t → Wakes G m t (standing_of now t)
+    pub wakes_there : (t : ℕ) → t ≢ 0 → Enabled G m t → WakesIn t (standing_of now t)
     wakes_there t not_root (completes w) = absurd (none_completes G inputs e over t w)
     wakes_there zero not_root (stands n at) = absurd (not_root refl)
     wakes_there (suc t) not_root (stands n at) = by (doing x.state (suc t)) refl
@@ -261,7 +228,7 @@ module _ (c : Chart) (p : Scl) (q : Tables) (low : IsLowering c p) (valid : IsVa
                 let many : length s.threads ≡ suc (length K.regions) = of_chart.threads in
                 (omega arith, omega (arith, less, many))
 
-        by : (y : Doing) → doing x.state (suc t) ≡ y → Wakes G m (suc t) (standing_of now (suc t))
+        by : (y : Doing) → doing x.state (suc t) ≡ y → WakesIn (suc t) (standing_of now (suc t))
         by (Resting k rest) is =
             resumes_in (suc t) k rest (now_at (Resting k rest) is) (there (Resuming k rest) (now_at (Resting k rest) is) (λ out. absurd (cc)))
         by Away is = let wrong : status.Absent ≡ status.At n = stands_at Away is in absurd (cc)

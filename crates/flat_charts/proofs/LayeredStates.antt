@@ -256,8 +256,11 @@ module _ (c : Chart) (rules : IsChart features.Extended c) (layered : IsLayeredT
       record {
         strong_apart = λ o s h has. ⊎_elim (λ here. (inside s (let size = chart_size c rules in omega (here, size, arith)) o h).0 has)
             (λ past. ap has_strong (none_past s past)) (within_or_past s (length k.states));
-        weak_apart = λ o s h has. ⊎_elim (λ here. (inside s (let size = chart_size c rules in omega (here, size, arith)) o h).1 has)
-            (λ past. ap has_weak (none_past s past)) (within_or_past s (length k.states));
+        weakly =
+            record {
+              weak_apart = λ o s h has. ⊎_elim (λ here. (inside s (let size = chart_size c rules in omega (here, size, arith)) o h).1 has)
+                  (λ past. ap has_weak (none_past s past)) (within_or_past s (length k.states));
+            };
       }
 
 pub layered_texts_are_layered : LayeredTextsAreLayered

@@ -31,13 +31,14 @@ use Rattle.abort_expansion_laws.proofs.EntryTestFails.{IsEntering, entering_back
 use Rattle.abort_expansion_laws.proofs.KnownVariables.{both_true, present_there}
 use Rattle.abort_expansion_laws.proofs.OwnTests.{OwnTests, IsOwn, IsClosing}
 use Rattle.abort_expansion_laws.proofs.QuietBegins.{state_with_aborts}
-use Rattle.abort_expansion_laws.proofs.StrongNotTaken.{IsGuarding, guarding_back, MonitorGuards, guards_back}
+use Rattle.abort_expansion_laws.proofs.StrongNotTaken.{IsGuarding, guarding_back, MonitorGuards}
 use Rattle.abort_expansion_laws.proofs.TestFails.{IsTrying, trying_back, no_front}
 use Rattle.abort_expansion_laws.proofs.TestHolds.{counting_first}
 use Rattle.abort_expansion_laws.proofs.TestTargets.{ends_untested}
 use Rattle.abort_expansion_laws.proofs.TickFollowed as ticks
 use Rattle.abort_expansion_laws.proofs.Unchanged.{never_guarded}
 use Rattle.abort_expansion_laws.proofs.WeakNotTaken.{IsWithin, within_back, MonitorWaits}
+use Rattle.abort_expansion_laws.proofs.HasLooked.{looked_strong, looked_weak}
 use Rattle.abort_expansion_laws.proofs.MonitorsReady.{IsReady}
 
 module _ (c : Chart) (rules : IsChart features.Extended c) (core_rules : IsChart features.Core (expanded c)) where
@@ -128,8 +129,8 @@ module _ (c : Chart) (rules : IsChart features.Extended c) (core_rules : IsChart
           guarding_back k core i now q (standing_of now q) (standing_of d (i.thread_of q)) (related.regions q there) o (t ∷ tests) is in
           let here : IsState k o = state_with_aborts k o b.has in
           let m : MonitorGuards k core i o t tests (standing_of d (i.watcher_of o)) =
-          guards_back k core i o (standing_of now (holder k o)) (standing_of d (i.watcher_of o)) (related.watchers o here b.has) t tests
-          (ap (standing_of now) b.held ∙ is) in
+          looked_strong k core i o (standing_of now (holder k o)) (standing_of d (i.watcher_of o))
+          (ready o here b.has (subst (λ p. is_guarded k now (around k p) ≡ false) (sym b.held) free)) t tests (ap (standing_of now) b.held ∙ is) in
           let flag = rows.strong_there o m.number t here m.first in
           by_monitor o here b.held b.has (ap (λ x. taker x q) is)
           (tries (i.watcher_of o) (i.watching_of o) (raises (λ z. false) flag.0 (m.number, t)) (map (raises (λ z. false) flag.0) m.others
@@ -148,7 +149,8 @@ module _ (c : Chart) (rules : IsChart features.Extended c) (core_rules : IsChart
           within_back k core i now q o has (standing_of now q) (standing_of d (i.thread_of q)) (related.regions q there) (t ∷ tests) is in
           let here : IsState k o = state_with_aborts k o has in
           let m : MonitorWaits k core i o t tests (standing_of d (i.watcher_of o)) =
-          ready o here has t tests (ap (standing_of now) b.held ∙ is) no_join (subst (λ p. is_guarded k now (around k p) ≡ false) (sym b.held) free) in
+          looked_weak k core i o (standing_of now (holder k o)) (standing_of d (i.watcher_of o))
+          (ready o here has (subst (λ p. is_guarded k now (around k p) ≡ false) (sym b.held) free)) t tests (ap (standing_of now) b.held ∙ is) no_join in
           let flag = rows.weak_there o m.number t here m.first in
           by_monitor o here b.held has
           (ap (λ x. taker x q) is ∙ ap (λ (z : Bool). if z then i.thread_of q else i.watcher_of o) no_join)

@@ -24,7 +24,7 @@ use Rattle.chart_machine_laws.specs.Progress.{first as reached_first}
 use Rattle.chart_lowering_laws.specs.Laws.{IsLowering}
 use Rattle.compiled_charts_laws.proofs.TickStarts as tick_starts
 use Rattle.abort_expansion_laws.specs.CoreRows.{Images}
-use Rattle.abort_expansion_laws.specs.Layered.{IsLayered}
+use Rattle.abort_expansion_laws.specs.Layered.{IsWeaklyLayered}
 use Rattle.abort_expansion_laws.specs.Preemption.{chart_machine, HasImage}
 use Rattle.abort_expansion_laws.specs.Related.{Related}
 use Rattle.abort_expansion_laws.specs.Segments.{threads, Follows}
@@ -67,7 +67,7 @@ module _ (n : Machine) (k : Correspondence) (Told : n.Configuration → Entry �
   longer [] act more charted = absurd cc
   longer (y ∷ log) act more charted = both_longer (length more) (length (threads k log ++ more)) (no_shorter log more)
 
-module _ (c : Chart) (rules : IsChart features.Extended c) (core_rules : IsChart features.Core (expanded c)) (layered : IsLayered c) where
+module _ (c : Chart) (rules : IsChart features.Extended c) (core_rules : IsChart features.Core (expanded c)) (layered : IsWeaklyLayered c) where
   abbrev k : Table
   k = table c
 

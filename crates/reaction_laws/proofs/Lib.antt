@@ -30,6 +30,7 @@ pub mod OpenedThreads
 pub mod OwnSteps
 pub mod StepLow
 pub mod GuardsLow
+pub mod WithoutTests
 pub mod MonitorsLow
 pub mod QuietRuns
 pub mod GraphComes

@@ -1,6 +1,6 @@
 -- While a monitor has strong aborts to test, its superstate's holder comes to no greater priority than the monitor, for nobody beside it does.
-use Rattle.std.proofs.Common.{◌≡◌, ◌≢◌, ℕ, suc, ◌<◌, ◌≤◌, true, false, ⊎_elim, Option, Some, None, List, [], ◌∷◌, ◌++◌, map, pos, refl, sym, ap}
-use Rattle.std.proofs.Common.{◌∙◌, arith}
+use Rattle.std.proofs.Common.{◌≡◌, ◌≢◌, ℕ, suc, ◌<◌, ◌≤◌, true, false, not, ◌&&◌, ⊎_elim, Option, Some, None, List, [], ◌∷◌, ◌++◌, map, pos, refl, sym, ap}
+use Rattle.std.proofs.Common.{subst, ◌∙◌, arith}
 use Rattle.sc_values.specs.Access.{no_access}
 use Rattle.sc_values.specs.declared.expression.Expr.{Expr}
 use Rattle.sc_values.specs.declared.value.Value.TheVariants as value_is
@@ -11,7 +11,8 @@ use Rattle.sc_graph.specs.Program.{Program}
 use Rattle.sc_graph.specs.Tables.{priority, priority_of}
 use Rattle.sc_graph.specs.Valid.{IsValid}
 use Rattle.tick_laws.proofs.Formed.{valid_formed}
-use Rattle.tick_laws.proofs.Views.{enabled_view}
+use Rattle.tick_laws.proofs.Falling.{StandsAt}
+use Rattle.tick_laws.proofs.Views.{Enabled, enabled_view}
 use Rattle.core_charts.specs.declared.features.Features.TheVariants as features
 use Rattle.core_charts.specs.declared.region.Transition.{Transition}
 use Rattle.core_charts.specs.Aborts.{has_aborts}
@@ -23,7 +24,7 @@ use Rattle.chart_machine.specs.declared.standing.Standing.TheVariants as at
 use Rattle.chart_machine.specs.declared.standing.Configuration.{Configuration}
 use Rattle.chart_machine.specs.declared.table.Table.{Table}
 use Rattle.chart_machine.specs.Table.{table}
-use Rattle.chart_machine.specs.Turns.{standing_of, is_enabled}
+use Rattle.chart_machine.specs.Turns.{standing_of, has_work, is_guarded, inside_is_done, is_enabled}
 use Rattle.chart_machine.specs.Steps.{step, access_of, access_of_trigger}
 use Rattle.scl.specs.declared.program.Scl.{Scl}
 use Rattle.scl.specs.Numbering.{numbered}
@@ -32,18 +33,21 @@ use Rattle.abort_expansion.specs.Expansion.{expanded}
 use Rattle.abort_expansion.specs.Transitions.{put, raising}
 use Rattle.chart_lowering_laws.specs.Laws.{IsLowering}
 use Rattle.chart_lowering_laws.specs.Stands.{Lowered}
-use Rattle.chart_machine_laws.proofs.LyingIn.{IsNested, holder}
+use Rattle.chart_machine_laws.proofs.LyingIn.{IsNested, around, holder}
 use Rattle.chart_machine_laws.specs.Tree.{IsThere}
 use Rattle.compiled_charts_laws.proofs.LateTests.{is_late}
 use Rattle.compiled_charts_laws.proofs.Stands.{stand_alike}
 use Rattle.abort_expansion_laws.specs.CoreRows.{own, IsState, Images, CoreRows}
 use Rattle.abort_expansion_laws.specs.Related.{monitor_last}
 use Rattle.abort_expansion_laws.specs.Related.{raises, raise_each}
+use Rattle.abort_expansion_laws.proofs.ChecksUpTo.{strong_around}
 use Rattle.abort_expansion_laws.proofs.FlagAccess.{put_access}
-use Rattle.abort_expansion_laws.proofs.KnownVariables.{present_there}
+use Rattle.abort_expansion_laws.proofs.HasLooked.{looked_strong}
+use Rattle.abort_expansion_laws.proofs.KnownVariables.{present_there, both_true, not_so}
 use Rattle.abort_expansion_laws.proofs.QuietBegins.{LoweredTests, IsRaising, StaysLow, state_with_aborts}
 use Rattle.abort_expansion_laws.proofs.RowsOfCharts as whole
-use Rattle.abort_expansion_laws.proofs.StrongNotTaken.{IsGuarding as StandsGuarding, guarding_back, MonitorGuards, guards_back}
+use Rattle.abort_expansion_laws.proofs.StrongNotTaken.{IsGuarding as StandsGuarding, guarding_back, MonitorGuards}
+use Rattle.abort_expansion_laws.proofs.StrongTestsQuiet.{SoonLow}
 use Rattle.abort_expansion_laws.proofs.TickFollowed as ticks
 use Rattle.reaction_laws.specs.StepNodes.{Alike}
 use Rattle.reaction_laws.proofs.CappedSteps.{IsGuarding}
@@ -51,6 +55,7 @@ use Rattle.reaction_laws.proofs.ChartOrder.{AllAt, step_priority}
 use Rattle.reaction_laws.proofs.GuardsLow.{BesideLow, guard_low}
 use Rattle.reaction_laws.proofs.LinesAhead.{LowAhead}
 use Rattle.reaction_laws.proofs.RaiseNodes.{LeadsToEffect, taken_lower}
+use Rattle.reaction_laws.proofs.WithoutTests.{at_priority, without_tests, no_resume}
 
 less_then : (a b c : ℕ) → a < b → b ≤ c → a ≤ c
 less_then a b c lt le = omega (lt, le, arith)
@@ -93,7 +98,8 @@ module _ (c : Chart) (rules : IsChart features.Extended c) (core_rules : IsChart
         (o : ℕ) → IsState k o → has_aborts (own k o) ≡ true → is_late (standing_of d (i.watcher_of o)) ≡ true → (n : ℕ) → Raises o n → Stays o n m
 
     module _ (now d : Configuration) (m : Control) (all : AllAt c rules core_rules p q low valid now d m) (alike : Alike (expanded c) p d m)
-        (quiet : MonitorsQuiet d m) (t : ℕ) (on : is_enabled k now t ≡ true) where
+        (quiet : MonitorsQuiet d m) (t : ℕ) (on : is_enabled k now t ≡ true)
+        (alone : (o x : ℕ) → (i.flags_of o).strong ≡ Some x → strong_around k o ≡ 0) where
       module _ (o : ℕ) (test : Transition) (tests : List Transition) (e : Expr) (guards : standing_of now t ≡ at.Guarding o (test ∷ tests))
           (triggered : test.trigger ≡ Some e) where
         there : IsThere k t
@@ -107,10 +113,17 @@ module _ (c : Chart) (rules : IsChart features.Extended c) (core_rules : IsChart
         o_there : IsState k o
         o_there = state_with_aborts k o b.has
 
+        both : (has_work k now (standing_of now t) ≡ true)
+            × ((not (is_guarded k now (around k t)) && inside_is_done k now (standing_of now t)) ≡ true)
+        both = both_true (has_work k now (standing_of now t)) (not (is_guarded k now (around k t)) && inside_is_done k now (standing_of now t)) on
+
+        free : is_guarded k now (around k t) ≡ false
+        free = not_so (is_guarded k now (around k t)) (both_true (not (is_guarded k now (around k t))) (inside_is_done k now (standing_of now t)) both.1).0
+
         monitor : MonitorGuards k core i o test tests (standing_of d (i.watcher_of o))
         monitor =
-            guards_back k core i o (standing_of now (holder k o)) (standing_of d (i.watcher_of o)) (all.related.watchers o o_there b.has) test tests
-            (ap (standing_of now) b.held ∙ guards)
+            looked_strong k core i o (standing_of now (holder k o)) (standing_of d (i.watcher_of o))
+            (all.ready o o_there b.has (subst (λ p. is_guarded k now (around k p) ≡ false) (sym b.held) free)) test tests (ap (standing_of now) b.held ∙ guards)
 
         flag : (x : ℕ) × ((i.flags_of o).strong ≡ Some x)
         flag = rows.strong_there o monitor.number test o_there monitor.first
@@ -148,12 +161,25 @@ module _ (c : Chart) (rules : IsChart features.Extended c) (core_rules : IsChart
         stays : Stays o raise.taken m
         stays = quiet o o_there b.has (ap is_late core_stands) raise.taken raises_it
 
+        -- where no tests come first, who is below the node soon is so, since nobody resumes
+        none_tests : (u : ℕ) → Enabled G m u → (n : ℕ) → StandsAt (status_of m u) n → SoonLow G q (priority q raise.taken) 0 n →
+            priority_of q (status_of m u) ≤ priority_of q (status_of m (i.watcher_of o))
+        none_tests u on_u n there soon =
+            ⊎_elim
+            (λ lower.
+            less_then (priority_of q (status_of m u)) (priority q raise.taken) (priority_of q (status_of m (i.watcher_of o)))
+            (subst (λ z. z < priority q raise.taken) (sym (at_priority q (status_of m u) n there)) lower)
+            (taken_lower G q valid m (i.watcher_of o) (put flag.0 (suc monitor.number)) raise))
+            (λ found. absurd (no_resume G (valid_formed G q valid) m u n found.0 (all.resumed u) on_u there found.1)) (without_tests G q (priority q raise.taken) 0 n soon refl)
+
         beside : BesideLow G q valid m alike.is_configuration (i.thread_of t) (i.watcher_of o)
         beside child u parent ne under on_u =
             ⊎_elim
             (λ lower. less_then (priority_of q (status_of m u)) (priority q raise.taken) (priority_of q (status_of m (i.watcher_of o))) lower
             (taken_lower G q valid m (i.watcher_of o) (put flag.0 (suc monitor.number)) raise))
-            (λ resumes. absurd (all.resumed u resumes.0 resumes.1 resumes.2 resumes.3))
+            (λ soon.
+            none_tests u (enabled_view G m u on_u) soon.0 soon.1
+            (subst (λ z. SoonLow G q (priority q raise.taken) z soon.0) (alone o flag.0 flag.1) soon.2))
             (stays.low u (child, (parent ∙ ap (λ h. Some (i.thread_of h)) (sym b.held), ne), under) (enabled_view G m u on_u))
 
         guarding_low : access_of (standing_of now t) ≢ no_access → LowAhead G q (step_priority c rules core_rules p q low valid now m t) (i.thread_of t) m

@@ -48,6 +48,8 @@ use Rattle.reaction_laws.proofs.ChartOrder.{AllAt}
 use Rattle.reaction_laws.proofs.GraphComes.{graph_run, graph_next, graph_leads, all_there, alike_there, quiet_there, own_there}
 use Rattle.reaction_laws.proofs.GreatestPriority.{greatest_priority, all_ahead, all_once_stepped}
 use Rattle.reaction_laws.proofs.MonitorsLow.{lowered, MonitorsQuiet, guards_low}
+use Rattle.reaction_laws.proofs.WithoutTests.{none_further}
+use Rattle.abort_expansion_laws.proofs.LayeredChartRows.{start_rows}
 use Rattle.reaction_laws.proofs.OpenedThreads.{waits_there}
 use Rattle.reaction_laws.proofs.OthersLow.{RanksWithin}
 use Rattle.reaction_laws.proofs.OwnSteps.{touched, touched_climbs, has_own_step}
@@ -88,7 +90,7 @@ module _ (c : Chart) (rules : IsChart features.Extended c) (core_rules : IsChart
       (ranks : RanksWithin c rules core_rules p q low valid now m most least) (r : ℕ) (steps : step k r now ≡ Some next) where
     pub followed : Segment (machine core) corr Told d (Stage k i.thread_of now d) (Stage k i.thread_of next) (act_of (machine k) now r ∷ [])
         (AllReady k core i next)
-    followed = steps_ready c rules core_rules layered now d known.all.related known.all.owns r next steps
+    followed = steps_ready c rules core_rules layered.weakly now d known.all.related known.all.owns r next steps
 
     pub owns_next : OwnTests k next
     owns_next = (own_tests_kept c rules core_rules).steps now next r known.all.owns steps
@@ -166,7 +168,7 @@ module _ (c : Chart) (rules : IsChart features.Extended c) (core_rules : IsChart
           lines = low_next.lines;
           joins = low_next.joins;
           guarded = λ t on guards some.
-              guards_low c rules core_rules p q low valid lowered_tests earlier next followed.last n all_next alike_next quiet_next t on guards some;
+              guards_low c rules core_rules p q low valid lowered_tests earlier next followed.last n all_next alike_next quiet_next t on (λ o x flag. none_further c layered o ((start_rows c rules core_rules layered.weakly).strong_for o x flag)) guards some;
         }
 
   -- ---- as a tick starts
@@ -174,7 +176,7 @@ module _ (c : Chart) (rules : IsChart features.Extended c) (core_rules : IsChart
   module _ (now d : Configuration) (m : Control) (started : Started k core i now d) (owns : OwnTests k now) (alike : Alike (expanded c) p d m)
       (quiet : Quiet d m) where
     pub first : Segment (machine core) corr Told d NoneReached (Stage k i.thread_of now) [] (AllReady k core i now)
-    first = ticks_ready c rules core_rules layered now d started
+    first = ticks_ready c rules core_rules layered.weakly now d started
 
     abbrev pub m_first : Control
     m_first =
@@ -204,5 +206,5 @@ module _ (c : Chart) (rules : IsChart features.Extended c) (core_rules : IsChart
           lines = λ t on out. all_ahead G q (i.thread_of t) m_first;
           joins = λ t on inside. all_once_stepped G q (i.thread_of t) m_first;
           guarded = λ t on guards some.
-              guards_low c rules core_rules p q low valid lowered_tests earlier now first.last m_first all_first alike_first quiet_first t on guards some;
+              guards_low c rules core_rules p q low valid lowered_tests earlier now first.last m_first all_first alike_first quiet_first t on (λ o x flag. none_further c layered o ((start_rows c rules core_rules layered.weakly).strong_for o x flag)) guards some;
         }

@@ -30,6 +30,7 @@ use Rattle.chart_lowering_laws.specs.Stands.{Followed}
 use Rattle.chart_machine_laws.proofs.LyingIn.{IsNested, around, holder, head_in}
 use Rattle.compiled_charts_laws.proofs.LateTests.{is_late}
 use Rattle.abort_expansion_laws.specs.CoreRows.{own, IsState, Images, CoreRows}
+use Rattle.abort_expansion_laws.proofs.ChecksUpTo.{strong_around}
 use Rattle.abort_expansion_laws.proofs.KnownVariables.{stepped, not_so}
 use Rattle.abort_expansion_laws.proofs.QuietBegins.{LoweredTests, Beside}
 use Rattle.abort_expansion_laws.proofs.RowsOfCharts as whole
@@ -106,7 +107,7 @@ module _ (c : Chart) (rules : IsChart features.Extended c) (core_rules : IsChart
   goes_quiet d m n run o g leads others before =
       along G q valid
       (Beside k core i rows tree G q valid (Alike (expanded c) p) (lowered c rules core_rules p q low valid) lowered_tests earlier o) (home o) (join o)
-      (priority q g) (λ u child. child.0) run m n others leads before
+      (priority q g) (strong_around k o) (λ u child. child.0) run m n others leads before
 
   -- a step of the core chart
   pub steps_keep : KeptByFollowing (expanded c) p q low valid Quiet

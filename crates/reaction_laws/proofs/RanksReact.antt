@@ -101,13 +101,13 @@ module _ (c : Chart) (rules : IsChart features.Extended c) (layered : IsLayered 
   unfolding ranked
   tick_has_end inputs ends next accepted takes_next reaction =
       let begun = ranks.begins inputs ends next accepted takes_next reaction in
-      let those : ComesToAnEnd (machine k) (start k next (last_of (initial k) ends)) (most_steps c rules low.core layered image low) =
+      let those : ComesToAnEnd (machine k) (start k next (last_of (initial k) ends)) (most_steps c rules low.core layered.weakly image low) =
       comes_to_an_end (machine k) ranked (start k next (last_of (initial k) ends))
-      (record { left = most_steps c rules low.core layered image low; known = begun.0 })
+      (record { left = most_steps c rules low.core layered.weakly image low; known = begun.0 })
       (record {
         holds = begun.1;
-        reached = tick_reached c rules low.core layered image low inputs ends next accepted takes_next reaction;
-        within = tick_bounded c rules low.core layered image low inputs ends next accepted takes_next reaction;
+        reached = tick_reached c rules low.core layered.weakly image low inputs ends next accepted takes_next reaction;
+        within = tick_bounded c rules low.core layered.weakly image low inputs ends next accepted takes_next reaction;
       }) in
       (those.end, those.ends)
 

@@ -31,7 +31,7 @@ use Rattle.chart_lowering_laws.specs.Laws.{IsLowering}
 use Rattle.compiled_charts_laws.specs.Reactions.{AreSeenAlike, AllAccepted, HasOneReaction}
 use Rattle.compiled_charts_laws.proofs.Ticks.{one_reaction}
 use Rattle.compiled_charts_laws.proofs.Told.{nodes_stand}
-use Rattle.abort_expansion_laws.specs.Layered.{IsLayered}
+use Rattle.abort_expansion_laws.specs.Layered.{IsWeaklyLayered}
 use Rattle.abort_expansion_laws.specs.Preemption.{chart_machine, IsActiveInCore, SeenAlike, HasImage}
 use Rattle.abort_expansion_laws.specs.Ticks.{Reactive, Reaction, AllOf, EachAlike, HasAlike}
 use Rattle.abort_expansion_laws.proofs.StatesMapped.{states_mapped_all}
@@ -151,7 +151,7 @@ module _ (c : Chart) (rules : IsChart features.Extended c) where
   all_kept [] (e ∷ es) [] first shown = absurd shown
   all_kept (d ∷ ds) [] (m ∷ ms) first shown = absurd shown
 
-  module _ (layered : IsLayered c) (image : HasImage c) (low : IsLowering core image.scl) where
+  module _ (layered : IsWeaklyLayered c) (image : HasImage c) (low : IsLowering core image.scl) where
     abbrev G : Program
     G = program_of (numbered image.scl)
 

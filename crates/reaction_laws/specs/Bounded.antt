@@ -7,7 +7,7 @@ use Rattle.core_charts.specs.Chart.{Chart}
 use Rattle.core_charts.specs.Rules.{IsChart}
 use Rattle.abort_expansion.specs.Expansion.{expanded}
 use Rattle.chart_lowering_laws.specs.Laws.{IsLowering}
-use Rattle.abort_expansion_laws.specs.Layered.{IsLayered}
+use Rattle.abort_expansion_laws.specs.Layered.{IsWeaklyLayered}
 use Rattle.abort_expansion_laws.specs.Ticks.{Reactive, Reaction, AllOf}
 use Rattle.abort_expansion_laws.specs.Preemption.{chart_machine, HasImage}
 
@@ -33,8 +33,8 @@ pub record EndsEachTick (r : Reactive) (Accepted : Inputs → Type 0) : Type 0 w
       Reaction r ticks r.initial ends →
       (run : List ℕ) (d : r.machine.Configuration) → replay r.machine run (r.start inputs (last_of r.initial ends)) ≡ Some d → GoesOn r d
 
--- so it is of each layered chart that has a valid image, the program of which is the lowering of its core chart
+-- so it is of each weakly layered chart that has a valid image, the program of which is the lowering of its core chart
 abbrev pub LayeredTicksEnd : Type 0
 LayeredTicksEnd =
-    (c : Chart) → IsChart features.Extended c → IsLayered c → (image : HasImage c) → IsLowering (expanded c) image.scl →
+    (c : Chart) → IsChart features.Extended c → IsWeaklyLayered c → (image : HasImage c) → IsLowering (expanded c) image.scl →
     EndsEachTick (chart_machine c) (AreAccepted image.program)

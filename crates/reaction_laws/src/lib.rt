@@ -9,27 +9,28 @@ ghost use Rattle.reaction_laws.specs.LowLines.{LinesStayLow};
 ghost use Rattle.reaction_laws.specs.Reacts.{LayeredChartsReact};
 ghost use Rattle.reaction_laws.specs.StepNodes.{PrioritiesOrderSteps, StepsComeToNodes};
 
-/// Each tick of a layered chart that has a valid image comes to an end, whatever steps it takes: no run of a tick that
+/// Each tick of a weakly layered chart that has a valid image comes to an end, whatever steps it takes: no run of a tick that
 /// follows a reaction takes more steps than one number says, and each run can be completed. This function does nothing;
 /// its contract is the law.
 pub fn layered_ticks_end()
     ensures { LayeredTicksEnd }
 {}
 
-/// Such a chart has a reaction to whatever inputs its image accepts: a list of ends, one for each tick, and to each of
-/// them an admissible complete run leads. This function does nothing; its contract is the law.
+/// A layered chart that has a valid image has a reaction to whatever inputs that accepts: a list of ends, one for each
+/// tick, and to each of them an admissible complete run leads. This function does nothing; its contract is the law.
 pub fn layered_charts_react()
     ensures { LayeredChartsReact }
 {}
 
-/// All reactions of such a chart to the same accepted inputs end alike: in each tick the variables have the same
-/// values, and the same states are active. This function does nothing; its contract is the law.
+/// All reactions of a weakly layered chart that has a valid image, to the same accepted inputs, end alike: in each tick
+/// the variables have the same values, and the same states are active. This function does nothing; its contract is the
+/// law.
 pub fn layered_reactions_are_alike()
     ensures { LayeredReactionsAreAlike }
 {}
 
-/// Each list of ends of the core chart of such a chart, to inputs that are accepted, has one of the chart that is seen
-/// alike. This function does nothing; its contract is the law.
+/// Each list of ends of the core chart of a layered chart that has a valid image, to inputs that are accepted, has one
+/// of the chart that is seen alike. This function does nothing; its contract is the law.
 pub fn core_charts_do_no_more()
     ensures { CoreChartsDoNoMore }
 {}

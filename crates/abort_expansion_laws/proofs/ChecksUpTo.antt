@@ -1,0 +1,83 @@
+-- Checks of strong flags that lead to the same place, up to that of one flag. So the tests begin of whoever looks at the strong flags around, the
+-- outermost first; the flags further out are at most as many as the superstates there with strong aborts.
+use Rattle.std.proofs.Common.{◌≡◌, ℕ, suc, ◌⊎◌, inl, inr, ⊎_elim, Bool, true, false, Option, Some, None, List, [], ◌∷◌, ◌++◌, Contains, refl, sym, ap, subst}
+use Rattle.std.proofs.Common.{◌∙◌, if◌then◌else◌}
+use Rattle.std.specs.Prelude.{reverse, flat_map}
+use Rattle.std.proofs.lemmas.List.{append_assoc}
+use Rattle.core_charts.specs.declared.region.Transition.{Transition}
+use Rattle.core_charts.specs.Aborts.{has_strong}
+use Rattle.chart_machine.specs.declared.table.Table.{Table}
+use Rattle.abort_expansion.specs.Transitions.{go, is_raised, check}
+use Rattle.chart_machine_laws.proofs.LyingIn.{IsNested, around, holder, none_in, head_or_tail, head_in, tail_in}
+use Rattle.abort_expansion_laws.specs.CoreRows.{own, Images}
+use Rattle.abort_expansion_laws.proofs.Fronts.{reversed}
+
+pub data ChecksUpTo (x place : ℕ) : (many : ℕ) → List Transition → Type 0 where
+  checks_it : (many : ℕ) (b : Bool) (rest : List Transition) → ChecksUpTo x place many (go b (Some (is_raised x)) [] place ∷ rest)
+  checks_other : (many : ℕ) (b : Bool) (y : ℕ) (rest : List Transition) → ChecksUpTo x place many rest →
+      ChecksUpTo x place (suc many) (go b (Some (is_raised y)) [] place ∷ rest)
+
+pub more_checks : (x place many : ℕ) (tests : List Transition) → ChecksUpTo x place many tests → ChecksUpTo x place (suc many) tests
+more_checks x place _ _ (checks_it many b rest) = checks_it (suc many) b rest
+more_checks x place _ _ (checks_other many b y rest others) = checks_other (suc many) b y rest (more_checks x place many rest others)
+
+-- so many, and one for each of these superstates that has strong aborts
+pub strong_from : Table → List ℕ → ℕ → ℕ
+strong_from k [] n = n
+strong_from k (s ∷ zs) n = strong_from k zs (if has_strong (own k s) then suc n else n)
+
+-- where none of them has, so many
+pub strong_none : (k : Table) (zs : List ℕ) (n : ℕ) → ((s : ℕ) → Contains zs s → has_strong (own k s) ≡ false) → strong_from k zs n ≡ n
+unfolding strong_from
+strong_none k [] n none = refl
+strong_none k (s ∷ zs) n none = rw (none s (head_in s zs)) (strong_none k zs n (λ u h. none u (tail_in s u zs h)))
+
+-- how many superstates around one have strong aborts
+abbrev pub strong_around : Table → ℕ → ℕ
+strong_around k o = strong_from k (around k (holder k o)) 0
+
+-- each superstate around has its check, or none
+module _ (k core : Table) (i : Images) (tree : IsNested k) (no_strong : (s : ℕ) → has_strong (own k s) ≡ false → (i.flags_of s).strong ≡ None)
+    (o x place : ℕ) (b : Bool) (f : ℕ → List Transition) (own_one : f o ≡ go b (Some (is_raised x)) [] place ∷ [])
+    (each : (s : ℕ) → (f s ≡ []) ⊎ (f s ≡ check b place (i.flags_of s).strong)) where
+  abbrev Up : ℕ → List Transition → Type 0
+  Up n tests = ChecksUpTo x place n tests
+
+  one_outer : (s n : ℕ) (rest : List Transition) → Up n rest → Up (if has_strong (own k s) then suc n else n) ((f s ++ []) ++ rest)
+  one_outer s n rest leads = by (has_strong (own k s)) refl (each s)
+    where
+      by_flag : (z : Option ℕ) → Up (suc n) ((check b place z ++ []) ++ rest)
+      by_flag None = more_checks x place n rest leads
+      by_flag (Some y) = checks_other n b y rest leads
+
+      by : (h : Bool) → has_strong (own k s) ≡ h → (f s ≡ []) ⊎ (f s ≡ check b place (i.flags_of s).strong) →
+          Up (if h then suc n else n) ((f s ++ []) ++ rest)
+      by true e (inl none) = subst (λ zs. Up (suc n) ((zs ++ []) ++ rest)) (sym none) (more_checks x place n rest leads)
+      by true e (inr checks) = subst (λ zs. Up (suc n) ((zs ++ []) ++ rest)) (sym checks) (by_flag (i.flags_of s).strong)
+      by false e (inl none) = subst (λ zs. Up n ((zs ++ []) ++ rest)) (sym none) leads
+      by false e (inr checks) = subst (λ zs. Up n ((zs ++ []) ++ rest)) (sym (checks ∙ ap (check b place) (no_strong s e))) leads
+
+  apart : (n s : ℕ) (zs : List ℕ) (rest : List Transition) → Up n (flat_map f (reverse zs) ++ ((f s ++ []) ++ rest)) →
+      Up n (flat_map f (reverse (s ∷ zs)) ++ rest)
+  apart n s zs rest leads =
+      subst (Up n) (sym (ap (λ ys. ys ++ rest) (reversed f s zs) ∙ append_assoc (flat_map f (reverse zs)) (f s ++ []) rest)) leads
+
+  all_outer : (zs : List ℕ) (n : ℕ) (rest : List Transition) → Up n rest → Up (strong_from k zs n) (flat_map f (reverse zs) ++ rest)
+  unfolding strong_from
+  all_outer [] n rest leads = leads
+  all_outer (s ∷ zs) n rest leads =
+      apart (strong_from k (s ∷ zs) n) s zs rest
+      (all_outer zs (if has_strong (own k s) then suc n else n) ((f s ++ []) ++ rest) (one_outer s n rest leads))
+
+  pub up_to_own : (zs : List ℕ) (p : ℕ) → around k p ≡ zs → Contains zs o → (rest : List Transition) →
+      ChecksUpTo x place (strong_around k o) (flat_map f (reverse zs) ++ rest)
+  up_to_own [] p e h rest = absurd (none_in o h)
+  up_to_own (s ∷ zs) p e h rest =
+      ⊎_elim
+      (λ is.
+      let up : zs ≡ around k (holder k o) = tree.upward p s zs e ∙ ap (λ v. around k (holder k v)) is in
+      apart (strong_around k o) s zs rest
+      (subst (λ ys. Up (strong_from k ys 0) (flat_map f (reverse zs) ++ ((f s ++ []) ++ rest))) up
+      (all_outer zs 0 ((f s ++ []) ++ rest) (subst (λ ys. Up 0 ((ys ++ []) ++ rest)) (sym (ap f is ∙ own_one)) (checks_it 0 b rest)))))
+      (λ tail. apart (strong_around k o) s zs rest (up_to_own zs (holder k s) (sym (tree.upward p s zs e)) tail ((f s ++ []) ++ rest)))
+      (head_or_tail s o zs h)
