@@ -9,7 +9,7 @@ use Rattle.chart_machine.specs.declared.table.Table.{Table}
 use Rattle.chart_machine.specs.Table.{table}
 use Rattle.chart_machine.specs.Machine as chart
 use Rattle.abort_expansion.specs.Expansion.{expanded}
-use Rattle.abort_expansion_laws.specs.Layered.{IsLayered}
+use Rattle.abort_expansion_laws.specs.Layered.{IsLayered, IsWeaklyLayered}
 use Rattle.chart_lowering_laws.specs.Keeps.{Reaction, EachPair}
 use Rattle.node_states.specs.Active.{active_states, numbers_where}
 use Rattle.node_states.specs.Nodes.{state_of_node}
@@ -28,15 +28,21 @@ pub record AreSeenAlike (c : Chart) (nodes : List (Option ℕ)) (states : ℕ) (
   pub variables : take (length c.variables) control.variables ≡ d.variables
   pub active : active_states nodes states control ≡ active (table c) d
 
--- the chart has a reaction to these ticks, and each one is seen alike in these configurations, tick for tick
+-- each reaction of the chart to these ticks is seen alike in these configurations, tick for tick
+abbrev pub IsEachSeen : Chart → (nodes : List (Option ℕ)) (states : ℕ) → List Inputs → List Control → Type 0
+IsEachSeen c nodes states ticks controls = (ends : List Configuration) → Reacts c ticks ends → EachPair (AreSeenAlike c nodes states) ends controls
+
+-- and it has one
 pub record IsReactionSeen (c : Chart) (nodes : List (Option ℕ)) (states : ℕ) (ticks : List Inputs) (controls : List Control) : Type 0 where
-  pub each : (ends : List Configuration) → Reacts c ticks ends → EachPair (AreSeenAlike c nodes states) ends controls
+  pub each : IsEachSeen c nodes states ticks controls
   pub some : (ends : List Configuration) × Reacts c ticks ends
 
--- the core chart's reaction is seen in these configurations, and so is that of the chart, where it has no aborts or is layered
+-- the core chart's reaction is seen in these configurations, and so is that of the chart, where it has no aborts or is layered; where it is weakly
+-- layered, each reaction that it has
 pub record ShowsReaction (c : Chart) (x : CompiledChart) (ticks : List Inputs) (controls : List Control) : Type 0 where
   pub core : IsReactionSeen (expanded c) (state_of_node (expanded c)) (length (table (expanded c)).states) ticks controls
   pub without_aborts : chart_has_aborts c ≡ false → IsReactionSeen c x.nodes x.states ticks controls
+  pub weakly_layered : IsWeaklyLayered c → IsEachSeen c x.nodes x.states ticks controls
   pub layered : IsLayered c → IsReactionSeen c x.nodes x.states ticks controls
 
 -- of whichever chart this was compiled

@@ -11,7 +11,7 @@ mod read;
 mod regions;
 mod rows;
 mod sorts;
-mod states;
+mod targets;
 mod transitions;
 mod values;
 

@@ -13,9 +13,9 @@ ghost use Rattle.extended_reader.specs.Resolved.{all_states, behind_states};
 
 use crate::actions::{actions_of, durings_of};
 use crate::rows::RowsLeft;
-use crate::states::StateScope;
 use crate::transitions::transitions;
 use chart_drafts::{DraftRegion, DraftState};
+use chart_reader::StateScope;
 use drafts::Scope;
 use extended_charts::{ExtendedRegion, ExtendedState};
 use sqlite_items::Items;

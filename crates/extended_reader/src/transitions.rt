@@ -11,9 +11,9 @@ ghost use Rattle.extended_reader.specs.Resolved.{all_transitions, behind_transit
 
 use crate::counts::{at_least, counted};
 use crate::rows::RowsLeft;
-use crate::states::StateScope;
+use crate::targets::target;
 use chart_drafts::DraftTransition;
-use chart_reader::{effects, trigger};
+use chart_reader::{StateScope, effects, trigger};
 use core_charts::Transition;
 use drafts::{Scope, TextExpression};
 use extended_charts::ELAPSED;
@@ -63,7 +63,7 @@ fn transition(
         immediate: text.immediate,
         trigger: trigger_of(alloc, scope, number, delay, &text.trigger)?,
         effects: effects(alloc, scope, text.effects.as_slice())?,
-        target: states.target(by_history, text.target.name),
+        target: target(states, by_history, text.target.name),
     })
 }
 
