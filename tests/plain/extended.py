@@ -11,7 +11,7 @@ from chart_reader import ChartGrammar, ChartRules, Draft
 from charts import Chart, Region, State, Transition, states_of
 from machine import value
 from programs import Variable, loads, text_of_expression
-from reader import END, NAME, NESTED, Fault, is_utf8, tell_first, tree_of
+from reader import END, NAME, NESTED, Fault, is_utf8, tell_first, tokens, tree_of
 
 ROLES = ("input", "output", "local")
 # what a word among the variables has to be, and one among the actions
@@ -47,6 +47,9 @@ def emission(x):
 
 class ExtendedGrammar(ChartGrammar):
     """Reads the tokens into the word before `chart`, a name, items and regions, in which names are not yet resolved."""
+
+    def __init__(self, text):
+        self.tokens, self.at = tokens(text, is_chart=True, is_extended=True), 0
 
     def extended(self):
         _, word, place = self.take(NAME)

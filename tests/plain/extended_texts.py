@@ -24,8 +24,14 @@ TEXTS = {
         HEAD + "region R { initial state s { go -> t__; } state ^t__; } }",
         "extended chart ^_p { }", "extended chart P { const int ^_N = 1; }", "^$", "extended ^! chart", "extended chart P ^01",
         "konst chart P { region ^_r { } }",
+        # a comment that is not closed
+        "^/*", "/* */^/*/", "extended chart ^/* P { " + REGION + "}", HEAD + REGION + "} ^/* } // * /", HEAD + REGION + "} /* */ ^/*** $",
+        HEAD + "region R { initial state s { go do x = x ^/* 2 -> s; } } }", "extended /* $ */ chart P { ^$ /* } ", "/* \u00e9 */ extended chart P { /* \n */ output int ^a__b; " + REGION + "}",
     ],
     "E02": [
+        "/* */ ^konst chart P { " + REGION + "}", "/* extended */ ^chart P { " + REGION + "}", "extended /**/ chart P { /* \n\u00e9 */ ^/ " + REGION + "}",
+        "extended chart P { " + REGION + "} /* /* */ ^*/", "ext/**/^ended chart P { " + REGION + "}", HEAD + REGION + "} // */\n ^*/", HEAD + REGION + "/* } */^",
+        HEAD + "region R { initial state s { go do x +/* */^= 1 -> s; } } }", HEAD + "region R { initial state s -/**/^> s; } }".replace("s -/**/^>", "s ^-/**/>"),
         "^konst chart P { region R { initial state s; } }", "^chart P { region R { initial state s; } }", "^", "extended^",
         "extended ^extended chart P { }", "extended chart P { ^}", "extended ^scl P { }", "^scl P { }", "extended chart ^chart { }",
         "^extended1 chart P { region R { initial state s; } }",
@@ -111,7 +117,8 @@ TEXTS = {
         "emit emit, emit signal; exit do emit signal; go if emit and was do emit emit1 -> s; } } }",
         "extended chart emit { local bool emit; local int signal; region signal { initial state emit { go do emit = emit or true, "
         "signal = 1 -> emit; } } }",
-        HEAD + REGION + "}", "extended chart extended { output int const; local bool entry; region after { initial state exit; } }",
+        HEAD + REGION + "}", "/* a chart\n// \u00e9 */extended/**/chart/***/P/*/ /*/{ /* \" */ " + REGION + "}/**/// /*", "// /*\nextended chart P { " + REGION + "} /* */ // */",
+        HEAD + "region R { initial state s { go do x = 6 /**// 2 /* // */, x/**/-=/**/1 -> s; } } }", "extended chart extended { output int const; local bool entry; region after { initial state exit; } }",
         "extended chart P { const int const = 3; output int pre = -3; pre int after = pre; region R { initial state s { "
         "go after const + after if pre < const -> s; } } }",
         "extended chart of { output bool of; const int after = 2; region of { initial state of { go after after of of -> of; } } }",
@@ -215,7 +222,7 @@ def all_rows():
         for fault, texts in rows.items():
             yield from (wanted_of(fault, whole(text)) for text in texts)
     yield from (wanted_of(fault, text) for fault, text in limits())
-    for data in (b"extended chart P { } // \xff", b"\xffextended chart P { }", b"extended chart P { region R { initial state s; } } // \xc3"):
+    for data in (b"extended chart P { } // \xff", b"extended chart P { /* \xff */ region R { initial state s; } }", b"\xffextended chart P { }", b"extended chart P { region R { initial state s; } } // \xc3"):
         yield data, "E01 at 0"
 
 
@@ -321,13 +328,14 @@ def by_inputs(chart):
 
 
 WORDS = CHART_WORDS + ("extended chart const pre entry exit during immediate if after signal emit do = + - * ; N M T sig seen was_x const int pre bool signal s; entry do "
-                       "emit sig a__b x__ after 3 of A after of -> shallow history").split()
+                       "emit sig a__b x__ after 3 of A after of -> shallow history /* */ /**/ /*x*/").split()
+BLOCKS = ["/**/", "/* \u00e9 $ */", "/*\n// \n*/", "/*/ ** /*/"]
 
 
 def damaged_texts(seed, r):
     """A random chart in another layout, and texts with something changed in it: words, or names, roles and kinds."""
     text = text_of_extended(random_extended(seed, r.choice([2, 4, 8])))
-    yield laid_out(text, r).encode()
+    yield laid_out(text, r, BLOCKS).encode()
     for _ in range(4):
         yield changed(text, r, WORDS).encode()
         yield with_flaws(text.encode(), r)

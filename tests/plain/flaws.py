@@ -11,7 +11,7 @@ ROLES, KINDS = ["input", "output", "local"], ["bool", "int"]
 
 def begins_extended(text):
     """Whether the first token is the word `extended`."""
-    return re.match(rb"(\s|//[^\n]*(\n|$))*extended(?![A-Za-z0-9_])", text) is not None
+    return re.match(rb"(\s|//[^\n]*(\n|$)|/\*(?s:(?!\*/).)*\*/)*extended(?![A-Za-z0-9_])", text) is not None
 
 
 def all_flaws(text):
@@ -57,12 +57,12 @@ def check_told(product, text):
 def with_flaws(text, source):
     """The text with some of its names changed to others, known and unknown, and with the roles and the kinds of some variables
     changed. The grammar has it as before."""
-    is_chart = begins_a_chart(text)
-    words = [(kind, str(value)) for kind, value, _ in tokens(text, is_chart)[:-1]]
+    is_chart, is_extended = begins_a_chart(text), begins_extended(text)
+    words = [(kind, str(value)) for kind, value, _ in tokens(text, is_chart, is_extended)[:-1]]
     names = sorted({word for kind, word in words if kind == NAME}) + ["unknown", "lost"]
     share, made = source.choice([0.02, 0.1, 0.4]), []
     for kind, word in words:
         others = names if kind == NAME else ROLES if word in ROLES else KINDS if word in KINDS else [word]
         made.append(source.choice(others) if source.random() < share else word)
-        made.append(source.choice([" ", " ", " ", "\n", " // \u00e9\n"]))
+        made.append(source.choice([" ", " ", " ", "\n", " // \u00e9\n", *([" /* \u00e9\n*/", "/**/"] if is_extended else [])]))
     return "".join(made).encode()

@@ -16,6 +16,8 @@ sys.setrecursionlimit(20000)
 RESERVED = set("chart scl input output local bool int region initial final state go strong weak join immediate if else "
                "do goto fork par pause true false not and or min max".split())
 PIECES = re.compile(rb"[ \t\r\n]+|//[^\n]*|[A-Za-z_][A-Za-z0-9_]*|[0-9]+|==|!=|<=|>=|->|[{}();:,=<>+\-*/%]")
+# in extended charts a piece may be a comment that lies between two marks
+BLOCK_PIECES = re.compile(rb"/\*(?s:.*?)\*/|(?!/\*)(?:" + PIECES.pattern + rb")")
 NAME, NUMBER, END = "name", "number", "end"
 
 VARIABLES, OUTPUTS, BRANCHES, NESTED, OPEN = 256, 64, 64, 32, 64
@@ -45,7 +47,7 @@ class Program:
 @functools.lru_cache(maxsize=4096)
 def token(word, is_chart):
     """What a piece is: the number of a fault, None for what stands between tokens, or a token's kind and value."""
-    if word.isspace() or word.startswith(b"//"):
+    if word.isspace() or word.startswith((b"//", b"/*")):
         return None
     if word.isdigit():
         if word[:1] == b"0" and len(word) > 1:
@@ -59,12 +61,12 @@ def token(word, is_chart):
     return 7 if len(name) > 64 else (NAME, name)
 
 
-def tokens(text, is_chart=False):
+def tokens(text, is_chart=False, is_extended=False):
     """The tokens as (kind, value, place): kind is NAME, NUMBER, or the word or sign itself. The last one is END. In a
     chart no name begins with `_`."""
     found, at = [], 0
     while at < len(text):
-        piece = PIECES.match(text, at)
+        piece = (BLOCK_PIECES if is_extended else PIECES).match(text, at)
         if not piece:
             raise Fault(1, at)
         known = token(piece.group(), is_chart)

@@ -218,14 +218,14 @@ class Writer:
         return laid_out(self.printed(), self.random)
 
 
-def laid_out(text, r):
-    """A text with other white space and comments."""
+def laid_out(text, r, more=()):
+    """A text with other white space and comments, and with more that stands for white space."""
     made, behind = [], ""
     for _, value, _ in tokens(text.encode())[:-1]:
         word = str(value)
         joins = behind and (behind[-1].isalnum() or behind[-1] == "_") and (word[0].isalnum() or word[0] == "_")
         joins = joins or (behind + word)[:2] in ("==", "!=", "<=", ">=", "->", "//")
-        blanks = [" ", "  ", "\n", "\t", "\r\n", " // \u00e9 $\n"] + (["// c\n"] if behind != "/" else [])
+        blanks = [" ", "  ", "\n", "\t", "\r\n", " // \u00e9 $\n", *more] + (["// c\n"] if behind != "/" else [])
         made.append(r.choice(blanks) if joins or r.random() < 0.3 else "")
         made.append(word)
         behind = word

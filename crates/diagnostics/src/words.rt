@@ -1,7 +1,7 @@
 //! The faults of readers in words.
 
 use crate::extended_rules::{extended_kind_words, made_name_words};
-use crate::found::found;
+use crate::found::{found, stands_at};
 use crate::fronts::front_of;
 use crate::grammar_words::grammar_words;
 use crate::limit_words::limit_words;
@@ -9,6 +9,7 @@ use crate::lines::name_at;
 use crate::rule_words::{repeated_words, rule_words};
 use crate::spellings::for_sign;
 use crate::unknown_words::unknown_words;
+use block_comments::without_comments;
 use sc_text::FaultKind;
 use std::alloc::{AllocError, Global};
 use text_continuations::Grammar;
@@ -67,10 +68,17 @@ fn made_words(alloc: Global, text: &str, at: usize) -> Result<Option<Words>, All
     made_name_words(alloc, name.as_str())
 }
 
-// The words for a place where no token stands.
+// The words for a place where no token stands. A block comment stands there only if it is not closed.
 fn token_words(alloc: Global, text: &str, at: usize) -> Result<Words, AllocError> {
     if let Some(words) = made_words(alloc, text, at)? {
         return Ok(words);
+    }
+    if stands_at(text, at, "/*") {
+        return Words::of(
+            alloc,
+            "the comment that begins here is not closed",
+            "write `*/` where it ends",
+        );
     }
     let cause = token_cause(alloc, text, at)?;
     let cure = String::from_str(alloc, token_cure(text, at))?;
@@ -98,8 +106,9 @@ fn kind_words(alloc: Global, text: &str, at: usize) -> Result<Words, AllocError>
     }
 }
 
-/// The fault of a text at a byte in words. Err: memory was refused.
-pub(crate) fn words_of(
+// The fault of a text at a byte in words, by what stands before and at that byte. What stands there is no block comment
+// that the tokens of the text leave out, but for one that is not closed.
+fn plain_words(
     alloc: Global,
     text: &str,
     broken: FaultKind,
@@ -114,4 +123,18 @@ pub(crate) fn words_of(
         FaultKind::Rule => rule_words(alloc, text, at),
         FaultKind::Limit => limit_words(alloc, text, at),
     }
+}
+
+/// The fault of a text at a byte in words. Err: memory was refused.
+pub(crate) fn words_of(
+    alloc: Global,
+    text: &str,
+    broken: FaultKind,
+    at: usize,
+) -> Result<Words, AllocError> {
+    if broken == FaultKind::Token || Grammar::of(text) != Grammar::ExtendedChart {
+        return plain_words(alloc, text, broken, at);
+    }
+    let plain = without_comments(alloc, text)?;
+    plain_words(alloc, plain.as_str(), broken, at)
 }

@@ -3,6 +3,7 @@ use Rattle.std.proofs.Common.{◌≡◌, ℕ, List, [], ◌∷◌, length, inl, 
 use Rattle.grammar.specs.Read.{Wrong, Got, Failed, next, ended, read, read_all}
 use Rattle.grammar.specs.Fault.{Told}
 use Rattle.grammar.proofs.Told.{told}
+use Rattle.block_comments.specs.Comments.{without_comments}
 use Rattle.sc_text.specs.declared.language.Language.TheVariants as language
 use Rattle.sc_text.specs.declared.token.Token.{Token}
 use Rattle.sc_text.specs.declared.read_fault.ReadFault.{ReadFault}
@@ -40,11 +41,11 @@ module _ (tokens : List Token) where
 -- ---- the text of the tokens
 
 module _ (text : List ℕ) where
-  pub scanned : (f : ReadFault) → IsScanFault language.Chart text f → IsDraftFault text f
+  pub scanned : (f : ReadFault) → IsScanFault language.Chart (without_comments text) f → IsDraftFault text f
   scanned (fault.Text b at) s = inl s
   scanned fault.Memory s = tt
 
-  module _ (tokens : List Token) (cut : AreTokens language.Chart 0 text tokens) where
+  module _ (tokens : List Token) (cut : AreTokens language.Chart 0 (without_comments text) tokens) where
     pub drafted : (d : ExtendedDraft) → Gives (read_all (extended_text 0) tokens) d [] → IsExtendedDraft text d
     drafted d r =
         record { tokens = tokens; cut = cut; spelled = (subst (Told extended_text tokens) r.is (told extended_text is_language tokens)).1 }

@@ -1,8 +1,9 @@
--- What a text is read into: the draft of the extended chart that it spells, or its first fault.
+-- What a text is read into: the draft of the extended chart that it spells, or its first fault. It is read without its block comments.
 use Rattle.std.specs.Prelude.{ℕ, ◌≡◌, ◌⊎◌, List, length}
 use Rattle.grammar.specs.Grammar.{spells}
 use Rattle.grammar.specs.Read.{Flaw}
 use Rattle.grammar.specs.Fault.{Fault}
+use Rattle.block_comments.specs.Comments.{without_comments}
 use Rattle.sc_text.specs.declared.language.Language.TheVariants as language
 use Rattle.sc_text.specs.declared.token.Token.{Token}
 use Rattle.sc_text.specs.declared.read_fault.FaultKind.{FaultKind}
@@ -16,13 +17,13 @@ use Rattle.extended_drafts.specs.ExtendedText.{extended_text}
 -- the text spells an extended chart, and this is its draft. Its tokens are those of charts
 pub record IsExtendedDraft (text : List ℕ) (draft : ExtendedDraft) : Type 0 where
   pub tokens : List Token
-  pub cut : AreTokens language.Chart 0 text tokens
+  pub cut : AreTokens language.Chart 0 (without_comments text) tokens
   pub spelled : spells (extended_text 0) tokens draft
 
 -- the text is cut into tokens, which spell no extended chart: at this place they can't go on
 pub record IsGrammarFault (text : List ℕ) (b : FaultKind) (at : ℕ) : Type 0 where
   pub tokens : List Token
-  pub cut : AreTokens language.Chart 0 text tokens
+  pub cut : AreTokens language.Chart 0 (without_comments text) tokens
   pub flaw : Flaw
   pub rest : List Token
   pub faulty : Fault extended_text tokens flaw rest
@@ -32,5 +33,5 @@ pub record IsGrammarFault (text : List ℕ) (b : FaultKind) (at : ℕ) : Type 0 
 -- the text has no draft: it has a first place where no token stands, or its tokens can't go on. That memory was refused
 -- says nothing of it
 abbrev pub IsDraftFault : List ℕ → ReadFault → Type 0
-IsDraftFault text (fault.Text b at) = IsFirstFault language.Chart 0 text b at ⊎ IsGrammarFault text b at
+IsDraftFault text (fault.Text b at) = IsFirstFault language.Chart 0 (without_comments text) b at ⊎ IsGrammarFault text b at
 IsDraftFault text fault.Memory = Unit {0}

@@ -3,6 +3,9 @@
 ghost use Rattle.std.specs.Prelude.{◌≡◌, [], IfOk, IfErr, MatchResult};
 ghost use Rattle.grammar.specs.Grammar.{seq};
 ghost use Rattle.grammar.specs.Read.{read, read_all};
+ghost use Rattle.block_comments.specs.Comments.{without_comments};
+ghost use Rattle.sc_text.specs.declared.language.Language.TheVariants as language;
+ghost use Rattle.sc_text.specs.Tokens.{AreTokens, IsScanFault};
 ghost use Rattle.sc_text.specs.Expression.{after, expression};
 ghost use Rattle.sc_text.specs.Reading.{Stops};
 ghost use Rattle.core_charts.specs.Rules.{inner_depth_limit};
@@ -15,6 +18,7 @@ ghost use Rattle.extended_drafts.specs.Reading.{IsExtendedDraft, IsDraftFault};
 use crate::draft::{DraftItem, DraftRows, ExtendedDraft};
 use crate::items::{declarations, items};
 use crate::regions::regions;
+use block_comments::without_comments;
 use chart_drafts::text_parts::{Ahead, name, skip_sign, title};
 use chart_drafts::{DraftChart, DraftRegion};
 use drafts::Named;
@@ -26,17 +30,27 @@ use std::alloc::{AllocError, Global};
 /// The levels of regions that may stand inside a region of the chart.
 pub(crate) const INNER_LEVELS: u8 = 31;
 
-/// The draft of a text of an extended chart: what its tokens spell by the grammar. Err: the first place where no token
-/// of charts stands; else the first token that can't go on, or with which only extended charts go on that are nested
-/// too deep, or the end of the text, where none may end; or memory was refused.
+/// The draft of a text of an extended chart: what its tokens spell by the grammar, its block comments left out. Err:
+/// the first place where no token of charts and no comment stands; else the first token that can't go on, or with
+/// which only extended charts go on that are nested too deep, or the end of the text, where none may end; or memory
+/// was refused.
 #[tactic(auto, using(crate::proofs::Drafting::scanned, crate::proofs::Drafting::drafted, crate::proofs::Drafting::stopped))]
 pub fn read_extended_draft(alloc: Global, text: &str) -> Result<ExtendedDraft, ReadFault>
     ensures ok { IfOk result (λ draft. IsExtendedDraft text.now draft) }
     ensures fault { IfErr result (λ fault. IsDraftFault text.now fault) }
 {
-    let tokens = tokens(alloc, Language::Chart, text)?;
+    let tokens = tokens_of(alloc, text)?;
     let draft = whole(alloc, tokens.as_slice(), text.len())?;
     Ok(draft)
+}
+
+// The tokens of a text without its block comments.
+fn tokens_of(alloc: Global, text: &str) -> Result<Items<Token>, ReadFault>
+    ensures ok { IfOk result (AreTokens language.Chart 0 (without_comments text.now)) }
+    ensures fault { IfErr result (IsScanFault language.Chart (without_comments text.now)) }
+{
+    let plain = without_comments(alloc, text)?;
+    tokens(alloc, Language::Chart, plain.as_str())
 }
 
 // An extended chart that ends where the tokens do.

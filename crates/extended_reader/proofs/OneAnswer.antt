@@ -1,5 +1,6 @@
 -- A text has one answer: one draft, or one fault, and not both.
 use Rattle.std.proofs.Common.{◌≡◌, ℕ, List, [], length, sym, ◌∙◌, ap, subst, inl, inr}
+use Rattle.block_comments.specs.Comments.{without_comments}
 use Rattle.sc_text.specs.declared.language.Language.TheVariants as language
 use Rattle.sc_text.specs.declared.read_fault.FaultKind.{FaultKind}
 use Rattle.sc_text.specs.declared.read_fault.ReadFault.TheVariants as fault
@@ -16,19 +17,22 @@ use Rattle.extended_drafts.specs.Checked.{IsTextFault}
 use Rattle.extended_drafts.proofs.Deepens.{is_language}
 
 pub one_draft : (text : List ℕ) (d e : ExtendedDraft) → IsExtendedDraft text d → IsExtendedDraft text e → d ≡ e
-one_draft text d e a b = one_phrase language.Chart extended_text is_language text a.tokens b.tokens a.cut b.cut d e a.spelled b.spelled
+one_draft text d e a b = one_phrase language.Chart extended_text is_language (without_comments text) a.tokens b.tokens a.cut b.cut d e a.spelled b.spelled
 
 no_draft_fault : (text : List ℕ) (d : ExtendedDraft) (b : FaultKind) (at : ℕ) → IsExtendedDraft text d → ¬ IsDraftFault text (fault.Text b at)
-no_draft_fault text d b at a (inl f) = cut.no_fault language.Chart text a.tokens b at a.cut f
-no_draft_fault text d b at a (inr f) = no_stop language.Chart extended_text is_language text a.tokens f.tokens a.cut f.cut d f.flaw f.rest a.spelled f.faulty
+no_draft_fault text d b at a (inl f) = cut.no_fault language.Chart (without_comments text) a.tokens b at a.cut f
+no_draft_fault text d b at a (inr f) =
+    no_stop language.Chart extended_text is_language (without_comments text) a.tokens f.tokens a.cut f.cut d f.flaw f.rest a.spelled f.faulty
 
 one_draft_fault : (text : List ℕ) (b c : FaultKind) (at place : ℕ) → IsDraftFault text (fault.Text b at) → IsDraftFault text (fault.Text c place)
     → (b ≡ c) × (at ≡ place)
-one_draft_fault text b c at place (inl f) (inl h) = cut.one_fault language.Chart text b c at place f h
-one_draft_fault text b c at place (inl f) (inr h) = absurd (cut.no_fault language.Chart text h.tokens b at h.cut f)
-one_draft_fault text b c at place (inr f) (inl h) = absurd (cut.no_fault language.Chart text f.tokens c place f.cut h)
+one_draft_fault text b c at place (inl f) (inl h) = cut.one_fault language.Chart (without_comments text) b c at place f h
+one_draft_fault text b c at place (inl f) (inr h) = absurd (cut.no_fault language.Chart (without_comments text) h.tokens b at h.cut f)
+one_draft_fault text b c at place (inr f) (inl h) = absurd (cut.no_fault language.Chart (without_comments text) f.tokens c place f.cut h)
 one_draft_fault text b c at place (inr f) (inr h) =
-    let s = one_stop language.Chart extended_text is_language text f.tokens h.tokens f.cut h.cut f.flaw h.flaw f.rest h.rest f.faulty h.faulty in
+    let s =
+    one_stop language.Chart extended_text is_language (without_comments text) f.tokens h.tokens f.cut h.cut f.flaw h.flaw f.rest h.rest f.faulty h.faulty
+    in
     (f.breaks ∙ ap broken_by s.flaws ∙ sym h.breaks, f.place ∙ ap (place_of (length text)) s.rests ∙ sym h.place)
 
 pub no_fault : (text : List ℕ) (d : ExtendedDraft) (b : FaultKind) (at : ℕ) → IsExtendedDraft text d → extended_flaws d ≡ []

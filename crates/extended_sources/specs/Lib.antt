@@ -1,2 +1,3 @@
 pub mod FirstWord
 pub mod Sources
+pub mod Inside

@@ -1,1 +1,1 @@
-setlocal comments=:// commentstring=//\ %s shiftwidth=2 expandtab
+setlocal comments=s1:/*,mb:*,ex:*/,:// commentstring=//\ %s shiftwidth=2 expandtab

@@ -13,6 +13,9 @@ syntax match extendedStatement "\<during\ze\s\+\(do\|if\)\>"
 syntax match extendedStatement "\(\<\(go\|strong\|weak\)\s\+\)\@<=after\>"
 syntax match extendedStatement "\(\<\(go\|strong\|weak\)\s\+after\>[^;]\{-}[A-Za-z0-9_)]\s\+\)\@<=of\>\ze\s*\(\(and\|or\|if\|do\)\>\)\@![A-Za-z0-9(]"
 syntax match extendedStatement "\(->\s*\)\@<=shallow\s\+history\ze\s\+[A-Za-z]"
+syntax region extendedComment start="/\*" end="\*/"
+syntax sync fromstart
 highlight default link extendedStorage StorageClass
+highlight default link extendedComment Comment
 highlight default link extendedStatement Statement
 let b:current_syntax = "extended"

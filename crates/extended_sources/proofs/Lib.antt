@@ -1,0 +1,2 @@
+mod Clearing
+mod Begins
