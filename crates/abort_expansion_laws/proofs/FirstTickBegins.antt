@@ -34,7 +34,8 @@ use Rattle.abort_expansion_laws.proofs.FirstTick.{first_present}
 use Rattle.abort_expansion_laws.proofs.FirstTickWaits.{first_sound, first_pending}
 use Rattle.abort_expansion_laws.proofs.StillBegun.{HasBegun}
 
-module _ (c : Chart) (rules : IsChart features.Extended c) (core_rules : IsChart features.Core (expanded c)) (layered : IsWeaklyLayered c) (inputs : Inputs) where
+module _ (c : Chart) (rules : IsChart features.Extended c) (core_rules : IsChart features.Core (expanded c)) (layered : IsWeaklyLayered c)
+    (inputs : Inputs) where
   abbrev k : Table
   k = table c
 

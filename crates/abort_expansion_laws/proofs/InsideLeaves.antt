@@ -28,7 +28,8 @@ use Rattle.abort_expansion_laws.proofs.KnownVariables.{present_there, in_either}
 use Rattle.abort_expansion_laws.specs.CoreRows.{own, IsState, IsSimple, IsSuper, joins, Images, CoreRows, SplitImage, flags_around, watchers}
 use Rattle.abort_expansion_laws.specs.CoreRows.{behind_transitions}
 use Rattle.abort_expansion_laws.specs.Related.{is_behind, Stands}
-use Rattle.abort_expansion_laws.specs.Related.{outside, ended, left, trying, acting, entering, guarding, staying, within, behind, IsInside, guarded, open_inside}
+use Rattle.abort_expansion_laws.specs.Related.{outside, ended, left, trying, acting, entering}
+use Rattle.abort_expansion_laws.specs.Related.{guarding, staying, within, behind, IsInside, guarded, open_inside}
 use Rattle.abort_expansion_laws.specs.Related.{Related, Watches, waits, looks_strong, looks, elsewhere}
 use Rattle.abort_expansion_laws.specs.Related.{guards as watch_guards}
 use Rattle.abort_expansion_laws.proofs.MayLeave.{LeavesBy, MayLeave, over, forks}
@@ -136,7 +137,8 @@ module _ (k core : Table) (i : Images) (rows : CoreRows k core i) (more : Layere
   state_there s super = ⊎_elim (λ lt. lt) (λ past. absurd (super (no_regions_past k s past))) (within_or_past s (length k.states))
 
   -- a superstate inside: its fork ends, and its continuation leaves
-  pub fork_leaves : (q s join : ℕ) → Contains (around k q) o → IsInside k core i s (standing_of c q) → IsSuper k s → holder k s ≡ q → stays (flags_around k core i q) (own k s) ≡ false → is_behind k core i c s ≡ false →
+  pub fork_leaves : (q s join : ℕ) → Contains (around k q) o → IsInside k core i s (standing_of c q) → IsSuper k s → holder k s ≡ q →
+      stays (flags_around k core i q) (own k s) ≡ false → is_behind k core i c s ≡ false →
       state_in core (i.thread_of q) join ≡ i.behind_of s →
       LeavesBy core corr home stage (i.main_of o) first (i.thread_of q) (at_once (behind_transitions k core i q s)) →
       MayLeave core corr home stage (i.main_of o) first (i.thread_of q) (at.Within (i.main_of s) (joins join ∷ []))

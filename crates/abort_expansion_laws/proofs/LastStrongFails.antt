@@ -17,7 +17,8 @@ use Rattle.abort_expansion.specs.Superstates.{stays}
 use Rattle.chart_machine_laws.specs.Tree.{IsNested, IsThere, around, holder}
 use Rattle.tick_laws.proofs.Lists.{same_or_not, contained}
 use Rattle.abort_expansion_laws.specs.CoreRows.{own, IsState, IsSuper, Images, CoreRows, flags_around}
-use Rattle.abort_expansion_laws.specs.Related.{monitor_last, LooksFirst, front, is_behind, Stands, within, Watches, waits, looks_strong, looks, elsewhere, raises}
+use Rattle.abort_expansion_laws.specs.Related.{monitor_last, LooksFirst, front, is_behind, Stands, within}
+use Rattle.abort_expansion_laws.specs.Related.{Watches, waits, looks_strong, looks, elsewhere, raises}
 use Rattle.abort_expansion_laws.specs.Related.{raise_each, still_in, Stores, IsInside, guarded, open_inside, FlagsAreDown, Closes, Related, IsCalm}
 use Rattle.abort_expansion_laws.specs.Related.{calm_within, guards as watch_guards}
 use Rattle.abort_expansion_laws.proofs.StageReached.{holds_other}

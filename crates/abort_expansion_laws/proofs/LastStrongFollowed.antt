@@ -250,9 +250,11 @@ module _ (k core : Table) (i : Images) (rows : CoreRows k core i) (layered : Lay
             last = d1;
             follows = (
               ap (λ a. record { thread = i.watcher_of o; access = a })
-                  (sym (ap access_of (last.core_stands k core i rows layered tree core_children children c d related r o x o_there super t stands monitor has flag))),
+                  (sym (ap access_of (last.core_stands k core i rows layered tree core_children children c d related r o x o_there super t stands monitor
+                  has flag))),
               told_it,
-              (d1, last.monitor_steps k core i rows layered tree core_children children c d related r o x o_there super t stands monitor has flag false_there, refl),
+              (d1, last.monitor_steps k core i rows layered tree core_children children c d related r o x o_there super t stands monitor has flag
+              false_there, refl),
             );
             charted = ap (λ a. record { thread = r; access = a } ∷ []) (sym (ap access_of stands));
             fits = (
@@ -322,5 +324,6 @@ module _ (k core : Table) (i : Images) (rows : CoreRows k core i) (layered : Lay
       ap (λ e. after e c) deed ∙ parts.is in
       subst (λ z. Segment (machine core) (pair k core i rows tree counts written_at) Told d (Stage k i.thread_of c d) (Stage k i.thread_of z)
       (act_of (machine k) c r ∷ []) (Related k core i z)) is
-      (followed k core i rows layered tree core_children children c d related r o x o_there super t stands monitor has flag counts written_at flag_of not_counter
+      (followed k core i rows layered tree core_children children c d related r o x o_there super t stands monitor has flag counts written_at flag_of
+      not_counter
       written_first Told told parts.works parts.free false_there told_it)

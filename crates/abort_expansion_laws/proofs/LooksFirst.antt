@@ -4,7 +4,8 @@ use Rattle.chart_machine.specs.declared.standing.Standing.{Standing}
 use Rattle.chart_machine.specs.declared.standing.Standing.TheVariants as at
 use Rattle.chart_machine.specs.declared.table.Table.{Table}
 use Rattle.abort_expansion_laws.specs.CoreRows.{Images}
-use Rattle.abort_expansion_laws.specs.Related.{Watches, guards, waits, looks_strong, looks, elsewhere, IsInside, guarded, open_inside, LooksFirst, looks_never, looks_first}
+use Rattle.abort_expansion_laws.specs.Related.{Watches, guards, waits, looks_strong, looks, elsewhere}
+use Rattle.abort_expansion_laws.specs.Related.{IsInside, guarded, open_inside, LooksFirst, looks_never, looks_first}
 
 module _ (k core : Table) (i : Images) where
   pub looks_not_ended : (o : ℕ) (y : Standing) → LooksFirst k core i o y → y ≢ at.Ended

@@ -36,7 +36,8 @@ use Rattle.chart_machine_laws.specs.Tree.{IsThere}
 use Rattle.abort_expansion_laws.specs.CoreRows.{own, IsState, Images, CoreRows, WatcherImage}
 use Rattle.abort_expansion_laws.specs.Related.{Stands, outside}
 use Rattle.abort_expansion_laws.specs.Related.{ended, left}
-use Rattle.abort_expansion_laws.specs.Related.{trying, acting, entering, guarding, staying, within, behind, Watches, guards as watch_guards, waits, looks_strong, looks}
+use Rattle.abort_expansion_laws.specs.Related.{trying, acting, entering, guarding, staying, within}
+use Rattle.abort_expansion_laws.specs.Related.{behind, Watches, guards as watch_guards, waits, looks_strong, looks}
 use Rattle.abort_expansion_laws.specs.Related.{elsewhere}
 use Rattle.abort_expansion_laws.specs.Related.{IsInside, guarded, open_inside, Related}
 use Rattle.abort_expansion_laws.proofs.FlagAccess.{raised_access}

@@ -146,7 +146,8 @@ module _ (k core : Table) (i : Images) (rows : CoreRows k core i) (tree : IsNest
       low : (o : ℕ) → IsState k o → has_aborts (own k o) ≡ true → is_late (standing_of next (i.watcher_of o)) ≡ true → (n : ℕ) → IsRaising o n →
           StaysLow o n f.last
       low o there has late n raises_it =
-          along p q valid (Beside o) (home o) (lowered.join_of (i.main_of o)) (priority q n) (strong_around k o) (λ u child. child.0) f.run keeps.control f.last nobody f.leads
+          along p q valid (Beside o) (home o) (lowered.join_of (i.main_of o)) (priority q n) (strong_around k o) (λ u child. child.0) f.run keeps.control
+          f.last nobody f.leads
           before
         where
           was_late : is_late (standing_of d (i.watcher_of o)) ≡ true

@@ -101,7 +101,8 @@ module _ (p : Program) (q : Tables) (valid : IsValid p q) where
       let same : taken ≡ steps.Cond code on_true on_false = same_Some taken (steps.Cond code on_true on_false) (sym is ∙ found) in
       ⊎_elim (λ e. subst (SoonLow p q top (suc many)) e (soon_more p q top many on_true first))
       (λ tail.
-      ⊎_elim (λ e. subst (SoonLow p q top (suc many)) e (soon_more p q top many on_false second)) (λ none. absurd (none_in n none)) (head_or_tail on_false n [] tail))
+      ⊎_elim (λ e. subst (SoonLow p q top (suc many)) e (soon_more p q top many on_false second)) (λ none. absurd (none_in n none))
+      (head_or_tail on_false n [] tail))
       (head_or_tail on_true n (on_false ∷ []) (subst (λ z. Contains (successors z) n) same succ))
   soon_goes top _ _ n (soon_tested many m on_true on_false code found first second) (by_entry t children j k fork child entry) =
       let wrong : Some (steps.Fork children j) ≡ Some (steps.Cond code on_true on_false) = sym fork.forks ∙ found in absurd cc

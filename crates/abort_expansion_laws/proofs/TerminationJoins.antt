@@ -27,7 +27,8 @@ use Rattle.abort_expansion_laws.proofs.MoreValues.{same_verdict}
 use Rattle.abort_expansion_laws.proofs.FlagAccess.{number_access}
 use Rattle.abort_expansion_laws.specs.CoreRows.{own, IsState, IsSuper, joins, Images, CoreRows, WatcherImage, SplitImage, flags_around, watchers}
 use Rattle.abort_expansion_laws.specs.CoreRows.{behind_transitions, pair}
-use Rattle.abort_expansion_laws.specs.Related.{raise_each, Watches, guards as watch_guards, waits, looks_strong, looks, elsewhere, IsInside, open_inside, still_in}
+use Rattle.abort_expansion_laws.specs.Related.{raise_each, Watches, guards as watch_guards, waits, looks_strong}
+use Rattle.abort_expansion_laws.specs.Related.{looks, elsewhere, IsInside, open_inside, still_in}
 use Rattle.abort_expansion_laws.specs.Related.{not_ended, Stores, Related, monitor_last}
 use Rattle.abort_expansion_laws.proofs.Unchanged.{no_guards, unguarded}
 use Rattle.abort_expansion_laws.proofs.StageReached.{Stage, holds_other, inside_in}

@@ -19,7 +19,8 @@ use Rattle.abort_expansion_laws.proofs.TablesCorrespond.{IsThere, contains_map}
 use Rattle.chart_machine_laws.proofs.ChartTables.{around_there}
 use Rattle.abort_expansion_laws.specs.CoreRows.{own, IsState, Images, CoreRows, flags_around}
 use Rattle.abort_expansion_laws.specs.Related.{Each, is_behind, Stands, outside, ended, left, trying, acting, entering, guarding, staying, within, behind}
-use Rattle.abort_expansion_laws.specs.Related.{Watches, guards as watch_guards, waits, looks_strong, looks, elsewhere, IsInside, guarded, open_inside, Closes, Related}
+use Rattle.abort_expansion_laws.specs.Related.{Watches, guards as watch_guards, waits, looks_strong, looks}
+use Rattle.abort_expansion_laws.specs.Related.{elsewhere, IsInside, guarded, open_inside, Closes, Related}
 use Rattle.abort_expansion_laws.proofs.KnownVariables.{both_true}
 use Rattle.abort_expansion_laws.proofs.StartingRegions.{Once, CounterRows}
 use Rattle.abort_expansion_laws.proofs.SettledInOrder.{ended_back}

@@ -227,7 +227,8 @@ module _ (c : Chart) (rules : IsChart features.Extended c) (core_rules : IsChart
 
 -- ---- over lists of ticks
 
-module _ (c : Chart) (rules : IsChart features.Extended c) (core_rules : IsChart features.Core (expanded c)) (layered : IsWeaklyLayered c) (image : HasImage c) where
+module _ (c : Chart) (rules : IsChart features.Extended c) (core_rules : IsChart features.Core (expanded c)) (layered : IsWeaklyLayered c)
+    (image : HasImage c) where
   abbrev Kept : Type 0
   Kept = KeepsRules image.scl.name image.scl.variables image.scl.body
 

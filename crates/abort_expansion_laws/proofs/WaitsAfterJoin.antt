@@ -15,7 +15,8 @@ use Rattle.abort_expansion_laws.proofs.TablesCorrespond.{IsThere}
 use Rattle.abort_expansion_laws.specs.CoreRows.{Images, CoreRows, joins}
 use Rattle.abort_expansion_laws.specs.Related.{held_back, Stores, LooksFirst}
 use Rattle.abort_expansion_laws.proofs.Pending.{Sound, IsJoining, Over, Covered, Flagged, Pending, IsBusy, joins_then, Reached}
-use Rattle.abort_expansion_laws.specs.Related.{is_behind, front, Stands, outside, left, behind, Watches, guards as watch_guards, waits, looks_strong, looks, elsewhere}
+use Rattle.abort_expansion_laws.specs.Related.{is_behind, front, Stands, outside, left, behind}
+use Rattle.abort_expansion_laws.specs.Related.{Watches, guards as watch_guards, waits, looks_strong, looks, elsewhere}
 use Rattle.abort_expansion_laws.proofs.Fronts.{front_free}
 use Rattle.abort_expansion_laws.proofs.TablesCorrespond.{contains_map}
 use Rattle.abort_expansion_laws.proofs.InsideAround.{inside_around}

@@ -1,8 +1,9 @@
 //! Histories: regions that begin where they were last.
 
 ghost use Rattle.std.specs.Prelude.{◌≡◌, suc, IfOk, map};
-ghost use Rattle.extended_charts.specs.Histories.{asks, entering, noted, led, was_at, resumption, initial_among, resumptions};
-ghost use Rattle.extended_charts.specs.Histories.{resuming, own_past, past_own, begins, history_of, all_regions, all_states};
+ghost use Rattle.extended_charts.specs.Histories.{asks, entering, noted, led, was_at, resumption, initial_among};
+ghost use Rattle.extended_charts.specs.Histories.{resumptions, resuming, own_past, past_own, begins, history_of};
+ghost use Rattle.extended_charts.specs.Histories.{all_regions, all_states};
 ghost use Rattle.extended_charts.specs.Histories.{made_region, past_region, past_state, with_histories};
 
 use crate::copies::copied_durings;

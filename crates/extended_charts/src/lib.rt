@@ -1,6 +1,6 @@
 //! Extended charts, and their reduction to charts: constants, signals, what variables were in the tick before, the
-//! ticks since a state was entered, counts of those in which something holds, histories, entry, exit and during actions,
-//! terminations with triggers and initial values.
+//! ticks since a state was entered, counts of those in which something holds, histories, entry, exit and during
+//! actions, terminations with triggers and initial values.
 #![tactic(auto)]
 
 mod clocks;

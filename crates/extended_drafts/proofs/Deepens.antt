@@ -22,7 +22,8 @@ use Rattle.extended_drafts.specs.declared.draft.DraftRows.{DraftRows}
 use Rattle.extended_drafts.specs.declared.draft.StateBody.{StateBody}
 use Rattle.extended_drafts.specs.declared.draft.ExtendedDraft.{ExtendedDraft}
 use Rattle.extended_drafts.specs.ExtendedText.{item_value, last_value, typed, signalled, bare_signal, plain_body, worded_body, plain, worded, item}
-use Rattle.extended_drafts.specs.ExtendedText.{combining, combined, becoming, emitting, effect_end, effect, next_effect, some_effects, effects, two_names, two_more, lead}
+use Rattle.extended_drafts.specs.ExtendedText.{combining, combined, becoming, emitting, effect_end, effect}
+use Rattle.extended_drafts.specs.ExtendedText.{next_effect, some_effects, effects, two_names, two_more, lead}
 use Rattle.extended_drafts.specs.ExtendedText.{last_lead, leading, deed}
 use Rattle.extended_drafts.specs.ExtendedText.{last_effects, entry}
 use Rattle.extended_drafts.specs.ExtendedText.{some_count, counted, some_delay, at_once, waiting, pause, tested, termination}

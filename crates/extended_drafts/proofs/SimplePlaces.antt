@@ -7,7 +7,8 @@ use Rattle.chart_drafts.specs.declared.draft.DraftRegion.TheViews.{out-DraftRegi
 use Rattle.chart_drafts.specs.declared.draft.DraftRegion.TheFolds.{fold_out-DraftRegion, fold_out-DraftState}
 use Rattle.chart_drafts.specs.declared.draft.DraftState.{DraftState}
 use Rattle.chart_drafts.specs.Flaws.{is_filled}
-use Rattle.extended_drafts.specs.Targets.{StateTargets, target_among, simple_name, simple_names, places_in, region_step, state_step, region_targets, state_targets}
+use Rattle.extended_drafts.specs.Targets.{StateTargets, target_among, simple_name, simple_names}
+use Rattle.extended_drafts.specs.Targets.{places_in, region_step, state_step, region_targets, state_targets}
 use Rattle.extended_drafts.specs.Targets.{simple_targets}
 
 pub region_is : (r : DraftRegion) → region_targets r

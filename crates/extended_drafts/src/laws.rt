@@ -11,8 +11,8 @@ pub fn extended_texts_are_told()
 {}
 
 /// Each draft of an extended text keeps what the grammar alone gives: its core keeps what the draft of a chart does,
-/// and beside it stand as many items, and as many rows of actions and of what is new of transitions, as it has variables,
-/// states and transitions.
+/// and beside it stand as many items, and as many rows of actions and of what is new of transitions, as it has
+/// variables, states and transitions.
 /// This function does nothing; its contract is the law.
 pub fn extended_drafts_are_shaped()
     ensures { DraftsAreShaped }

@@ -140,7 +140,8 @@ module _ (c : Chart) (rules : IsChart features.Extended c) (layered : IsLayered 
         is_free = λ x at cap u holds free.
             ap (λ z. access_of (standing_of z u)) holds.same ∙ idle_is (access_of (standing_of at.now u)) free;
         uncapped = λ x at cap u holds on writes.
-            uncapped c rules low.core image.scl image.tables low (is_valid c rules low.core layered.weakly image low) at.now at.core at.control cap holds.is_capped u
+            uncapped c rules low.core image.scl image.tables low (is_valid c rules low.core layered.weakly image low) at.now at.core at.control cap
+            holds.is_capped u
             (enabled_too x at u holds.same on) (λ none. writes (ap (λ z. (access_of (standing_of z u)).writes) holds.same ∙ none));
         order = λ x y at to cap other t u a here there on on_too apart writes lower.
             subst (λ z. MayPrecede (access_of (standing_of z t)) (access_of (standing_of y u))) (sym here.same)

@@ -170,7 +170,8 @@ module _ (c : Chart) (rules : IsChart features.Extended c) (core_rules : IsChart
             less_then (priority_of q (status_of m u)) (priority q raise.taken) (priority_of q (status_of m (i.watcher_of o)))
             (subst (λ z. z < priority q raise.taken) (sym (at_priority q (status_of m u) n there)) lower)
             (taken_lower G q valid m (i.watcher_of o) (put flag.0 (suc monitor.number)) raise))
-            (λ found. absurd (no_resume G (valid_formed G q valid) m u n found.0 (all.resumed u) on_u there found.1)) (without_tests G q (priority q raise.taken) 0 n soon refl)
+            (λ found. absurd (no_resume G (valid_formed G q valid) m u n found.0 (all.resumed u) on_u there found.1))
+            (without_tests G q (priority q raise.taken) 0 n soon refl)
 
         beside : BesideLow G q valid m alike.is_configuration (i.thread_of t) (i.watcher_of o)
         beside child u parent ne under on_u =

@@ -168,7 +168,8 @@ module _ (c : Chart) (rules : IsChart features.Extended c) (core_rules : IsChart
           lines = low_next.lines;
           joins = low_next.joins;
           guarded = λ t on guards some.
-              guards_low c rules core_rules p q low valid lowered_tests earlier next followed.last n all_next alike_next quiet_next t on (λ o x flag. none_further c layered o ((start_rows c rules core_rules layered.weakly).strong_for o x flag)) guards some;
+              guards_low c rules core_rules p q low valid lowered_tests earlier next followed.last n all_next alike_next quiet_next t on
+              (λ o x flag. none_further c layered o ((start_rows c rules core_rules layered.weakly).strong_for o x flag)) guards some;
         }
 
   -- ---- as a tick starts
@@ -206,5 +207,6 @@ module _ (c : Chart) (rules : IsChart features.Extended c) (core_rules : IsChart
           lines = λ t on out. all_ahead G q (i.thread_of t) m_first;
           joins = λ t on inside. all_once_stepped G q (i.thread_of t) m_first;
           guarded = λ t on guards some.
-              guards_low c rules core_rules p q low valid lowered_tests earlier now first.last m_first all_first alike_first quiet_first t on (λ o x flag. none_further c layered o ((start_rows c rules core_rules layered.weakly).strong_for o x flag)) guards some;
+              guards_low c rules core_rules p q low valid lowered_tests earlier now first.last m_first all_first alike_first quiet_first t on
+              (λ o x flag. none_further c layered o ((start_rows c rules core_rules layered.weakly).strong_for o x flag)) guards some;
         }

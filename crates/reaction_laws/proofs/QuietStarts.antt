@@ -119,7 +119,8 @@ module _ (c : Chart) (rules : IsChart features.Extended c) (core_rules : IsChart
         starts_low k core i rows (layered_rows c rules core_rules layered.weakly) (whole.tree c rules core_rules).nested
         (whole.core_tree c rules core_rules).nested (whole.core_tree c rules core_rules).children (whole.tree c rules core_rules).children
         (whole.super_there c rules core_rules) (λ s here. (whole.state_fits c rules core_rules s here).region.here)
-        (start_rows c rules core_rules layered.weakly).strong_for G q valid (Alike (expanded c) p) (lowered c rules core_rules p q low valid) lowered_tests earlier
+        (start_rows c rules core_rules layered.weakly).strong_for G q valid (Alike (expanded c) p) (lowered c rules core_rules p q low valid) lowered_tests
+        earlier
         (λ t there none. tick_starts.top_parent (expanded c) p q low valid t there none) (start k inputs before) (start core inputs d)
         (started_related c rules core_rules layered.weakly before d rested.rests inputs) (graph_tick.start G inputs m)
         (tick_starts.starts_alike (expanded c) p q low valid inputs accepted d m between)

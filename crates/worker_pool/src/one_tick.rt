@@ -22,7 +22,8 @@ use verifier::Verified;
 
 /// Runs a tick from a configuration that rests to its one end, with 1 to 8 workers: the configuration after it, and
 /// the report of its steps. The caller's thread serves as worker 1, and the others are started at the first round
-/// that is worth sharing. Each step passes the gate. `Input` and `Memory` as of `begin`; the configuration is untouched.
+/// that is worth sharing. Each step passes the gate. `Input` and `Memory` as of `begin`; the configuration is
+/// untouched.
 pub fn run_tick<'x, R: Threads + Wait + Sync, G: Gate + Sync>(
     rt: &R,
     alloc: Global,

@@ -19,8 +19,8 @@ use tick_core::{BeginFault, Control, Inputs, TickSpace, TickState, copied};
 
 impl<'r, 'x, J: OfImage, G: Gate> Team<'r, 'x, J, G> {
     /// Runs a tick of the shared image from a configuration that rests and is given up, in the space that an earlier
-    /// one left, to where nobody is enabled. Each step passes the gate. `Input` as of `begin`. A tick that is not shared
-    /// takes no memory; one is shared with others where there is memory for it.
+    /// one left, to where nobody is enabled. Each step passes the gate. `Input` as of `begin`. A tick that is not
+    /// shared takes no memory; one is shared with others where there is memory for it.
     pub fn tick<'s, R, E>(
         &mut self,
         rt: &'s R,
