@@ -138,7 +138,7 @@ pub(crate) fn node_text(
     let column = spot.column;
     let scene = scene_text(alloc, shown.text, origin)?;
     let marked = if number < SHOWN {
-        marked_line(alloc, shown.text, spot)?
+        marked_line(alloc, shown.text, origin.at, spot)?
     } else {
         String::new(alloc)
     };

@@ -94,7 +94,7 @@ fn label_text(
     origin: Origin,
 ) -> Result<String, AllocError> {
     let scene = scene_text(alloc, text, origin)?;
-    let marked = marked_line(alloc, text, spot_of(text, origin.at))?;
+    let marked = marked_line(alloc, text, origin.at, spot_of(text, origin.at))?;
     format!(in alloc; "label {label}{scene}\n{marked}")
 }
 

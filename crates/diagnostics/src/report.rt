@@ -51,7 +51,7 @@ pub fn explained(
     let number = broken.number();
     let words = words_of(alloc, text, broken, at)?;
     let cause = words.cause;
-    let marked = marked_line(alloc, text, spot)?;
+    let marked = marked_line(alloc, text, at, spot)?;
     let help = help(alloc, words.cure.as_str())?;
     format!(in alloc; "{name}{place}: E0{number}: {cause}\n{marked}{help}")
 }

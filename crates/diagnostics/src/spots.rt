@@ -10,23 +10,6 @@ pub struct LineColumn {
     pub column: usize,
 }
 
-impl LineColumn {
-    // The place behind a character that stands here.
-    pub(crate) fn behind(self, letter: char) -> LineColumn {
-        if letter == '\n' {
-            LineColumn {
-                line: self.line.saturating_add(1),
-                column: 1,
-            }
-        } else {
-            LineColumn {
-                line: self.line,
-                column: self.column.saturating_add(1),
-            }
-        }
-    }
-}
-
 /// Where a text begins.
 pub(crate) const START: LineColumn = LineColumn { line: 1, column: 1 };
 
@@ -37,7 +20,6 @@ fn begins_character(byte: u8) -> bool
     !(128 <= byte && byte <= 191)
 }
 
-/// The place of the byte of this number, from 0; of the end, where the text has no more than that.
 // The place behind one byte more of a text.
 #[tactic(auto, using(crate::proofs::LineColumns::line_fits, crate::proofs::LineColumns::column_fits))]
 fn behind_byte(spot: LineColumn, text: &[u8], i: usize) -> LineColumn

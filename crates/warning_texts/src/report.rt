@@ -46,7 +46,7 @@ fn said_of(
     ensures { IfOk result (λ said. IsTrue (are_lines 4 (string_bytes said))) }
 {
     let cause = cause_of(alloc, scene, warning)?;
-    let marked = marked_line(alloc, scene.text, spot_of(scene.text, at))?;
+    let marked = marked_line(alloc, scene.text, at, spot_of(scene.text, at))?;
     let cure = cure_of(alloc, scene, warning)?;
     let said = format!(in alloc; "{cause}\n{marked}help: {cure}\n")?;
     of_four_lines(alloc, said)
