@@ -11,3 +11,4 @@ mod SclSourcesTold
 mod Listed
 mod LabelsTold
 mod LanguagesTold
+mod TextsRead

@@ -1,4 +1,5 @@
 pub mod Compiled
+pub mod ReadOnce
 pub mod Ruled
 pub mod Simulated
 pub mod States

@@ -11,6 +11,7 @@ mod fault_text;
 mod keep;
 mod migrate;
 mod print;
+mod read_once;
 mod report;
 mod run;
 mod run_ruled;
