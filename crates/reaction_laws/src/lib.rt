@@ -9,9 +9,9 @@ ghost use Rattle.reaction_laws.specs.LowLines.{LinesStayLow};
 ghost use Rattle.reaction_laws.specs.Reacts.{LayeredChartsReact};
 ghost use Rattle.reaction_laws.specs.StepNodes.{PrioritiesOrderSteps, StepsComeToNodes};
 
-/// Each tick of a weakly layered chart that has a valid image comes to an end, whatever steps it takes: no run of a tick
-/// that follows a reaction takes more steps than one number says, and each run can be completed. This function does nothing;
-/// its contract is the law.
+/// Each tick of a weakly layered chart that has a valid image comes to an end, whatever steps it takes: no run of a
+/// tick that follows a reaction takes more steps than one number says, and each run can be completed. This function
+/// does nothing; its contract is the law.
 pub fn layered_ticks_end()
     ensures { LayeredTicksEnd }
 {}
