@@ -30,9 +30,9 @@ pub fn expanded_charts_have_rows()
 {}
 
 /// A weakly layered chart that has a valid image, and whose core chart keeps the rules of core charts, is kept by its
-/// core chart: each list of ends of the chart, one for each of a list of inputs that are accepted, has one of the core
-/// chart for the same inputs, in each of which the declared variables have the same values and the same states are active.
-/// This function does nothing; its contract is the law.
+/// core chart: each list of ends of the chart, one for each of a list of inputs that are accepted, has one of the
+/// core chart for the same inputs, in each of which the declared variables have the same values and the same states
+/// are active. This function does nothing; its contract is the law.
 pub fn preemption_is_kept()
     ensures { PreemptionIsKept }
 {}

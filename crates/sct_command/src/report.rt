@@ -94,8 +94,8 @@ fn explanation(
     }
 }
 
-/// What is said of the fault of these bytes, which are those of the file of this name; where they were read as a text of
-/// a program, by what was read. Err: memory was refused.
+/// What is said of the fault of these bytes, which are those of the file of this name; where they were read as a text
+/// of a program, by what was read. Err: memory was refused.
 pub(crate) fn report_of(
     alloc: Global,
     name: &str,
