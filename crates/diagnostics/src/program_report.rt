@@ -10,13 +10,11 @@ use crate::program_words::in_words;
 use crate::report::{help, spot_text};
 use crate::spots::spot_of;
 use crate::walks::{conflict_text, first_node, place_text, walk_text};
-use abort_expansion::ExpandFault;
 use compiler::CompileFault;
 use conflict_edges::ConflictFault;
-use node_sources::{Origin, ReadSource, SourceFault, read_source};
+use node_sources::{Origin, label_origin, sources_of};
 use priority_weights::TablesFault;
 use sc_graph::NodeId;
-use sc_text::ReadFault;
 use sc_values::Name;
 use scl_graph::GraphFault;
 use sqlite_items::at;
@@ -35,37 +33,12 @@ pub fn program_fault_explained(
 ) -> Result<String, AllocError>
     ensures { IfOk result (λ report. Tells name.now (fault_text fault.now) (string_bytes report)) }
 {
-    let shown = shown_in(alloc, text, fault)?;
-    report_of(alloc, name, &shown, fault)
-}
-
-/// The same of a text that is read already.
-pub fn program_fault_told(
-    alloc: Global,
-    name: &str,
-    source: &ReadSource<'_>,
-    fault: &CompileFault,
-) -> Result<String, AllocError>
-    ensures { IfOk result (λ report. Tells name.now (fault_text fault.now) (string_bytes report)) }
-{
-    let shown = shown_fault(alloc, source, fault)?;
-    report_of(alloc, name, &shown, fault)
-}
-
-// The report of a fault, of which this is shown.
-fn report_of(
-    alloc: Global,
-    name: &str,
-    shown: &Report,
-    fault: &CompileFault,
-) -> Result<String, AllocError>
-    ensures { IfOk result (λ report. Tells name.now (fault_text fault.now) (string_bytes report)) }
-{
+    let shown = shown_fault(alloc, text, fault)?;
     let told = in_words(fault);
     let cause = told.cause;
     let help = help(alloc, told.cure)?;
-    let place = shown.place.as_str();
-    let body = shown.body.as_str();
+    let place = shown.place;
+    let body = shown.body;
     format!(in alloc; "{name}{place}: {fault}: {cause}\n{body}{help}")
 }
 
@@ -84,41 +57,13 @@ fn nowhere(alloc: Global) -> Report {
     }
 }
 
-// Whether a fault names something of its text.
-fn names_something(fault: &CompileFault) -> bool {
-    match fault {
-        CompileFault::Expansion(_)
-        | CompileFault::Graph(GraphFault::Limit)
-        | CompileFault::Graph(GraphFault::Memory) => false,
-        _ => true,
-    }
-}
-
-// What of a fault is shown in this text.
-fn shown_in(alloc: Global, text: &str, fault: &CompileFault) -> Result<Report, AllocError> {
-    if !names_something(fault) {
-        return Ok(nowhere(alloc));
-    }
-    match read_source(alloc, text) {
-        Ok(source) => shown_fault(alloc, source.get(), fault),
-        Err(SourceFault::Text(ReadFault::Memory) | SourceFault::Expansion(ExpandFault::Memory)) => {
-            Err(AllocError)
-        }
-        Err(_) => Ok(nowhere(alloc)),
-    }
-}
-
 // What of a fault is shown in its text.
-fn shown_fault(
-    alloc: Global,
-    source: &ReadSource<'_>,
-    fault: &CompileFault,
-) -> Result<Report, AllocError> {
+fn shown_fault(alloc: Global, text: &str, fault: &CompileFault) -> Result<Report, AllocError> {
     match fault {
-        CompileFault::Graph(GraphFault::EmptyLoop(label)) => shown_label(alloc, source, *label),
+        CompileFault::Graph(GraphFault::EmptyLoop(label)) => shown_label(alloc, text, *label),
         CompileFault::Expansion(_) | CompileFault::Graph(_) => Ok(nowhere(alloc)),
         CompileFault::Conflict(_) | CompileFault::Tables(_) | CompileFault::Rule(_) => {
-            shown_nodes(alloc, source, fault)
+            shown_nodes(alloc, text, fault)
         }
     }
 }
@@ -132,11 +77,10 @@ fn place_of(alloc: Global, text: &str, origin: Option<Origin>) -> Result<String,
 }
 
 // A label, at its place.
-fn shown_label(alloc: Global, source: &ReadSource<'_>, label: Name) -> Result<Report, AllocError> {
-    let Some(origin) = source.label_origin(alloc, label)? else {
+fn shown_label(alloc: Global, text: &str, label: Name) -> Result<Report, AllocError> {
+    let Some(origin) = label_origin(alloc, text, label)? else {
         return Ok(nowhere(alloc));
     };
-    let text = source.text();
     let place = place_of(alloc, text, Some(origin))?;
     let body = label_text(alloc, text, label, origin)?;
     Ok(Report { place, body })
@@ -155,15 +99,11 @@ fn label_text(
 }
 
 // The nodes of a fault.
-fn shown_nodes(
-    alloc: Global,
-    source: &ReadSource<'_>,
-    fault: &CompileFault,
-) -> Result<Report, AllocError> {
-    let Some(sources) = source.sources(alloc)? else {
+fn shown_nodes(alloc: Global, text: &str, fault: &CompileFault) -> Result<Report, AllocError> {
+    let Some(sources) = sources_of(alloc, text)? else {
         return Ok(nowhere(alloc));
     };
-    let shown = Shown::of(alloc, source.text(), sources)?;
+    let shown = Shown::of(alloc, text, sources)?;
     let body = nodes_of(alloc, &shown, fault)?;
     let place = first_place(alloc, &shown, fault)?;
     Ok(Report { place, body })

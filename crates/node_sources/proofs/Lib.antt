@@ -11,4 +11,3 @@ mod SclSourcesTold
 mod Listed
 mod LabelsTold
 mod LanguagesTold
-mod TextsRead

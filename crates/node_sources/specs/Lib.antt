@@ -3,8 +3,6 @@ pub mod ChartOrigins
 pub mod SclOrigins
 pub mod Sources
 pub mod Labels
-pub mod ReadTexts
-pub mod Inside
 pub mod Laws
 pub mod SclLaws
 pub mod Listing

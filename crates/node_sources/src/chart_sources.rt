@@ -1,16 +1,14 @@
 //! The program of a chart's text, and the origins of its nodes.
 
-ghost use Rattle.std.specs.Prelude.{◌≡◌, IfErr, IfOk, MatchOption, Some, map};
-ghost use Rattle.abort_expansion.specs.Answers.{LacksCore};
-ghost use Rattle.abort_expansion.specs.Expansion.{expanded};
+ghost use Rattle.std.specs.Prelude.{◌≡◌, IfOk, MatchOption, Some, map};
+ghost use Rattle.abort_expansion.specs.Expansion.{IsExpandable, expanded};
 ghost use Rattle.chart_places.specs.Read.{IsPlaced};
 ghost use Rattle.compiler.specs.Charts.{IsSclOf};
 ghost use Rattle.node_elements.specs.Origins.{node_elements};
 ghost use Rattle.scl_graph.specs.Answers.{IsGraph};
 ghost use Rattle.node_sources.specs.ChartOrigins.{chart_origins};
 ghost use Rattle.sc_text.specs.declared.language.Language.TheVariants as language;
-ghost use Rattle.node_sources.specs.Inside.Kept.{KeepsChart};
-ghost use Rattle.node_sources.specs.Sources.{ChartSources, NoneIn};
+ghost use Rattle.node_sources.specs.Sources.{ChartHasNone, ChartSources, NoneIn};
 
 use crate::chart_origins::origins_of;
 use crate::graphs::graph;
@@ -19,32 +17,30 @@ use crate::sources::Sources;
 use abort_expansion::{ExpandFault, expand};
 use chart_elements::Element;
 use chart_lowering::lower;
-use chart_places::{Placed, places_tell_texts};
+use chart_places::{Placed, places_tell_texts, read_placed};
 use core_charts::{Chart, CoreChart};
 use node_elements::elements_tell_nodes;
 use sc_graph::Program;
+use sc_text::ReadFault;
 use scl::Scl;
 use sqlite_items::Items;
 use std::alloc::{AllocError, Global};
 
-/// A chart of a text, where its elements stand, and its core chart.
-#[derive(Drop)]
-pub struct LoweredChart {
-    pub placed: Placed,
-    pub core: CoreChart,
-}
-
-/// The core chart of a chart, and its SCL program. Err: it has none; or memory was refused.
+/// The core chart of a chart, and its SCL program. None: it has none. Err: memory was refused.
 #[tactic(auto, using(crate::proofs::ChartsTold::lowering_of))]
-pub(crate) fn lowered(alloc: Global, chart: &Chart) -> Result<(CoreChart, Scl), ExpandFault>
-    ensures made { IfOk result (λ made. (made.0 ≡ expanded chart.now) × IsSclOf chart.now made.1) }
-    ensures none { IfErr result (LacksCore chart.now) }
+pub(crate) fn lowered(alloc: Global, chart: &Chart) -> Result<Option<(CoreChart, Scl)>, AllocError>
+    ensures { IfOk result (λ found. MatchOption found (¬ IsExpandable chart.now)
+        (λ made. (made.0 ≡ expanded chart.now) × IsSclOf chart.now made.1)) }
 {
-    let (core, _states) = expand(alloc, chart)?;
+    let core = match expand(alloc, chart) {
+        Ok((core, _)) => core,
+        Err(ExpandFault::Memory) => return Err(AllocError),
+        Err(ExpandFault::Limit) => return Ok(None),
+    };
     // It keeps the rules of core charts.
     let _regions = core.regions();
     let scl = lower(alloc, &core)?;
-    Ok((core, scl))
+    Ok(Some((core, scl)))
 }
 
 // The elements from which the nodes of the program of a chart come.
@@ -84,29 +80,34 @@ fn origins_in(
     origins_of(alloc, &placed.places, program, elements)
 }
 
-/// The program of the chart of a text, and the origins of its nodes. None: its SCL program has no graph. Err: memory
-/// was refused.
-pub(crate) fn chart_sources(
-    alloc: Global,
-    text: &str,
-    chart: &LoweredChart,
-    scl: &Scl,
-) -> Result<Option<Sources>, AllocError>
-    requires { KeepsChart text.now scl.now chart.now }
+// The program of the chart that a text spells, and the origins of its nodes.
+#[tactic(auto, using(crate::proofs::ChartsTold::no_core))]
+fn sources_in(alloc: Global, text: &str, placed: &Placed) -> Result<Option<Sources>, AllocError>
+    requires { IsPlaced text.now placed.now.chart placed.now.places }
+    ensures { IfOk result (λ found. MatchOption found (ChartHasNone text.now)
+        (λ s. ChartSources text.now s.program s.origins)) }
+{
+    let Some((core, scl)) = lowered(alloc, &placed.chart)? else {
+        return Ok(None);
+    };
+    let Some(program) = graph(alloc, &scl)? else {
+        return Ok(None);
+    };
+    let elements = elements_of(alloc, &placed.chart, &core, &scl)?;
+    let origins = origins_in(alloc, text, placed, &scl, &program, elements.as_slice())?;
+    Ok(Some(Sources { program, origins }))
+}
+
+/// The program of a chart's text, and the origins of its nodes. None: the text has a fault, or its chart no program.
+/// Err: memory was refused.
+#[tactic(auto, using(crate::proofs::ChartsTold::faulty, crate::proofs::ChartsTold::read))]
+pub(crate) fn chart_sources(alloc: Global, text: &str) -> Result<Option<Sources>, AllocError>
     ensures { IfOk result (λ found. MatchOption found (NoneIn language.Chart text.now)
         (λ s. ChartSources text.now s.program s.origins)) }
 {
-    let Some(program) = graph(alloc, scl)? else {
-        return Ok(None);
-    };
-    let elements = elements_of(alloc, &chart.placed.chart, &chart.core, scl)?;
-    let origins = origins_in(
-        alloc,
-        text,
-        &chart.placed,
-        scl,
-        &program,
-        elements.as_slice(),
-    )?;
-    Ok(Some(Sources { program, origins }))
+    match read_placed(alloc, text) {
+        Ok(placed) => sources_in(alloc, text, &placed),
+        Err(ReadFault::Memory) => Err(AllocError),
+        Err(ReadFault::Text(_, _)) => Ok(None),
+    }
 }

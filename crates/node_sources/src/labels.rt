@@ -2,24 +2,36 @@
 
 ghost use Rattle.std.specs.Prelude.{◌≡◌, ◌++◌, ◌↔◌, IfOk, IfSome, IsTrue, Some, map, slice_get};
 ghost use Rattle.graph_origins.specs.Points.{in_row, points_of, text_points};
-ghost use Rattle.node_sources.specs.Inside.Kept.{KeepsChart, KeepsDraft};
-ghost use Rattle.node_sources.specs.Labels.{ChartLabel, IsLabel, SclLabel};
+ghost use Rattle.node_sources.specs.Labels.{ChartLabel, IsLabel, IsLabelOrigin, SclLabel};
 ghost use Rattle.node_sources.specs.Labels.{label_at, label_origin, label_part};
 
 use crate::chart_origins::element_origin;
-use crate::chart_sources::LoweredChart;
+use crate::chart_sources::lowered;
 use crate::origin::{Origin, Part};
 use crate::scl_sources::first_origin;
 use crate::statements::spots_of;
 use chart_elements::Element;
-use chart_places::Places;
+use chart_places::{Places, read_placed};
 use node_elements::point_elements;
-use sc_text::{Language, ReadFault, tokens};
+use sc_text::{Language, ReadFault, language_of, tokens};
 use sc_values::Name;
 use scl::{Scl, Statement};
-use scl_drafts::Draft;
+use scl_drafts::read_checked;
+use scl_reader::program_of;
 use sqlite_items::{Items, at};
 use std::alloc::{AllocError, Global};
+
+/// Where the label of a program stands: in SCL text the label itself, in a chart the state, or the region at its end,
+/// for which the lowering makes it. None: the text has no such label. Err: memory was refused.
+#[tactic(auto, using(crate::proofs::LanguagesTold::scl_label_told, crate::proofs::LanguagesTold::chart_label_told))]
+pub fn label_origin(alloc: Global, text: &str, label: Name) -> Result<Option<Origin>, AllocError>
+    ensures { IfOk result (λ found. IfSome found (IsLabelOrigin text.now label)) }
+{
+    match language_of(text) {
+        Language::Scl => scl_label(alloc, text, label),
+        Language::Chart => chart_label(alloc, text, label),
+    }
+}
 
 // Puts for each point of these statements the label that stands there behind the others.
 #[cycle(labels)]
@@ -123,41 +135,43 @@ fn origin_of(places: &Places, elements: &[Option<Element>], number: usize) -> Op
     }
 }
 
-/// The label of this name in the lowering of the chart of a text.
-pub(crate) fn chart_label(
-    alloc: Global,
-    text: &str,
-    chart: &LoweredChart,
-    scl: &Scl,
-    label: Name,
-) -> Result<Option<Origin>, AllocError>
-    requires { KeepsChart text.now scl.now chart.now }
+// The label of this name in the lowering of a chart.
+#[tactic(auto, using(crate::proofs::LabelsTold::chart_labelled))]
+fn chart_label(alloc: Global, text: &str, label: Name) -> Result<Option<Origin>, AllocError>
     ensures { IfOk result (λ found. IfSome found (ChartLabel text.now label)) }
 {
-    let Some(number) = label_point(alloc, scl, label)? else {
+    let placed = match read_placed(alloc, text) {
+        Ok(placed) => placed,
+        Err(ReadFault::Memory) => return Err(AllocError),
+        Err(ReadFault::Text(_, _)) => return Ok(None),
+    };
+    let Some((core, scl)) = lowered(alloc, &placed.chart)? else {
         return Ok(None);
     };
-    let elements = point_elements(alloc, &chart.placed.chart, &chart.core)?;
-    Ok(origin_of(&chart.placed.places, elements.as_slice(), number))
+    let Some(number) = label_point(alloc, &scl, label)? else {
+        return Ok(None);
+    };
+    let elements = point_elements(alloc, &placed.chart, &core)?;
+    Ok(origin_of(&placed.places, elements.as_slice(), number))
 }
 
-/// The label of this name in the draft of an SCL text.
-pub(crate) fn scl_label(
-    alloc: Global,
-    text: &str,
-    draft: &Draft,
-    scl: &Scl,
-    label: Name,
-) -> Result<Option<Origin>, AllocError>
-    requires { KeepsDraft text.now scl.now draft.now }
+// The label of this name in SCL text.
+#[tactic(auto, using(scl_reader::proofs::Reading::unflawed, scl_reader::proofs::Reading::shaped))]
+fn scl_label(alloc: Global, text: &str, label: Name) -> Result<Option<Origin>, AllocError>
     ensures { IfOk result (λ found. IfSome found (SclLabel text.now label)) }
 {
+    let draft = match read_checked(alloc, text) {
+        Ok(draft) => draft,
+        Err(ReadFault::Memory) => return Err(AllocError),
+        Err(ReadFault::Text(_, _)) => return Ok(None),
+    };
     let tokens = match tokens(alloc, Language::Scl, text) {
         Ok(tokens) => tokens,
         Err(ReadFault::Memory) => return Err(AllocError),
         Err(ReadFault::Text(_, _)) => return Ok(None),
     };
-    let Some(number) = label_point(alloc, scl, label)? else {
+    let scl = program_of(alloc, &draft)?;
+    let Some(number) = label_point(alloc, &scl, label)? else {
         return Ok(None);
     };
     let spots = spots_of(alloc, tokens.as_slice(), draft.statements.as_slice())?;

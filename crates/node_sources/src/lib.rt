@@ -11,14 +11,13 @@ mod listing;
 mod origin;
 mod parts;
 mod positions;
-mod reading;
 mod scl_sources;
 mod sources;
 mod statements;
 
+pub use labels::label_origin;
 pub use laws::{sources_tell_charts, sources_tell_scl};
 pub use listing::image_text_with;
 pub use origin::{Origin, Part};
 pub use positions::{Position, Positions};
-pub use reading::{ReadSource, SourceFault, read_source};
 pub use sources::{Sources, sources_of};

@@ -7,7 +7,6 @@ ghost use Rattle.sc_text.specs.declared.language.Language.TheVariants as languag
 ghost use Rattle.scl_drafts.specs.Checked.{IsFlawless};
 ghost use Rattle.scl_reader.specs.Resolved.{IsProgramOf};
 ghost use Rattle.node_sources.specs.SclOrigins.{at_first, point_origin, scl_origins};
-ghost use Rattle.node_sources.specs.Inside.Kept.{KeepsDraft};
 ghost use Rattle.node_sources.specs.Sources.{NoneIn, SclHasNone, SclSources};
 
 use crate::graphs::graph;
@@ -17,7 +16,8 @@ use crate::statements::{StatementPlace, spots_of};
 use graph_origins::{NodeOrigin, node_origins, origins_tell_nodes};
 use sc_text::{Language, ReadFault, Token, tokens};
 use scl::Scl;
-use scl_drafts::Draft;
+use scl_drafts::{Draft, read_checked};
+use scl_reader::program_of;
 use sqlite_items::{Items, at};
 use std::alloc::{AllocError, Global};
 
@@ -85,40 +85,40 @@ fn origins_in(
 }
 
 // The program of a draft of a text with these tokens, and the origins of its nodes.
+#[tactic(auto, using(scl_reader::proofs::Reading::unflawed))]
 fn sources_in(
     alloc: Global,
     text: &str,
     draft: &Draft,
     tokens: &[Token],
-    scl: &Scl,
 ) -> Result<Option<Sources>, AllocError>
-    requires kept { KeepsDraft text.now scl.now draft.now }
+    requires drafted { IsFlawless text.now draft.now }
     requires cut { AreTokens language.Scl 0 text.now tokens.now }
     ensures { IfOk result (λ found. MatchOption found (SclHasNone text.now)
         (λ s. SclSources text.now s.program s.origins)) }
 {
-    let Some(program) = graph(alloc, scl)? else {
+    let scl = program_of(alloc, draft)?;
+    let Some(program) = graph(alloc, &scl)? else {
         return Ok(None);
     };
-    let origins = origins_in(alloc, text, draft, tokens, scl)?;
+    let origins = origins_in(alloc, text, draft, tokens, &scl)?;
     Ok(Some(Sources { program, origins }))
 }
 
-/// The program of the draft of an SCL text, and the origins of its nodes. None: it has no graph. Err: memory was
-/// refused.
-#[tactic(auto, using(crate::proofs::SclTold::not_cut, crate::proofs::SclTold::read))]
-pub(crate) fn scl_sources(
-    alloc: Global,
-    text: &str,
-    draft: &Draft,
-    scl: &Scl,
-) -> Result<Option<Sources>, AllocError>
-    requires { KeepsDraft text.now scl.now draft.now }
+/// The program of an SCL text, and the origins of its nodes. None: the text has a fault, or its program no graph. Err:
+/// memory was refused.
+#[tactic(auto, using(crate::proofs::SclTold::faulty, crate::proofs::SclTold::not_cut, crate::proofs::SclTold::read))]
+pub(crate) fn scl_sources(alloc: Global, text: &str) -> Result<Option<Sources>, AllocError>
     ensures { IfOk result (λ found. MatchOption found (NoneIn language.Scl text.now)
         (λ s. SclSources text.now s.program s.origins)) }
 {
+    let draft = match read_checked(alloc, text) {
+        Ok(draft) => draft,
+        Err(ReadFault::Memory) => return Err(AllocError),
+        Err(ReadFault::Text(_, _)) => return Ok(None),
+    };
     match tokens(alloc, Language::Scl, text) {
-        Ok(tokens) => sources_in(alloc, text, draft, tokens.as_slice(), scl),
+        Ok(tokens) => sources_in(alloc, text, &draft, tokens.as_slice()),
         Err(ReadFault::Memory) => Err(AllocError),
         Err(ReadFault::Text(_, _)) => Ok(None),
     }

@@ -3,11 +3,11 @@
 ghost use Rattle.std.specs.Prelude.{IfOk, MatchOption};
 ghost use Rattle.node_sources.specs.Sources.{AreSources, HasNoProgram};
 
+use crate::chart_sources::chart_sources;
 use crate::origin::Origin;
-use crate::reading::{SourceFault, read_source};
-use abort_expansion::ExpandFault;
+use crate::scl_sources::scl_sources;
 use sc_graph::Program;
-use sc_text::ReadFault;
+use sc_text::{Language, language_of};
 use sqlite_items::Items;
 use std::alloc::{AllocError, Global};
 
@@ -19,17 +19,13 @@ pub struct Sources {
 }
 
 /// The program of a text with the origins of its nodes. None: the text has no program. Err: memory was refused.
-#[tactic(auto, using(crate::proofs::TextsRead::sources_told, crate::proofs::TextsRead::faulty, crate::proofs::TextsRead::coreless))]
+#[tactic(auto, using(crate::proofs::LanguagesTold::scl_told, crate::proofs::LanguagesTold::chart_told))]
 pub fn sources_of(alloc: Global, text: &str) -> Result<Option<Sources>, AllocError>
     ensures { IfOk result (λ found. MatchOption found (HasNoProgram text.now)
         (λ s. AreSources text.now s.program s.origins)) }
 {
-    match read_source(alloc, text) {
-        Ok(source) => source.get().sources(alloc),
-        Err(SourceFault::Text(ReadFault::Memory) | SourceFault::Expansion(ExpandFault::Memory)) =>
-            Err(AllocError),
-        Err(
-            SourceFault::Text(ReadFault::Text(_, _)) | SourceFault::Expansion(ExpandFault::Limit),
-        ) => Ok(None),
+    match language_of(text) {
+        Language::Scl => scl_sources(alloc, text),
+        Language::Chart => chart_sources(alloc, text),
     }
 }

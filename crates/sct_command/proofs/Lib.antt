@@ -1,5 +1,4 @@
 pub mod Compiled
-pub mod ReadOnce
 pub mod Ruled
 pub mod Simulated
 pub mod States

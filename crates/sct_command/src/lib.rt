@@ -11,7 +11,6 @@ mod fault_text;
 mod keep;
 mod migrate;
 mod print;
-mod read_once;
 mod report;
 mod run;
 mod run_ruled;

@@ -26,7 +26,7 @@ fn say_report(
     ensures { IsHeldReport name.now bytes.now wanted fault.now (string_bytes said.new) }
 {
     if wanted {
-        if let Ok(report) = report_of(alloc, name, bytes, fault, None) {
+        if let Ok(report) = report_of(alloc, name, bytes, fault) {
             *said = report;
         }
     }
