@@ -172,14 +172,14 @@ pub(crate) fn extended_name_words(
     name: &str,
     before: Option<TokenKind>,
 ) -> Result<Words, AllocError> {
-    match before {
+    match &before {
         Some(TokenKind::Word(Word::Bool | Word::Int)) => {
             declared_words(alloc, declared_in(alloc, text, name)?, name)
         }
         Some(TokenKind::Word(Word::Do) | TokenKind::Sign(Sign::Comma)) => {
             assigned_words(alloc, declared_in(alloc, text, name)?, name)
         }
-        Some(TokenKind::Name(word)) if word.as_str() == "history" => history_words(alloc, name),
+        Some(kind) if is_name(kind, "history") => history_words(alloc, name),
         Some(TokenKind::Name(_)) => emitted_words(alloc, name),
         _ => during_words(alloc),
     }
