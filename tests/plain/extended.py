@@ -131,7 +131,8 @@ class ExtendedGrammar(ChartGrammar):
         word = Draft(place, name)
         _, name, place = self.take(NAME)
         code = [("load", name, place), ("value", True), ("binary", "or")]
-        return Draft(place, name, start=place, word=word, code=code, is_parted=False)
+        # behind another word the emission starts at that
+        return Draft(place, name, start=place if word.name == "emit" else word.place, word=word, code=code, is_parted=False)
 
     def transition(self):
         kind, _, place = self.take("go", "strong", "weak", "join")
