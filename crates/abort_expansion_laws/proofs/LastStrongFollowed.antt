@@ -253,8 +253,12 @@ module _ (k core : Table) (i : Images) (rows : CoreRows k core i) (layered : Lay
                   (sym (ap access_of (last.core_stands k core i rows layered tree core_children children c d related r o x o_there super t stands monitor
                   has flag))),
               told_it,
-              (d1, last.monitor_steps k core i rows layered tree core_children children c d related r o x o_there super t stands monitor has flag
-              false_there, refl),
+              (
+                d1,
+                last.monitor_steps k core i rows layered tree core_children children c d related r o x o_there super t stands monitor has flag
+                    false_there,
+                refl,
+              ),
             );
             charted = ap (λ a. record { thread = r; access = a } ∷ []) (sym (ap access_of stands));
             fits = (

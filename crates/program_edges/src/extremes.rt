@@ -5,8 +5,8 @@ ghost use Rattle.std.specs.Prelude.{◌≡◌, ◌↔◌, ℕ, IfOk, OnOk, IfSom
 ghost use Rattle.program_edges.specs.Extremes.{StandFor};
 ghost use Rattle.program_edges.specs.Inside.TakingIn.{Beats, OwnedAlike, TakesIn};
 
-use crate::numbers::Numbers;
 use crate::noted_places::NotedPlaces;
+use crate::numbers::Numbers;
 use sc_graph::{NodeId, Program};
 use sqlite_items::Items;
 use std::alloc::{AllocError, Global};

@@ -21,7 +21,7 @@ pub use conflicts::find_conflict;
 pub use extremes::{Extreme, extremes_of};
 pub use next::{NextNodes, children_of, next_nodes, successors};
 pub use node_lists::NodeLists;
-pub use numbers::Numbers;
 pub use noted_places::NotedPlaces;
+pub use numbers::Numbers;
 pub use search::{Sought, find_instant};
 pub use users::{Use, Users};

@@ -25,7 +25,11 @@ pub(crate) struct LabelPlaces {
 
 impl LabelPlaces {
     /// The places of these labels. Where none is looked up, no table is made.
-    pub(crate) fn of(alloc: Global, labels: Labels, are_sought: bool) -> Result<LabelPlaces, AllocError>
+    pub(crate) fn of(
+        alloc: Global,
+        labels: Labels,
+        are_sought: bool,
+    ) -> Result<LabelPlaces, AllocError>
         ensures { IfOk result (λ places. places.labels ≡ labels) }
     {
         let table = if are_sought {
