@@ -11,6 +11,8 @@ use Rattle.sc_text.specs.declared.read_fault.ReadFault.TheVariants as fault
 use Rattle.sc_text.specs.Tokens.{AreTokens, IsScanFault}
 use Rattle.sc_text.specs.Reading.{Stops}
 use Rattle.sc_text.proofs.Steps.{wrong_at, next_stops}
+use Rattle.chart_modules.specs.Answer.{Good, Tells}
+use Rattle.chart_modules.specs.Modules.{plain_text}
 use Rattle.extended_drafts.specs.declared.draft.ExtendedDraft.{ExtendedDraft}
 use Rattle.extended_drafts.specs.ExtendedText.{extended_text}
 use Rattle.extended_drafts.specs.Reading.{IsExtendedDraft, IsDraftFault}
@@ -46,19 +48,32 @@ module _ (text : List ℕ) where
   scanned fault.Memory s = tt
 
   module _ (tokens : List Token) (cut : AreTokens language.Chart 0 (without_comments text) tokens) where
-    pub drafted : (d : ExtendedDraft) → Gives (read_all (extended_text 0) tokens) d [] → IsExtendedDraft text d
-    drafted d r =
-        record { tokens = tokens; cut = cut; spelled = (subst (Told extended_text tokens) r.is (told extended_text is_language tokens)).1 }
+    pub modules_wrong : (f : ReadFault) → Tells (plain_text (length text) tokens) f → IsDraftFault text f
+    modules_wrong (fault.Text b at) t = inr (inl (record { tokens = tokens; cut = cut; is = t }))
+    modules_wrong fault.Memory t = tt
 
-    pub stopped : (f : ReadFault) → Stops (length text) (read_all (extended_text 0) tokens) f → IsDraftFault text f
-    stopped (fault.Text b at) s =
-        inr (record {
-          tokens = tokens;
-          cut = cut;
-          flaw = s.flaw;
-          rest = s.rest;
-          faulty = subst (Told extended_text tokens) s.is (told extended_text is_language tokens);
-          breaks = s.breaks;
-          place = s.place;
-        })
-    stopped fault.Memory s = tt
+    module _ (plain : List Token) (without : plain_text (length text) tokens ≡ Good plain) where
+      pub drafted : (d : ExtendedDraft) → Gives (read_all (extended_text 0) plain) d [] → IsExtendedDraft text d
+      drafted d r =
+          record {
+            tokens = tokens;
+            cut = cut;
+            plain = plain;
+            without = without;
+            spelled = (subst (Told extended_text plain) r.is (told extended_text is_language plain)).1;
+          }
+
+      pub stopped : (f : ReadFault) → Stops (length text) (read_all (extended_text 0) plain) f → IsDraftFault text f
+      stopped (fault.Text b at) s =
+          inr (inr (record {
+            tokens = tokens;
+            cut = cut;
+            plain = plain;
+            without = without;
+            flaw = s.flaw;
+            rest = s.rest;
+            faulty = subst (Told extended_text plain) s.is (told extended_text is_language plain);
+            breaks = s.breaks;
+            place = s.place;
+          }))
+      stopped fault.Memory s = tt

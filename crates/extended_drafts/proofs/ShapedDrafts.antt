@@ -40,6 +40,7 @@ use Rattle.extended_drafts.specs.ExtendedText.{effects, deed, termination, teste
 use Rattle.extended_drafts.specs.ExtendedText.{transition, transitions, leaving, Inner, NoMore, Nested, rowed, bare, nested, inside}
 use Rattle.extended_drafts.specs.ExtendedText.{acting, body, state, region, within, parts, extended, extended_text}
 use Rattle.block_comments.specs.Comments.{without_comments}
+use Rattle.chart_modules.proofs.WellKept.{plain_is_well}
 use Rattle.extended_drafts.specs.Reading.{IsExtendedDraft}
 use Rattle.extended_drafts.specs.Shape.{total, in_states, state_count, transition_count, states_in_region, states_in_state, transitions_in_region}
 use Rattle.extended_drafts.specs.Shape.{transitions_in_state, IsExtendedShaped}
@@ -327,4 +328,6 @@ text_kept = extended_kept (expression 0) (expression_writes language.Chart 0)
 
 -- the draft of each text keeps what the grammar gives
 pub draft_is_shaped : (text : List ℕ) (d : ExtendedDraft) → IsExtendedDraft text d → IsExtendedShaped d
-draft_is_shaped text d h = text_kept.holds h.tokens d (tokens_well language.Chart 0 (without_comments text) h.tokens h.cut) h.spelled
+draft_is_shaped text d h =
+    let well = tokens_well language.Chart 0 (without_comments text) h.tokens h.cut in
+    text_kept.holds h.plain d (plain_is_well (length text) h.tokens h.plain h.without well) h.spelled

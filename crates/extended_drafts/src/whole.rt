@@ -21,6 +21,7 @@ use crate::regions::regions;
 use block_comments::without_comments;
 use chart_drafts::text_parts::{Ahead, name, skip_sign, title};
 use chart_drafts::{DraftChart, DraftRegion};
+use chart_modules::without_modules;
 use drafts::Named;
 use sc_text::ahead::wrong;
 use sc_text::{Language, ReadFault, Sign, Token, Word, tokens};
@@ -30,17 +31,19 @@ use std::alloc::{AllocError, Global};
 /// The levels of regions that may stand inside a region of the chart.
 pub(crate) const INNER_LEVELS: u8 = 31;
 
-/// The draft of a text of an extended chart: what its tokens spell by the grammar, its block comments left out. Err:
-/// the first place where no token of charts and no comment stands; else the first token that can't go on, or with
-/// which only extended charts go on that are nested too deep, or the end of the text, where none may end; or memory
-/// was refused.
-#[tactic(auto, using(crate::proofs::Drafting::scanned, crate::proofs::Drafting::drafted, crate::proofs::Drafting::stopped))]
+/// The draft of a text of an extended chart: what its tokens spell by the grammar, its block comments left out, where
+/// each use of a module stands for the regions of that. Err: the first place where no token of charts and no comment
+/// stands; else the first place where something is wrong with a module, or a use of one; else the first token that
+/// can't go on, or with which only extended charts go on that are nested too deep, or the end of the text, where none
+/// may end; or memory was refused.
+#[tactic(auto, using(crate::proofs::Drafting::scanned, crate::proofs::Drafting::modules_wrong, crate::proofs::Drafting::drafted, crate::proofs::Drafting::stopped))]
 pub fn read_extended_draft(alloc: Global, text: &str) -> Result<ExtendedDraft, ReadFault>
     ensures ok { IfOk result (λ draft. IsExtendedDraft text.now draft) }
     ensures fault { IfErr result (λ fault. IsDraftFault text.now fault) }
 {
     let tokens = tokens_of(alloc, text)?;
-    let draft = whole(alloc, tokens.as_slice(), text.len())?;
+    let plain = without_modules(alloc, tokens, text.len())?;
+    let draft = whole(alloc, plain.as_slice(), text.len())?;
     Ok(draft)
 }
 

@@ -1,0 +1,11 @@
+pub mod Among
+pub mod FreshNames
+pub mod HeadParts
+pub mod LongNames
+pub mod ModulesInOrder
+pub mod Nexts
+pub mod Reserved
+pub mod Rests
+pub mod UseParts
+pub mod UsesInOrder
+pub mod WellKept

@@ -1,0 +1,35 @@
+use Rattle.std.proofs.Common.{rules, ◌≡◌, true, refl}
+use Rattle.grammar.specs.Read.{read, starts}
+use Rattle.sc_text.specs.declared.read_fault.ReadFault.{ReadFault}
+use Rattle.sc_text.specs.declared.sign.Sign.TheVariants as sign
+use Rattle.sc_text.specs.Expression.{text_tokens}
+use Rattle.sc_text.specs.Reading.{Stops}
+use Rattle.chart_drafts.specs.ChartText.{the_sign}
+use Rattle.chart_modules.specs.Phrases.{next_parameter, some_parameters}
+use Rattle.chart_modules.proofs.HeadParts.{parameters_go}
+use Rattle.chart_drafts.proofs.RowReading.{going_ends, going_stops, going_on}
+use Rattle.chart_modules.proofs.heads.some_parameters.Goals as goal
+
+pub loop-used-init : goal.loop-used-init
+loop-used-init c = parameters_go _ _ _ _ _ _ c.in_ok-first.ensures refl c.new-found.ensures c.in_ok-push.ensures.ok
+
+pub returns-then-not-sign_follows : goal.returns-then-not-sign_follows
+returns-then-not-sign_follows c =
+    let over = c.if-not-sign_follows.true in
+    going_ends next_parameter (the_sign sign.Comma) _ _ _ _ c.loop-used.invariant (search (rules, over, c.sign_follows.ensures))
+
+pub returns-in_err-next : goal.returns-in_err-next
+returns-in_err-next c =
+    let on = c.if-not-sign_follows.false in
+    let more : starts text_tokens (the_sign sign.Comma) c.loop-used.ahead.tokens.now ≡ true = search (rules, on, c.sign_follows.ensures) in
+    let stops : (f : ReadFault) → Stops c.args.end (read next_parameter c.loop-used.ahead.tokens.now) f
+    → Stops c.args.end (read some_parameters c.args.ahead.now.tokens.now) f =
+    λ f. going_stops next_parameter (the_sign sign.Comma) _ _ _ _ _ c.args.end f c.loop-used-test.true c.loop-used.invariant more in
+    search (rules, stops)
+
+pub loop-used-preserved : goal.loop-used-preserved
+loop-used-preserved c =
+    let on = c.if-not-sign_follows.false in
+    let more : starts text_tokens (the_sign sign.Comma) c.loop-used.ahead.tokens.now ≡ true = search (rules, on, c.sign_follows.ensures) in
+    going_on next_parameter (the_sign sign.Comma) _ _ _ _ _ _ _ _ c.loop-used-test.true c.loop-used.invariant more c.in_ok-next.ensures
+    c.in_ok-push-2.ensures.ok
