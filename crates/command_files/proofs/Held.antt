@@ -1,13 +1,27 @@
--- What is said of the source in a file is said of the file.
+-- What is said of a text is said of the bytes that are the text, and what of the source in a file of the file.
 use Rattle.std.proofs.Common.{◌≡◌, ℕ, List, Option, Result, Ok, Err, IfOk, IfErr, inr, sym, subst}
 use Rattle.std.specs.Str.{IsUtf8}
 use Rattle.scl.specs.declared.program.Scl.{Scl}
 use Rattle.bytecode.specs.Image.{Image}
+use Rattle.source_programs.specs.declared.fault.SourceFault.{SourceFault}
+use Rattle.source_programs.specs.declared.fault.SourceFault.TheVariants as unspelled
+use Rattle.source_programs.specs.Programs.{LacksProgram, SpellsProgram}
 use Rattle.command_files.specs.declared.fault.LoadFault.{LoadFault}
 use Rattle.command_files.specs.Files.{Contents}
 use Rattle.command_files.specs.Standing.{HasSource}
 use Rattle.command_files.specs.Sources.{IsCompiledFrom, IsSource, FileLacksCompiled, FileLacksProgram, BytesLackProgram}
-use Rattle.command_files.specs.Sources.{SpellsImage, SpellsProgram, BytesLackCompiled}
+use Rattle.command_files.specs.Sources.{SpellsImage, BytesLackCompiled, loaded}
+
+-- what a text spells, the bytes spell that are the text
+pub spelt : (bytes text : List ℕ) (scl : Scl) → text ≡ bytes → SpellsProgram text scl → SpellsProgram bytes scl
+spelt bytes text scl same h = subst (λ b. SpellsProgram b scl) same h
+
+pub unspelt : (bytes text : List ℕ) (f : SourceFault) (e : LoadFault) → text ≡ bytes → IsUtf8 bytes → e ≡ loaded f → LacksProgram text f
+    → BytesLackProgram bytes e
+unspelt bytes text (unspelled.Text f) e same utf8 is h =
+    subst (BytesLackProgram bytes) (sym is) (inr (utf8, subst (λ b. LacksProgram b (unspelled.Text f)) same h))
+unspelt bytes text (unspelled.Expansion f) e same utf8 is h =
+    subst (BytesLackProgram bytes) (sym is) (utf8, subst (λ b. LacksProgram b (unspelled.Expansion f)) same h)
 
 pub compiled : (files : Option Contents) (name bytes : List ℕ) (image : Image) → HasSource files name bytes → SpellsImage bytes image
     → IsCompiledFrom files name image

@@ -6,6 +6,7 @@ ghost use Rattle.command_files.specs.declared.fault.LoadFault.TheVariants.{Memor
 use bytecode::DecodeFault;
 use compiler::CompileFault;
 use sc_text::ReadFault;
+use source_programs::SourceFault;
 use std::alloc::{AllocError, AllocFailed};
 use verifier::Refusal;
 
@@ -26,6 +27,19 @@ pub enum LoadFault {
     File(String),
     /// E65: the text in the file whose name is shown so does not make the image.
     Source(String),
+}
+
+impl From<SourceFault> for LoadFault {
+    ghost use Rattle.command_files.specs.Sources.{loaded};
+
+    ghost from_gives = { λ f e. e ≡ loaded f };
+
+    fn from(fault: SourceFault) -> LoadFault {
+        match fault {
+            SourceFault::Text(fault) => LoadFault::Text(fault),
+            SourceFault::Expansion(fault) => LoadFault::Program(CompileFault::Expansion(fault)),
+        }
+    }
 }
 
 impl From<AllocError> for LoadFault {

@@ -18,6 +18,7 @@ use scl_reader::read_scl;
 use std::alloc::Global;
 
 // The drawing of the chart that a text spells.
+#[tactic(auto, using(crate::proofs::Drawn::no_scl))]
 fn draw_chart(alloc: Global, text: &str) -> Result<String, LoadFault>
     requires { IsIn text.now language.Chart }
     ensures drawn { IfOk result (λ _. HasDrawing text.now) }

@@ -3,9 +3,9 @@
 ghost use Rattle.std.specs.Prelude.{◌≡◌, ◌+◌, IfErr, IfOk, OnOk};
 ghost use Rattle.std.specs.Str.{IsUtf8};
 ghost use Rattle.command_files.specs.Counting as files_count;
-ghost use Rattle.command_files.specs.Making.{Makes};
 ghost use Rattle.command_files.specs.Sources.{BytesLackProgram};
 ghost use Rattle.command_texts.specs.Listing.{BytesLackPlaces, FilesLackPlaces, HasPlaces};
+ghost use Rattle.source_programs.specs.Graphs.{Makes};
 
 use command_files::{
     Files, LoadFault, load_verified, makes_program, shown_name, source_of, text_of,

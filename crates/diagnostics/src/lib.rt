@@ -26,6 +26,6 @@ mod walks;
 mod words;
 
 pub use lines::{marked_line, name_at};
-pub use program_report::program_fault_explained;
+pub use program_report::{program_fault_explained, program_fault_told};
 pub use report::{explained, spot_text, text_fault_explained, told_nowhere};
 pub use spots::{LineColumn, spot_of};

@@ -12,11 +12,12 @@ use crate::spots::spot_of;
 use crate::walks::{conflict_text, first_node, place_text, walk_text};
 use compiler::CompileFault;
 use conflict_edges::ConflictFault;
-use node_sources::{Origin, label_origin, sources_of};
+use node_sources::{Origin, label_origin, sources_in};
 use priority_weights::TablesFault;
 use sc_graph::NodeId;
 use sc_values::Name;
 use scl_graph::GraphFault;
+use source_programs::{ReadSource, read_source};
 use sqlite_items::at;
 use std::alloc::{AllocError, Global};
 use verifier::Refusal;
@@ -33,7 +34,25 @@ pub fn program_fault_explained(
 ) -> Result<String, AllocError>
     ensures { IfOk result (λ report. Tells name.now (fault_text fault.now) (string_bytes report)) }
 {
-    let shown = shown_fault(alloc, text, fault)?;
+    match read_source(alloc, text) {
+        Ok(source) => program_fault_told(alloc, name, Some(source.get()), fault),
+        Err(unread) => {
+            unread.says_of_text()?;
+            program_fault_told(alloc, name, None, fault)
+        }
+    }
+}
+
+/// The same of a text that was read already. None: it was not, and no place is told.
+pub fn program_fault_told(
+    alloc: Global,
+    name: &str,
+    source: Option<&ReadSource<'_>>,
+    fault: &CompileFault,
+) -> Result<String, AllocError>
+    ensures { IfOk result (λ report. Tells name.now (fault_text fault.now) (string_bytes report)) }
+{
+    let shown = shown_in(alloc, source, fault)?;
     let told = in_words(fault);
     let cause = told.cause;
     let help = help(alloc, told.cure)?;
@@ -57,13 +76,29 @@ fn nowhere(alloc: Global) -> Report {
     }
 }
 
+// What of a fault is shown, where its text was read.
+fn shown_in(
+    alloc: Global,
+    source: Option<&ReadSource<'_>>,
+    fault: &CompileFault,
+) -> Result<Report, AllocError> {
+    match source {
+        Some(source) => shown_fault(alloc, source, fault),
+        None => Ok(nowhere(alloc)),
+    }
+}
+
 // What of a fault is shown in its text.
-fn shown_fault(alloc: Global, text: &str, fault: &CompileFault) -> Result<Report, AllocError> {
+fn shown_fault(
+    alloc: Global,
+    source: &ReadSource<'_>,
+    fault: &CompileFault,
+) -> Result<Report, AllocError> {
     match fault {
-        CompileFault::Graph(GraphFault::EmptyLoop(label)) => shown_label(alloc, text, *label),
+        CompileFault::Graph(GraphFault::EmptyLoop(label)) => shown_label(alloc, source, *label),
         CompileFault::Expansion(_) | CompileFault::Graph(_) => Ok(nowhere(alloc)),
         CompileFault::Conflict(_) | CompileFault::Tables(_) | CompileFault::Rule(_) => {
-            shown_nodes(alloc, text, fault)
+            shown_nodes(alloc, source, fault)
         }
     }
 }
@@ -77,10 +112,11 @@ fn place_of(alloc: Global, text: &str, origin: Option<Origin>) -> Result<String,
 }
 
 // A label, at its place.
-fn shown_label(alloc: Global, text: &str, label: Name) -> Result<Report, AllocError> {
-    let Some(origin) = label_origin(alloc, text, label)? else {
+fn shown_label(alloc: Global, source: &ReadSource<'_>, label: Name) -> Result<Report, AllocError> {
+    let Some(origin) = label_origin(alloc, source, label)? else {
         return Ok(nowhere(alloc));
     };
+    let text = source.text();
     let place = place_of(alloc, text, Some(origin))?;
     let body = label_text(alloc, text, label, origin)?;
     Ok(Report { place, body })
@@ -99,11 +135,15 @@ fn label_text(
 }
 
 // The nodes of a fault.
-fn shown_nodes(alloc: Global, text: &str, fault: &CompileFault) -> Result<Report, AllocError> {
-    let Some(sources) = sources_of(alloc, text)? else {
+fn shown_nodes(
+    alloc: Global,
+    source: &ReadSource<'_>,
+    fault: &CompileFault,
+) -> Result<Report, AllocError> {
+    let Some(sources) = sources_in(alloc, source)? else {
         return Ok(nowhere(alloc));
     };
-    let shown = Shown::of(alloc, text, sources)?;
+    let shown = Shown::of(alloc, source.text(), sources)?;
     let body = nodes_of(alloc, &shown, fault)?;
     let place = first_place(alloc, &shown, fault)?;
     Ok(Report { place, body })

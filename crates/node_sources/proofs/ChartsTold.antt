@@ -1,7 +1,6 @@
 -- Each node of the program of a chart comes from an element that has a place.
-use Rattle.std.proofs.Common.{Result, Ok, Err, IfOk, MatchOption}
 use Rattle.std.proofs.Common.{◌≡◌, ℕ, ◌<◌, Option, Some, None, IsSome, is_some, List}
-use Rattle.std.proofs.Common.{map, length, slice_get, refl, sym, ap, subst, ◌∙◌, arith, inl, inr}
+use Rattle.std.proofs.Common.{map, length, slice_get, refl, sym, ap, subst, ◌∙◌, arith}
 use Rattle.core_charts.specs.declared.features.Features.TheVariants as features
 use Rattle.core_charts.specs.Chart.{Chart}
 use Rattle.core_charts.specs.Rules.{IsChart}
@@ -15,15 +14,11 @@ use Rattle.scl.specs.declared.program.Scl.{Scl}
 use Rattle.scl_graph.specs.Answers.{IsGraph}
 use Rattle.scl_graph.specs.Graph.{program_of}
 use Rattle.scl.specs.Numbering.{numbered}
-use Rattle.abort_expansion.specs.Expansion.{IsExpandable, expanded}
+use Rattle.abort_expansion.specs.Expansion.{expanded}
 use Rattle.chart_lowering.specs.Lowering.{lowered}
 use Rattle.graph_origins.specs.Origins.{node_origins}
 use Rattle.lowering_origins.specs.Origins.{point_origins}
 use Rattle.expansion_origins.specs.Origins.{expansion_origins}
-use Rattle.sc_text.specs.declared.language.Language.TheVariants as language
-use Rattle.sc_text.specs.declared.read_fault.FaultKind.{FaultKind}
-use Rattle.sc_text.specs.declared.read_fault.ReadFault.TheVariants as fault
-use Rattle.chart_drafts.specs.Checked.{IsTextFault}
 use Rattle.chart_drafts.proofs.ShapedDrafts.{draft_is_shaped}
 use Rattle.chart_reader.proofs.ChartRulesKept.{chart_kept}
 use Rattle.chart_places.specs.declared.places.Places.{Places}
@@ -39,10 +34,9 @@ use Rattle.node_sources.specs.declared.origin.Origin.{Origin}
 use Rattle.node_sources.specs.declared.origin.Part.{Part}
 use Rattle.node_sources.specs.ChartOrigins.{chart_origins, node_origin, origins_from, standing, standing_if}
 use Rattle.node_sources.specs.Parts.{part_of}
-use Rattle.node_sources.specs.declared.sources.Sources.{Sources}
-use Rattle.node_sources.specs.Sources.{ChartHasNone, ChartSources, IsGraphless, NoneIn}
-
--- ---- what is there
+use Rattle.node_sources.specs.Sources.{ChartSources}
+use Rattle.source_programs.specs.declared.reading.ReadChart.{ReadChart}
+use Rattle.source_programs.specs.Kept.{KeepsChart}
 
 -- as many places as elements
 placed : {A : Type 0} (places : List ℕ) (those : List A) (n : ℕ) → length places ≡ length those → n < length those → Item places n
@@ -118,40 +112,20 @@ module _ (text : List ℕ) (c : Chart) (p : Places) (is : IsPlaced text c p) (sc
   pub sourced : (origins : List Origin) → map Some origins ≡ chart_origins c p q → ChartSources text q origins
   sourced origins each = record { chart = c; places = p; placed = is; scl = scl; lowers = lowers; graph = graph; each = each }
 
+-- what is kept of a text, with its places
+pub placed_in : (text : List ℕ) (scl : Scl) (kept : ReadChart) (places : Places) → KeepsChart text scl kept → places ≡ places_of kept.draft
+    → IsPlaced text kept.chart places
+placed_in text scl kept places h placed = record {
+  draft = kept.draft;
+  drafted = h.drafted.drafted;
+  flawless = h.drafted.flawless;
+  spelled = h.spelled;
+  placed = placed;
+}
+
 -- the elements as they are composed
 pub elements_are : (c core : Chart) (scl : Scl) → core ≡ expanded c → IsSclOf c scl →
     composed (node_origins scl.body) (point_origins core) (expansion_origins c) ≡ node_elements c
 elements_are c core scl same lowers =
     ap (λ body. composed (node_origins body) (point_origins core) (expansion_origins c)) lowers.body
     ∙ ap (λ core. composed (node_origins (lowered (expanded c))) (point_origins core) (expansion_origins c)) same
-
--- ---- what has none
-
-pub no_core : (text : List ℕ) (c : Chart) (p : Places) → IsPlaced text c p → ¬ IsExpandable c → ChartHasNone text
-no_core text c p is none = record { chart = c; places = p; placed = is; none = inl none }
-
-pub no_graph : (text : List ℕ) (c : Chart) (p : Places) (scl : Scl) → IsPlaced text c p → IsSclOf c scl → IsGraphless scl → ChartHasNone text
-no_graph text c p scl is lowers none = record { chart = c; places = p; placed = is; none = inr (scl, lowers, none) }
-
-pub faulty : (text : List ℕ) (b : FaultKind) (at : ℕ) → IsTextFault text (fault.Text b at) → NoneIn language.Chart text
-faulty text b at h = inl (record { broken = b; at = at; is = h })
-
-pub read : {E : Type 0} (text : List ℕ) (r : Result (Option Sources) E) →
-    IfOk r (λ found. MatchOption found (ChartHasNone text) (λ s. ChartSources text s.program s.origins)) →
-    IfOk r (λ found. MatchOption found (NoneIn language.Chart text) (λ s. ChartSources text s.program s.origins))
-read text (Err e) h = tt
-read text (Ok None) h = inr h
-read text (Ok (Some s)) h = h
-
--- ---- the SCL program of a chart
-
-pub lowering_of : (chart core : Chart) (scl : Scl) → IsExpandable chart → core ≡ expanded chart → IsChart features.Core core → scl.name ≡ core.name →
-    scl.variables ≡ core.variables → scl.body ≡ lowered core → IsSclOf chart scl
-lowering_of chart core scl expandable same rules named declared body = record {
-  expandable = expandable;
-  core = subst (IsChart features.Core) same rules;
-  rules = scl.kept;
-  named = named ∙ ap (λ (c : Chart). c.name) same;
-  declared = declared ∙ ap (λ (c : Chart). c.variables) same;
-  body = body ∙ ap lowered same;
-}

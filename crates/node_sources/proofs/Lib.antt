@@ -1,6 +1,5 @@
 mod Items
 mod Branches
-mod Graphless
 mod ChartsTold
 mod StatementPoints
 mod StatementsPlaced

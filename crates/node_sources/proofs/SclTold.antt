@@ -1,7 +1,6 @@
 -- Each node of the program of an SCL text comes from a point that has a spot.
-use Rattle.std.proofs.Common.{Result, Ok, Err, IfOk, MatchOption}
 use Rattle.std.proofs.Common.{◌≡◌, ℕ, suc, ◌<◌, Option, Some, None, IsSome, is_some, List, [], ◌∷◌}
-use Rattle.std.proofs.Common.{map, length, slice_get, refl, sym, ap, subst, ◌∙◌, arith, inl, inr}
+use Rattle.std.proofs.Common.{map, length, slice_get, refl, sym, ap, subst, ◌∙◌, arith}
 use Rattle.std.proofs.lemmas.Option.{slice_get-get_or}
 use Rattle.std.specs.List.{slice_index_or}
 use Rattle.grammar.specs.Grammar.{spells}
@@ -12,16 +11,15 @@ use Rattle.sc_graph.specs.Program.{Program}
 use Rattle.sc_graph.specs.declared.program.Step.{Step}
 use Rattle.sc_text.specs.declared.language.Language.TheVariants as language
 use Rattle.sc_text.specs.declared.read_fault.FaultKind.{FaultKind}
-use Rattle.sc_text.specs.declared.read_fault.ReadFault.TheVariants as fault
 use Rattle.sc_text.specs.declared.token.Token.{Token}
 use Rattle.sc_text.specs.Reading.{place_of}
 use Rattle.sc_text.specs.Tokens.{AreTokens, IsFirstFault}
-use Rattle.sc_text.proofs.OneCut.{one_list}
+use Rattle.sc_text.proofs.OneCut.{no_fault, one_list}
 use Rattle.scl.specs.declared.program.Scl.{Scl}
 use Rattle.scl.specs.Numbering.{numbered}
 use Rattle.scl.specs.declared.statement.Statement.{Statement}
 use Rattle.scl_drafts.specs.declared.draft.Draft.{Draft}
-use Rattle.scl_drafts.specs.Checked.{IsFlawless, IsTextFault}
+use Rattle.scl_drafts.specs.Checked.{IsFlawless}
 use Rattle.scl_drafts.specs.Program.{scl as scl_grammar}
 use Rattle.scl_drafts.specs.Statements.{Statements}
 use Rattle.scl_reader.specs.Resolved.{IsProgramOf, statements_of}
@@ -36,8 +34,7 @@ use Rattle.node_sources.specs.declared.origin.Origin.{Origin}
 use Rattle.node_sources.specs.declared.statements.StatementPlace.{StatementPlace}
 use Rattle.node_sources.specs.SclLaws.{OpeningStands}
 use Rattle.node_sources.specs.SclOrigins.{at_first, at_second, in_row, one_place, point_origin, scl_origins, spots_in, spots_of}
-use Rattle.node_sources.specs.declared.sources.Sources.{Sources}
-use Rattle.node_sources.specs.Sources.{IsGraphless, NoneIn, SclHasNone, SclSources}
+use Rattle.node_sources.specs.Sources.{SclSources}
 use Rattle.node_sources.proofs.Items.{Item, item_below}
 use Rattle.node_sources.proofs.StatementsPlaced.{Stand, as_many, row_stands, stand_both}
 use Rattle.node_sources.proofs.StatementsSpelled.{Good, text_opened, text_spelled}
@@ -116,22 +113,9 @@ sourced text d tokens scl q origins is cut spelled graph each = record {
   each = each;
 }
 
-pub no_graph : (text : List ℕ) (d : Draft) (scl : Scl) → IsFlawless text d → IsProgramOf d scl → IsGraphless scl → SclHasNone text
-no_graph text d scl is spelled none = record { draft = d; drafted = is; scl = scl; spelled = spelled; none = none }
-
--- a text with a fault, as one that is not cut into tokens
-pub faulty : (text : List ℕ) (b : FaultKind) (at : ℕ) → IsTextFault text (fault.Text b at) → NoneIn language.Scl text
-faulty text b at h = inl (record { broken = b; at = at; is = h })
-
-pub not_cut : (text : List ℕ) (b : FaultKind) (at : ℕ) → IsFirstFault language.Scl 0 text b at → NoneIn language.Scl text
-not_cut text b at h = inl (record { broken = b; at = at; is = inl (inl h) })
-
-pub read : {E : Type 0} (text : List ℕ) (r : Result (Option Sources) E) →
-    IfOk r (λ found. MatchOption found (SclHasNone text) (λ s. SclSources text s.program s.origins)) →
-    IfOk r (λ found. MatchOption found (NoneIn language.Scl text) (λ s. SclSources text s.program s.origins))
-read text (Err e) h = tt
-read text (Ok None) h = inr h
-read text (Ok (Some s)) h = h
+-- a text that has a draft is cut into tokens
+pub never_faulty : (text : List ℕ) (d : Draft) (b : FaultKind) (at : ℕ) → IsFlawless text d → IsFirstFault language.Scl 0 text b at → ⊥
+never_faulty text d b at is h = no_fault language.Scl text is.drafted.tokens b at is.drafted.cut h
 
 -- each of these has an origin
 pub not_missing : (spots : List StatementPlace) (nodes : List NodeOrigin) (k : ℕ) (d : NodeOrigin) (r : Option Origin) →

@@ -1,47 +1,26 @@
-//! The program of a chart's text, and the origins of its nodes.
+//! The origins of the nodes of the program of a chart's text.
 
-ghost use Rattle.std.specs.Prelude.{◌≡◌, IfOk, MatchOption, Some, map};
-ghost use Rattle.abort_expansion.specs.Expansion.{IsExpandable, expanded};
+ghost use Rattle.std.specs.Prelude.{◌≡◌, IfOk, Some, map};
+ghost use Rattle.abort_expansion.specs.Expansion.{expanded};
 ghost use Rattle.chart_places.specs.Read.{IsPlaced};
 ghost use Rattle.compiler.specs.Charts.{IsSclOf};
 ghost use Rattle.node_elements.specs.Origins.{node_elements};
 ghost use Rattle.scl_graph.specs.Answers.{IsGraph};
 ghost use Rattle.node_sources.specs.ChartOrigins.{chart_origins};
-ghost use Rattle.sc_text.specs.declared.language.Language.TheVariants as language;
-ghost use Rattle.node_sources.specs.Sources.{ChartHasNone, ChartSources, NoneIn};
+ghost use Rattle.node_sources.specs.Sources.{ChartSources};
+ghost use Rattle.source_programs.specs.Kept.{KeepsChart};
 
 use crate::chart_origins::origins_of;
-use crate::graphs::graph;
 use crate::origin::Origin;
-use crate::sources::Sources;
-use abort_expansion::{ExpandFault, expand};
 use chart_elements::Element;
-use chart_lowering::lower;
-use chart_places::{Placed, places_tell_texts, read_placed};
+use chart_places::{Places, places_of, places_tell_texts};
 use core_charts::{Chart, CoreChart};
 use node_elements::elements_tell_nodes;
 use sc_graph::Program;
-use sc_text::ReadFault;
 use scl::Scl;
+use source_programs::ReadChart;
 use sqlite_items::Items;
 use std::alloc::{AllocError, Global};
-
-/// The core chart of a chart, and its SCL program. None: it has none. Err: memory was refused.
-#[tactic(auto, using(crate::proofs::ChartsTold::lowering_of))]
-pub(crate) fn lowered(alloc: Global, chart: &Chart) -> Result<Option<(CoreChart, Scl)>, AllocError>
-    ensures { IfOk result (λ found. MatchOption found (¬ IsExpandable chart.now)
-        (λ made. (made.0 ≡ expanded chart.now) × IsSclOf chart.now made.1)) }
-{
-    let core = match expand(alloc, chart) {
-        Ok((core, _)) => core,
-        Err(ExpandFault::Memory) => return Err(AllocError),
-        Err(ExpandFault::Limit) => return Ok(None),
-    };
-    // It keeps the rules of core charts.
-    let _regions = core.regions();
-    let scl = lower(alloc, &core)?;
-    Ok(Some((core, scl)))
-}
 
 // The elements from which the nodes of the program of a chart come.
 #[tactic(auto, using(crate::proofs::ChartsTold::elements_are))]
@@ -63,51 +42,46 @@ fn elements_of(
 fn origins_in(
     alloc: Global,
     text: &str,
-    placed: &Placed,
+    chart: &Chart,
+    places: &Places,
     scl: &Scl,
     program: &Program,
     elements: &[Option<Element>],
 ) -> Result<Items<Origin>, AllocError>
-    requires placed { IsPlaced text.now placed.now.chart placed.now.places }
-    requires lowers { IsSclOf placed.now.chart scl.now }
+    requires placed { IsPlaced text.now chart.now places.now }
+    requires lowers { IsSclOf chart.now scl.now }
     requires graph { IsGraph scl.now program.now }
-    requires elements { elements.now ≡ node_elements placed.now.chart }
-    ensures { IfOk result (λ origins. map Some origins
-        ≡ chart_origins placed.now.chart placed.now.places program.now) }
+    requires elements { elements.now ≡ node_elements chart.now }
+    ensures { IfOk result (λ origins. map Some origins ≡ chart_origins chart.now places.now program.now) }
 {
     elements_tell_nodes();
     places_tell_texts();
-    origins_of(alloc, &placed.places, program, elements)
+    origins_of(alloc, places, program, elements)
 }
 
-// The program of the chart that a text spells, and the origins of its nodes.
-#[tactic(auto, using(crate::proofs::ChartsTold::no_core))]
-fn sources_in(alloc: Global, text: &str, placed: &Placed) -> Result<Option<Sources>, AllocError>
-    requires { IsPlaced text.now placed.now.chart placed.now.places }
-    ensures { IfOk result (λ found. MatchOption found (ChartHasNone text.now)
-        (λ s. ChartSources text.now s.program s.origins)) }
+/// The origins of the nodes of the program of a chart's text. Err: memory was refused.
+#[tactic(auto, using(crate::proofs::ChartsTold::placed_in))]
+pub(crate) fn origins_of_chart(
+    alloc: Global,
+    text: &str,
+    kept: &ReadChart,
+    scl: &Scl,
+    program: &Program,
+) -> Result<Items<Origin>, AllocError>
+    requires kept { KeepsChart text.now scl.now kept.now }
+    requires graph { IsGraph scl.now program.now }
+    ensures { IfOk result (ChartSources text.now program.now) }
 {
-    let Some((core, scl)) = lowered(alloc, &placed.chart)? else {
-        return Ok(None);
-    };
-    let Some(program) = graph(alloc, &scl)? else {
-        return Ok(None);
-    };
-    let elements = elements_of(alloc, &placed.chart, &core, &scl)?;
-    let origins = origins_in(alloc, text, placed, &scl, &program, elements.as_slice())?;
-    Ok(Some(Sources { program, origins }))
-}
-
-/// The program of a chart's text, and the origins of its nodes. None: the text has a fault, or its chart no program.
-/// Err: memory was refused.
-#[tactic(auto, using(crate::proofs::ChartsTold::faulty, crate::proofs::ChartsTold::read))]
-pub(crate) fn chart_sources(alloc: Global, text: &str) -> Result<Option<Sources>, AllocError>
-    ensures { IfOk result (λ found. MatchOption found (NoneIn language.Chart text.now)
-        (λ s. ChartSources text.now s.program s.origins)) }
-{
-    match read_placed(alloc, text) {
-        Ok(placed) => sources_in(alloc, text, &placed),
-        Err(ReadFault::Memory) => Err(AllocError),
-        Err(ReadFault::Text(_, _)) => Ok(None),
-    }
+    let places = places_of(alloc, &kept.draft)?;
+    let elements = elements_of(alloc, &kept.chart, &kept.core, scl)?;
+    let origins = origins_in(
+        alloc,
+        text,
+        &kept.chart,
+        &places,
+        scl,
+        program,
+        elements.as_slice(),
+    )?;
+    Ok(origins)
 }

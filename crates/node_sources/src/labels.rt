@@ -4,32 +4,35 @@ ghost use Rattle.std.specs.Prelude.{◌≡◌, ◌++◌, ◌↔◌, IfOk, IfSome
 ghost use Rattle.graph_origins.specs.Points.{in_row, points_of, text_points};
 ghost use Rattle.node_sources.specs.Labels.{ChartLabel, IsLabel, IsLabelOrigin, SclLabel};
 ghost use Rattle.node_sources.specs.Labels.{label_at, label_origin, label_part};
+ghost use Rattle.source_programs.specs.Kept.{KeepsChart, KeepsDraft};
 
 use crate::chart_origins::element_origin;
-use crate::chart_sources::lowered;
 use crate::origin::{Origin, Part};
-use crate::scl_sources::first_origin;
+use crate::scl_sources::{first_origin, tokens_of};
 use crate::statements::spots_of;
 use chart_elements::Element;
-use chart_places::{Places, read_placed};
+use chart_places::{Places, places_of};
 use node_elements::point_elements;
-use sc_text::{Language, ReadFault, language_of, tokens};
 use sc_values::Name;
 use scl::{Scl, Statement};
-use scl_drafts::read_checked;
-use scl_reader::program_of;
+use scl_drafts::Draft;
+use source_programs::{ReadChart, ReadSource, Reading};
 use sqlite_items::{Items, at};
 use std::alloc::{AllocError, Global};
 
-/// Where the label of a program stands: in SCL text the label itself, in a chart the state, or the region at its end,
-/// for which the lowering makes it. None: the text has no such label. Err: memory was refused.
-#[tactic(auto, using(crate::proofs::LanguagesTold::scl_label_told, crate::proofs::LanguagesTold::chart_label_told))]
-pub fn label_origin(alloc: Global, text: &str, label: Name) -> Result<Option<Origin>, AllocError>
-    ensures { IfOk result (λ found. IfSome found (IsLabelOrigin text.now label)) }
+/// Where the label of the program of a text stands: in SCL text the label itself, in a chart the state, or the region
+/// at its end, for which the lowering makes it. None: the text has no such label. Err: memory was refused.
+#[tactic(auto, using(crate::proofs::LanguagesTold::chart_kept, crate::proofs::LanguagesTold::draft_kept, crate::proofs::LanguagesTold::scl_label_told, crate::proofs::LanguagesTold::chart_label_told))]
+pub fn label_origin(
+    alloc: Global,
+    source: &ReadSource<'_>,
+    label: Name,
+) -> Result<Option<Origin>, AllocError>
+    ensures { IfOk result (λ found. IfSome found (IsLabelOrigin source.now.text label)) }
 {
-    match language_of(text) {
-        Language::Scl => scl_label(alloc, text, label),
-        Language::Chart => chart_label(alloc, text, label),
+    match source.reading() {
+        Reading::Chart(kept) => chart_label(alloc, source.text(), kept, source.scl(), label),
+        Reading::Scl(draft) => scl_label(alloc, source.text(), draft, source.scl(), label),
     }
 }
 
@@ -135,43 +138,39 @@ fn origin_of(places: &Places, elements: &[Option<Element>], number: usize) -> Op
     }
 }
 
-// The label of this name in the lowering of a chart.
-#[tactic(auto, using(crate::proofs::LabelsTold::chart_labelled))]
-fn chart_label(alloc: Global, text: &str, label: Name) -> Result<Option<Origin>, AllocError>
+// The label of this name in the lowering of the chart of a text.
+#[tactic(auto, using(crate::proofs::ChartsTold::placed_in))]
+fn chart_label(
+    alloc: Global,
+    text: &str,
+    kept: &ReadChart,
+    scl: &Scl,
+    label: Name,
+) -> Result<Option<Origin>, AllocError>
+    requires { KeepsChart text.now scl.now kept.now }
     ensures { IfOk result (λ found. IfSome found (ChartLabel text.now label)) }
 {
-    let placed = match read_placed(alloc, text) {
-        Ok(placed) => placed,
-        Err(ReadFault::Memory) => return Err(AllocError),
-        Err(ReadFault::Text(_, _)) => return Ok(None),
-    };
-    let Some((core, scl)) = lowered(alloc, &placed.chart)? else {
+    let Some(number) = label_point(alloc, scl, label)? else {
         return Ok(None);
     };
-    let Some(number) = label_point(alloc, &scl, label)? else {
-        return Ok(None);
-    };
-    let elements = point_elements(alloc, &placed.chart, &core)?;
-    Ok(origin_of(&placed.places, elements.as_slice(), number))
+    let elements = point_elements(alloc, &kept.chart, &kept.core)?;
+    let places = places_of(alloc, &kept.draft)?;
+    Ok(origin_of(&places, elements.as_slice(), number))
 }
 
-// The label of this name in SCL text.
-#[tactic(auto, using(scl_reader::proofs::Reading::unflawed, scl_reader::proofs::Reading::shaped))]
-fn scl_label(alloc: Global, text: &str, label: Name) -> Result<Option<Origin>, AllocError>
+// The label of this name in the draft of an SCL text.
+fn scl_label(
+    alloc: Global,
+    text: &str,
+    draft: &Draft,
+    scl: &Scl,
+    label: Name,
+) -> Result<Option<Origin>, AllocError>
+    requires { KeepsDraft text.now scl.now draft.now }
     ensures { IfOk result (λ found. IfSome found (SclLabel text.now label)) }
 {
-    let draft = match read_checked(alloc, text) {
-        Ok(draft) => draft,
-        Err(ReadFault::Memory) => return Err(AllocError),
-        Err(ReadFault::Text(_, _)) => return Ok(None),
-    };
-    let tokens = match tokens(alloc, Language::Scl, text) {
-        Ok(tokens) => tokens,
-        Err(ReadFault::Memory) => return Err(AllocError),
-        Err(ReadFault::Text(_, _)) => return Ok(None),
-    };
-    let scl = program_of(alloc, &draft)?;
-    let Some(number) = label_point(alloc, &scl, label)? else {
+    let tokens = tokens_of(alloc, text, draft)?;
+    let Some(number) = label_point(alloc, scl, label)? else {
         return Ok(None);
     };
     let spots = spots_of(alloc, tokens.as_slice(), draft.statements.as_slice())?;

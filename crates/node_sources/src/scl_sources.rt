@@ -1,23 +1,23 @@
-//! The program of an SCL text, and the origins of its nodes.
+//! The origins of the nodes of the program of an SCL text.
 
-ghost use Rattle.std.specs.Prelude.{◌≡◌, ℕ, IfOk, IsSome, MatchOption, Some, map, slice_get};
+ghost use Rattle.std.specs.Prelude.{◌≡◌, ℕ, IfOk, IsSome, Some, map, slice_get};
 ghost use Rattle.graph_origins.specs.declared.origin.NodeOrigin.{NodeOrigin};
 ghost use Rattle.sc_text.specs.Tokens.{AreTokens};
 ghost use Rattle.sc_text.specs.declared.language.Language.TheVariants as language;
 ghost use Rattle.scl_drafts.specs.Checked.{IsFlawless};
 ghost use Rattle.scl_reader.specs.Resolved.{IsProgramOf};
 ghost use Rattle.node_sources.specs.SclOrigins.{at_first, point_origin, scl_origins};
-ghost use Rattle.node_sources.specs.Sources.{NoneIn, SclHasNone, SclSources};
+ghost use Rattle.node_sources.specs.Sources.{SclSources};
+ghost use Rattle.sc_graph.specs.Program.{Program};
+ghost use Rattle.scl_graph.specs.Answers.{IsGraph};
+ghost use Rattle.source_programs.specs.Kept.{KeepsDraft};
 
-use crate::graphs::graph;
 use crate::origin::Origin;
-use crate::sources::Sources;
 use crate::statements::{StatementPlace, spots_of};
 use graph_origins::{NodeOrigin, node_origins, origins_tell_nodes};
 use sc_text::{Language, ReadFault, Token, tokens};
 use scl::Scl;
-use scl_drafts::{Draft, read_checked};
-use scl_reader::program_of;
+use scl_drafts::Draft;
 use sqlite_items::{Items, at};
 use std::alloc::{AllocError, Global};
 
@@ -84,42 +84,33 @@ fn origins_in(
     origins_at(alloc, spots.as_slice(), nodes.as_slice())
 }
 
-// The program of a draft of a text with these tokens, and the origins of its nodes.
-#[tactic(auto, using(scl_reader::proofs::Reading::unflawed))]
-fn sources_in(
+// The tokens of a text that has a draft.
+pub(crate) fn tokens_of(
     alloc: Global,
     text: &str,
     draft: &Draft,
-    tokens: &[Token],
-) -> Result<Option<Sources>, AllocError>
-    requires drafted { IsFlawless text.now draft.now }
-    requires cut { AreTokens language.Scl 0 text.now tokens.now }
-    ensures { IfOk result (λ found. MatchOption found (SclHasNone text.now)
-        (λ s. SclSources text.now s.program s.origins)) }
+) -> Result<Items<Token>, AllocError>
+    requires { IsFlawless text.now draft.now }
+    ensures { IfOk result (AreTokens language.Scl 0 text.now) }
 {
-    let scl = program_of(alloc, draft)?;
-    let Some(program) = graph(alloc, &scl)? else {
-        return Ok(None);
-    };
-    let origins = origins_in(alloc, text, draft, tokens, &scl)?;
-    Ok(Some(Sources { program, origins }))
+    match tokens(alloc, Language::Scl, text) {
+        Ok(tokens) => Ok(tokens),
+        Err(ReadFault::Memory) => Err(AllocError),
+        Err(ReadFault::Text(_, _)) => unreachable!(),
+    }
 }
 
-/// The program of an SCL text, and the origins of its nodes. None: the text has a fault, or its program no graph. Err:
-/// memory was refused.
-#[tactic(auto, using(crate::proofs::SclTold::faulty, crate::proofs::SclTold::not_cut, crate::proofs::SclTold::read))]
-pub(crate) fn scl_sources(alloc: Global, text: &str) -> Result<Option<Sources>, AllocError>
-    ensures { IfOk result (λ found. MatchOption found (NoneIn language.Scl text.now)
-        (λ s. SclSources text.now s.program s.origins)) }
+/// The origins of the nodes of the program of an SCL text. Err: memory was refused.
+pub(crate) fn origins_of_scl(
+    alloc: Global,
+    text: &str,
+    draft: &Draft,
+    scl: &Scl,
+) -> Result<Items<Origin>, AllocError>
+    requires { KeepsDraft text.now scl.now draft.now }
+    ensures { IfOk result (λ origins. (p : Program) → IsGraph scl.now p → SclSources text.now p origins) }
 {
-    let draft = match read_checked(alloc, text) {
-        Ok(draft) => draft,
-        Err(ReadFault::Memory) => return Err(AllocError),
-        Err(ReadFault::Text(_, _)) => return Ok(None),
-    };
-    match tokens(alloc, Language::Scl, text) {
-        Ok(tokens) => sources_in(alloc, text, &draft, tokens.as_slice()),
-        Err(ReadFault::Memory) => Err(AllocError),
-        Err(ReadFault::Text(_, _)) => Ok(None),
-    }
+    let tokens = tokens_of(alloc, text, draft)?;
+    let origins = origins_in(alloc, text, draft, tokens.as_slice(), scl)?;
+    Ok(origins)
 }

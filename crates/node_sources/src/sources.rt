@@ -1,31 +1,67 @@
-//! From a text to its program and the origins of its nodes.
+//! The program of a text with the origins of its nodes.
 
-ghost use Rattle.std.specs.Prelude.{IfOk, MatchOption};
-ghost use Rattle.node_sources.specs.Sources.{AreSources, HasNoProgram};
+ghost use Rattle.std.specs.Prelude.{◌≡◌, IfOk, MatchOption};
+ghost use Rattle.node_sources.specs.Sources.{AreSources};
+ghost use Rattle.scl_graph.specs.Answers.{IsGraph};
+ghost use Rattle.source_programs.specs.Graphs.{MakesNone, SpellsGraphless};
 
-use crate::chart_sources::chart_sources;
+use crate::chart_sources::origins_of_chart;
 use crate::origin::Origin;
-use crate::scl_sources::scl_sources;
+use crate::scl_sources::origins_of_scl;
 use sc_graph::Program;
-use sc_text::{Language, language_of};
+use source_programs::{ReadSource, Reading, graph_of_source, read_source};
 use sqlite_items::Items;
 use std::alloc::{AllocError, Global};
 
-/// The program of a text, and for each of its nodes the origin.
-#[derive(Drop)]
+/// The program of a text, and for each of its nodes, in order, where it comes from.
+#[derive(Debug, Drop)]
 pub struct Sources {
     pub program: Program,
     pub origins: Items<Origin>,
 }
 
-/// The program of a text with the origins of its nodes. None: the text has no program. Err: memory was refused.
-#[tactic(auto, using(crate::proofs::LanguagesTold::scl_told, crate::proofs::LanguagesTold::chart_told))]
+// The origins of the nodes of the program of a text that was read.
+#[tactic(auto, using(crate::proofs::LanguagesTold::chart_kept, crate::proofs::LanguagesTold::draft_kept, crate::proofs::LanguagesTold::chart_told, crate::proofs::LanguagesTold::scl_told))]
+fn origins_in(
+    alloc: Global,
+    source: &ReadSource<'_>,
+    program: &Program,
+) -> Result<Items<Origin>, AllocError>
+    requires { IsGraph source.now.scl program.now }
+    ensures { IfOk result (AreSources source.now.text program.now) }
+{
+    match source.reading() {
+        Reading::Chart(kept) => {
+            origins_of_chart(alloc, source.text(), kept, source.scl(), program)
+        }
+        Reading::Scl(draft) => origins_of_scl(alloc, source.text(), draft, source.scl()),
+    }
+}
+
+/// The program of a text that was read, with the origins of its nodes. None: its SCL program has no graph. Err: memory
+/// was refused.
+pub fn sources_in(alloc: Global, source: &ReadSource<'_>) -> Result<Option<Sources>, AllocError>
+    ensures { IfOk result (λ found. MatchOption found (SpellsGraphless source.now.text)
+        (λ s. AreSources source.now.text s.program s.origins)) }
+{
+    let Some(program) = graph_of_source(alloc, source)? else {
+        return Ok(None);
+    };
+    let origins = origins_in(alloc, source, &program)?;
+    Ok(Some(Sources { program, origins }))
+}
+
+/// The program of a text with the origins of its nodes. None: the text makes no program. Err: memory was refused.
+#[tactic(auto, using(crate::proofs::LanguagesTold::sources_told, source_programs::proofs::Making::spells_none))]
 pub fn sources_of(alloc: Global, text: &str) -> Result<Option<Sources>, AllocError>
-    ensures { IfOk result (λ found. MatchOption found (HasNoProgram text.now)
+    ensures { IfOk result (λ found. MatchOption found (MakesNone text.now)
         (λ s. AreSources text.now s.program s.origins)) }
 {
-    match language_of(text) {
-        Language::Scl => scl_sources(alloc, text),
-        Language::Chart => chart_sources(alloc, text),
+    match read_source(alloc, text) {
+        Ok(source) => sources_in(alloc, source.get()),
+        Err(fault) => {
+            fault.says_of_text()?;
+            Ok(None)
+        }
     }
 }

@@ -3,5 +3,5 @@ use Rattle.node_sources.proofs.chart_sources.origins_in.Goals as goal
 
 pub origins_of-requires : goal.origins_of-requires
 origins_of-requires c =
-    each_located c.args.text.now c.args.placed.now.chart c.args.placed.now.places c.requires.placed c.args.scl.now c.requires.lowers
+    each_located c.args.text.now c.args.chart.now c.args.places.now c.requires.placed c.args.scl.now c.requires.lowers
     c.args.program.now c.requires.graph c.places_tell_texts.ensures c.elements_tell_nodes.ensures c.args.elements.now c.requires.elements

@@ -6,7 +6,7 @@ use Rattle.node_sources.proofs.labels.scl_label.Goals as goal
 
 pub returns : goal.returns
 returns c =
-    let label : IsLabel c.in_ok-scl.scl c.args.label c.in-Some.number = rw c.in-Some.is at c.in_ok-number.ensures in
-    let made : c.as_slice-3.result.now ≡ spots_of c.in-Ok-tokens.tokens c.in-Ok.draft.statements = search rules in
-    scl_labelled c.args.text.now c.in-Ok.draft c.in-Ok-tokens.tokens c.in_ok-scl.scl c.args.label c.in-Some.number c.as_slice-3.result.now
-    c.first_origin.result c.in-Ok.ensures.ok c.in-Ok-tokens.ensures.ok c.in_ok-scl.ensures label made c.first_origin.ensures
+    let label : IsLabel c.args.scl.now c.args.label c.in-Some.number = rw c.in-Some.is at c.in_ok-number.ensures in
+    let made : c.as_slice-3.result.now ≡ spots_of c.in_ok-tokens.tokens c.args.draft.now.statements = search rules in
+    scl_labelled c.args.text.now c.args.draft.now c.in_ok-tokens.tokens c.args.scl.now c.args.label c.in-Some.number c.as_slice-3.result.now
+    c.first_origin.result c.requires.drafted c.in_ok-tokens.ensures c.requires.spelled label made c.first_origin.ensures

@@ -1,5 +1,0 @@
-use Rattle.std.proofs.Common.{inr}
-use Rattle.command_files.proofs.compiled.compile_bytes.Goals as goal
-
-pub returns-clause-fault : goal.returns-clause-fault
-returns-clause-fault c = inr (c.in_ok-scl.scl, c.in_ok-scl.ensures.text, c.in_ok-scl.ensures.read, c.in-Err.ensures.refused)

@@ -1,0 +1,81 @@
+//! A source text that is read once: for its SCL program, and for all that is to be told of it.
+
+ghost use Rattle.std.specs.Prelude.{◌≡◌, IfErr, IfOk};
+ghost use Rattle.source_programs.specs.Kept.{Keeps};
+ghost use Rattle.source_programs.specs.Programs.{LacksProgram, SpellsProgram};
+
+use crate::fault::SourceFault;
+use crate::reading::{Reading, read_in_language};
+use scl::Scl;
+use sqlite_items::Boxed;
+use std::alloc::Global;
+use std::marker::Model;
+
+/// A source text that was read, with its SCL program. Contracts see both.
+#[derive(Drop)]
+pub struct ReadSource<'a> {
+    text: &'a str,
+    scl: Scl,
+    reading: Reading,
+}
+
+impl<'a> Model for ReadSource<'a> {
+    ghost use Rattle.std.specs.Coded.{codes};
+    ghost use Rattle.scl.specs.contracts.statement.Statement as statement;
+    ghost use Rattle.source_programs.specs.Kept.{Keeps, Source};
+
+    ghost Value = { Source };
+
+    ghost coded = { Prim.hlevel (codes, statement.the_row.coded) };
+
+    ghost view = { λ s. record { text = s.text.now; scl = s.scl } };
+
+    ghost invariant = { λ s. Keeps s.text.now s.scl s.reading };
+}
+
+/// A source text as it is read in the language that its first token tells, in a box. Err: the first fault of the text,
+/// or E07 where the expansion of its chart passes a limit; or memory was refused.
+#[tactic(auto, using(crate::proofs::Spelling::spells, crate::proofs::Spelling::no_room))]
+pub fn read_source<'a>(alloc: Global, text: &'a str) -> Result<Boxed<ReadSource<'a>>, SourceFault>
+    ensures text { IfOk result (λ source. source.text ≡ text.now) }
+    ensures spells { IfOk result (λ source. SpellsProgram text.now source.scl) }
+    ensures fault { IfErr result (LacksProgram text.now) }
+{
+    let (reading, scl) = read_in_language(alloc, text)?;
+    Ok(Boxed::new(alloc, ReadSource { text, scl, reading })?)
+}
+
+impl<'a> ReadSource<'a> {
+    /// The text.
+    pub fn text(&self) -> &'a str
+        ensures { result.now ≡ self.now.text }
+    {
+        self.text
+    }
+
+    /// Its SCL program.
+    pub fn scl(&self) -> &Scl
+        ensures { result.now ≡ self.now.scl }
+    {
+        &self.scl
+    }
+
+    /// Its SCL program; what else was read is let go.
+    pub fn into_scl(self) -> Scl
+        ensures { result ≡ self.entry.scl }
+    {
+        let ReadSource {
+            text: _,
+            scl,
+            reading: _,
+        } = self;
+        scl
+    }
+
+    /// What it was read into.
+    pub fn reading(&self) -> &Reading
+        ensures { Keeps self.now.text self.now.scl result.now }
+    {
+        &self.reading
+    }
+}
