@@ -29,6 +29,16 @@ impl Opened {
         Opened { verified, states }
     }
 
+    /// The same image, with these states.
+    pub fn with_states(self, states: StateTable) -> Opened
+        ensures { result ≡ record { image = self.image; states = states } }
+    {
+        Opened {
+            verified: self.verified,
+            states,
+        }
+    }
+
     /// Its image, which is valid.
     pub fn verified(&self) -> &Verified
         ensures { result.now ≡ self.now.image }

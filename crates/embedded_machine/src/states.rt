@@ -58,6 +58,20 @@ impl StateTable {
         Ok(StateTable { nodes, paths })
     }
 
+    /// For which of them each node stands.
+    pub fn nodes(&self) -> &[Option<u32>]
+        ensures { result.now ≡ self.now.nodes }
+    {
+        self.nodes.as_slice()
+    }
+
+    /// Those of these paths, for which nodes stand so.
+    pub fn named(nodes: Items<Option<u32>>, paths: Vec<String>) -> StateTable
+        ensures { result ≡ record { nodes = nodes; paths = map string_bytes paths.items } }
+    {
+        StateTable { nodes, paths }
+    }
+
     /// How many there are.
     pub fn count(&self) -> usize
         ensures { result ≡ length self.now.paths }

@@ -7,12 +7,15 @@ use Rattle.core_charts.specs.Chart.{Chart}
 use Rattle.chart_reader.specs.Read.{IsRead}
 use Rattle.node_states.specs.StandsFor.{stands_for}
 use Rattle.state_paths.specs.Paths.{paths_of}
+use Rattle.author_states.specs.Author.{AuthorsStates, author_nodes}
+use Rattle.author_texts.specs.Authored.{IsAuthored}
 use Rattle.bytecode.specs.Image.{Image}
 use Rattle.bytecode.specs.Spells.{Spells}
 use Rattle.command_files.specs.declared.fault.LoadFault.{LoadFault}
 use Rattle.command_files.specs.Sources.{SpellsImage, BytesLackImage}
 use Rattle.command_files.specs.Standing.{BytesLackSource, StandsFor}
 use Rattle.embedded_machine.specs.Opened.{ChartStates, OpenedImage, no_states}
+use Rattle.extended_sources.specs.FirstWord.{BeginsExtended}
 
 -- the text spells a chart, whose states these are
 pub record AreOfChart (text : List ℕ) (states : ChartStates) : Type 0 where
@@ -37,11 +40,31 @@ pub record IsOpenedSource (source : List ℕ) (opened : OpenedImage) : Type 0 wh
   pub image : SpellsImage source opened.image
   pub states : AreStatesOf source opened.states
 
--- the image and the states of the source for which this text stands
-pub record IsOpenedText (text : List ℕ) (opened : OpenedImage) : Type 0 where
+-- the nodes that stand for a state of the reduced chart stand for that of the author for which this one stands, if for one
+abbrev pub told_by : AuthorsStates → OpenedImage → OpenedImage
+told_by a o = record { image = o.image; states = record { nodes = author_nodes a.stand o.states.nodes; paths = a.paths } }
+
+-- the image of what this source spells, and the states of the author of the extended chart that is reduced to it
+pub record IsOpenedAuthored (source : List ℕ) (authors : AuthorsStates) (opened : OpenedImage) : Type 0 where
+  pub reduced : OpenedImage
+  pub is : IsOpenedSource source reduced
+  pub told : opened ≡ told_by authors reduced
+
+-- this text is itself its source, of which this is the image with its states
+pub record IsOpenedOwn (text : List ℕ) (opened : OpenedImage) : Type 0 where
+  pub other : ¬ BeginsExtended text
+  pub is : IsOpenedSource text opened
+
+-- this text is that of an extended chart; this is the image of the chart to which it is reduced, and these its author's states
+pub record IsOpenedExtended (text : List ℕ) (opened : OpenedImage) : Type 0 where
   pub source : List ℕ
-  pub stands : StandsFor text source
-  pub is : IsOpenedSource source opened
+  pub authors : AuthorsStates
+  pub authored : IsAuthored text source authors
+  pub is : IsOpenedAuthored source authors opened
+
+-- the image and the states of what this text spells
+abbrev pub IsOpenedText : List ℕ → OpenedImage → Type 0
+IsOpenedText text opened = IsOpenedOwn text opened ⊎ IsOpenedExtended text opened
 
 -- these bytes spell the image of what this source spells, in version 2 of the layout
 pub record SpellsSourceImage (source bytes : List ℕ) : Type 0 where

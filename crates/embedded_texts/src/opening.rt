@@ -1,16 +1,18 @@
 //! What is opened of bytes and of texts.
 
-ghost use Rattle.std.specs.Prelude.{◌≡◌, IfErr, IfOk};
+ghost use Rattle.std.specs.Prelude.{◌≡◌, IfErr, IfOk, string_bytes};
 ghost use Rattle.sc_text.specs.declared.language.Language.TheVariants as language;
 ghost use Rattle.sc_text.specs.FirstToken.{IsIn};
-ghost use Rattle.command_files.specs.Sources.{BytesLackCompiled, TextLacksProgram};
+ghost use Rattle.command_files.specs.Sources.{BytesLackCompiled, BytesLackImage, TextLacksProgram};
 ghost use Rattle.embedded_machine.specs.Opened.{no_states};
 ghost use Rattle.embedded_machine.specs.Ticks.{SpellValid};
-ghost use Rattle.embedded_texts.specs.Texts.{AreOfChart, AreStatesOf, IsNoImageOf, IsOpenedSource, IsOpenedText};
+ghost use Rattle.embedded_texts.specs.Texts.{AreOfChart, AreStatesOf, IsNoImageOf, IsOpenedAuthored, IsOpenedSource};
+ghost use Rattle.embedded_texts.specs.Texts.{IsOpenedText};
 
 use crate::images::verified_image;
+use author_texts::{Authored, authored_source};
 use chart_reader::read_chart;
-use command_files::{LoadFault, compile_bytes, reduced_source, text_of};
+use command_files::{LoadFault, compile_bytes, text_of};
 use compiler::CompileFault;
 use embedded_machine::{Opened, StateTable};
 use sc_text::{Language, language_of};
@@ -27,17 +29,30 @@ pub fn opened_image(alloc: Global, bytes: &[u8]) -> Result<Opened, LoadFault>
 }
 
 /// The image of the program, or of the chart, that this text spells, with the states of the chart; of an extended
-/// chart's, those of the chart to which it is reduced. Err: it spells none, or why it has no image; or memory was
-/// refused.
-#[tactic(auto, using(command_files::proofs::Lacking::lacks_image, crate::proofs::Refused::none_as_written))]
+/// chart's, the image of the chart to which it is reduced, with the states of its author. Err: it spells none, or why
+/// it has no image; or memory was refused.
+#[tactic(auto, using(crate::proofs::Refused::none_as_written, crate::proofs::Refused::none_authored, crate::proofs::Told::own, crate::proofs::Told::extended))]
 pub fn opened_text(alloc: Global, text: &[u8]) -> Result<Opened, LoadFault>
     ensures opened { IfOk result (IsOpenedText text.now) }
     ensures fault { IfErr result (IsNoImageOf text.now) }
 {
-    match reduced_source(alloc, text)? {
-        Some(source) => opened_source(alloc, source.as_bytes()),
+    match authored_source(alloc, text)? {
+        Some(authored) => opened_authored(alloc, authored),
         None => opened_source(alloc, text),
     }
+}
+
+// The image of the chart to which an extended chart is reduced, with the states of its author.
+#[tactic(auto, using(command_files::proofs::Lacking::lacks_image, crate::proofs::Told::authored))]
+fn opened_authored(alloc: Global, authored: Authored) -> Result<Opened, LoadFault>
+    ensures opened { IfOk result (IsOpenedAuthored (string_bytes authored.source) authored.states) }
+    ensures fault { IfErr result (BytesLackImage (string_bytes authored.source)) }
+{
+    let Authored { source, states } = authored;
+    let reduced = opened_source(alloc, source.as_bytes())?;
+    let nodes = states.past(alloc, reduced.states().nodes())?;
+    let named = StateTable::named(nodes, states.into_paths());
+    Ok(reduced.with_states(named))
 }
 
 // The image of what this source spells, with the states of its chart.

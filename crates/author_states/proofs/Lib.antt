@@ -1,0 +1,8 @@
+mod Folded
+mod Left
+mod Made
+mod Once
+mod Past
+mod Staying
+mod Timed
+mod Walking

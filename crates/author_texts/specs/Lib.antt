@@ -1,0 +1,2 @@
+pub mod Authored
+pub mod Inside
