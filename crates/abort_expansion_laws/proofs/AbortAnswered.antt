@@ -110,9 +110,9 @@ module _ (k core : Table) (i : Images) (rows : CoreRows k core i) (more : Layere
 
   watch_plain : (u : ℕ) (w v : Standing) → Watches k core i u w v → is_forked v ≡ false
   watch_plain u _ _ (watch_guards some among) = refl
-  watch_plain u _ _ (looks_strong some among) = refl
+  watch_plain u _ _ (looks_strong yet seen parted some among) = refl
   watch_plain u _ _ (waits some ends among only) = refl
-  watch_plain u _ _ (looks first some ends among only) = refl
+  watch_plain u _ _ (looks yet seen parted first some ends among only) = refl
   watch_plain u _ _ (elsewhere w a b) = refl
 
   -- of whichever thread, no stage above 3 is reached

@@ -40,7 +40,7 @@ use Rattle.abort_expansion_laws.proofs.OneLeaves.{Left}
 use Rattle.abort_expansion_laws.proofs.MayLeave.{is_forked, AreOuterOne}
 use Rattle.abort_expansion_laws.proofs.Leaving.{drops, set_here, set_other, set_length, drops_in, drops_out, drops_length, joined}
 use Rattle.abort_expansion_laws.proofs.AbortNext.{AbortNext}
-use Rattle.abort_expansion_laws.proofs.JoinsFork.{in_reverse}
+use Rattle.abort_expansion_laws.proofs.YetToLook.{in_reverse}
 use Rattle.abort_expansion_laws.proofs.FailedChecks.{IsDown, AllDown, checks_fail}
 use Rattle.abort_expansion_laws.proofs.Answering.{fails_on, Passed, tests_fail, Answered, answered}
 use Rattle.chart_machine_laws.proofs.ChartTables.{around_there}

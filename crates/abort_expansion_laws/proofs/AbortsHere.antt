@@ -1,5 +1,5 @@
 -- Where a superstate with a strong flag is around a region, aborts are around it.
-use Rattle.std.proofs.Common.{◌≡◌, ℕ, ◌⊎◌, ⊎_elim, true, false, Some, List, [], ◌∷◌, ◌++◌, Contains, refl, sym, ap, ◌∙◌}
+use Rattle.std.proofs.Common.{◌≡◌, ℕ, ⊎_elim, true, false, Some, List, [], ◌∷◌, ◌++◌, Contains, refl, sym, ap, ◌∙◌}
 use Rattle.std.specs.Prelude.{reverse, flat_map}
 use Rattle.std.proofs.lemmas.List.Folds.{flat_map-map}
 use Rattle.core_charts.specs.declared.region.Transition.{Transition}

@@ -72,7 +72,7 @@ module _ (k core : Table) (i : Images) (more : EntryRows k core i) (holds_there 
 
   -- nobody is inside of what comes to guard, and nobody guards around the region
   unseen_now : (o u : ℕ) → IsState k o → has_aborts (own k o) ≡ true → Contains (around k (holder k o)) u →
-      has_to_guard (standing_of next (holder k u)) ≡ true → LooksFirst k core i o (standing_of core_next (i.watcher_of o))
+      has_to_guard (standing_of next (holder k u)) ≡ true → LooksFirst k core i o u (standing_of core_next (i.watcher_of o))
   unseen_now o u here has inner guards =
       ⊎_elim
       (λ lies.

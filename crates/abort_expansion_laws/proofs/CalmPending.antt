@@ -42,9 +42,9 @@ module _ (k core : Table) (i : Images) (rows : CoreRows k core i) (c : Configura
 
   watch_calm : (o : ℕ) (x y : Standing) → Watches k core i o x y → has_to_guard y ≡ false
   watch_calm o _ _ (watch_guards some among) = refl
-  watch_calm o _ _ (looks_strong some among) = refl
+  watch_calm o _ _ (looks_strong yet seen parted some among) = refl
   watch_calm o _ _ (waits some joins among all) = refl
-  watch_calm o _ _ (looks first some joins among all) = refl
+  watch_calm o _ _ (looks yet seen parted first some joins among all) = refl
   watch_calm o x _ (elsewhere z a b) = refl
 
   past_or_there : (t : ℕ) → (t ≡ 0) ⊎ (IsThere core t ⊎ (suc (length core.regions) ≤ t))

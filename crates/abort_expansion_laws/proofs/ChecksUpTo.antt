@@ -62,22 +62,32 @@ module _ (k core : Table) (i : Images) (tree : IsNested k) (no_strong : (s : ℕ
   apart n s zs rest leads =
       subst (Up n) (sym (ap (λ ys. ys ++ rest) (reversed f s zs) ∙ append_assoc (flat_map f (reverse zs)) (f s ++ []) rest)) leads
 
-  all_outer : (zs : List ℕ) (n : ℕ) (rest : List Transition) → Up n rest → Up (strong_from k zs n) (flat_map f (reverse zs) ++ rest)
+  -- others count as well
+  more_from : (more : List ℕ) (n : ℕ) (tests : List Transition) → Up n tests → Up (strong_from k more n) tests
   unfolding strong_from
-  all_outer [] n rest leads = leads
-  all_outer (s ∷ zs) n rest leads =
-      apart (strong_from k (s ∷ zs) n) s zs rest
-      (all_outer zs (if has_strong (own k s) then suc n else n) ((f s ++ []) ++ rest) (one_outer s n rest leads))
+  more_from [] n tests leads = leads
+  more_from (s ∷ more) n tests leads = more_from more (if has_strong (own k s) then suc n else n) tests (by (has_strong (own k s)))
+    where
+      by : (h : Bool) → Up (if h then suc n else n) tests
+      by true = more_checks x place n tests leads
+      by false = leads
 
-  pub up_to_own : (zs : List ℕ) (p : ℕ) → around k p ≡ zs → Contains zs o → (rest : List Transition) →
+  all_outer : (zs more : List ℕ) (n : ℕ) (rest : List Transition) → Up n rest → Up (strong_from k (zs ++ more) n) (flat_map f (reverse zs) ++ rest)
+  unfolding strong_from
+  all_outer [] more n rest leads = more_from more n rest leads
+  all_outer (s ∷ zs) more n rest leads =
+      apart (strong_from k (s ∷ (zs ++ more)) n) s zs rest
+      (all_outer zs more (if has_strong (own k s) then suc n else n) ((f s ++ []) ++ rest) (one_outer s n rest leads))
+
+  pub up_to_own : (zs more : List ℕ) (p : ℕ) → around k p ≡ zs ++ more → Contains zs o → (rest : List Transition) →
       ChecksUpTo x place (strong_around k o) (flat_map f (reverse zs) ++ rest)
-  up_to_own [] p e h rest = absurd (none_in o h)
-  up_to_own (s ∷ zs) p e h rest =
+  up_to_own [] more p e h rest = absurd (none_in o h)
+  up_to_own (s ∷ zs) more p e h rest =
       ⊎_elim
       (λ is.
-      let up : zs ≡ around k (holder k o) = tree.upward p s zs e ∙ ap (λ v. around k (holder k v)) is in
+      let up : zs ++ more ≡ around k (holder k o) = tree.upward p s (zs ++ more) e ∙ ap (λ v. around k (holder k v)) is in
       apart (strong_around k o) s zs rest
       (subst (λ ys. Up (strong_from k ys 0) (flat_map f (reverse zs) ++ ((f s ++ []) ++ rest))) up
-      (all_outer zs 0 ((f s ++ []) ++ rest) (subst (λ ys. Up 0 ((ys ++ []) ++ rest)) (sym (ap f is ∙ own_one)) (checks_it 0 b rest)))))
-      (λ tail. apart (strong_around k o) s zs rest (up_to_own zs (holder k s) (sym (tree.upward p s zs e)) tail ((f s ++ []) ++ rest)))
+      (all_outer zs more 0 ((f s ++ []) ++ rest) (subst (λ ys. Up 0 ((ys ++ []) ++ rest)) (sym (ap f is ∙ own_one)) (checks_it 0 b rest)))))
+      (λ tail. apart (strong_around k o) s zs rest (up_to_own zs more (holder k s) (sym (tree.upward p s (zs ++ more) e)) tail ((f s ++ []) ++ rest)))
       (head_or_tail s o zs h)

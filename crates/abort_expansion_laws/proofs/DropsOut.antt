@@ -349,7 +349,7 @@ module _ (k core : Table) (i : Images) (rows : CoreRows k core i) (tree : IsNest
 
     -- monitors inside are gone, and the others stand as before
     unseen_still : (u s : ℕ) → IsState k u → has_aborts (own k u) ≡ true → Contains (around k (holder k u)) s →
-        guards (standing_of c' (holder k s)) ≡ true → LooksFirst k core i u (standing_of d' (i.watcher_of u))
+        guards (standing_of c' (holder k s)) ≡ true → LooksFirst k core i u s (standing_of d' (i.watcher_of u))
     unseen_still u s u_there has around_it guarded_by =
         ⊎_elim (λ inner. out_looks k core i u (standing_of d' (i.watcher_of u)) (go.dropped (i.watcher_of u) inner))
         (λ out.

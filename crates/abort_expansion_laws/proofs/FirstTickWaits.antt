@@ -151,7 +151,7 @@ module _ (k core : Table) (i : Images) (more : EntryRows k core i)
 
   -- nobody is inside of what guards
   first_unseen : (o s : ℕ) → IsState k o → has_aborts (own k o) ≡ true → Contains (around k (holder k o)) s →
-      has_to_guard (standing_of at_first (holder k s)) ≡ true → LooksFirst k core i o (standing_of core_at_first (i.watcher_of o))
+      has_to_guard (standing_of at_first (holder k s)) ≡ true → LooksFirst k core i o s (standing_of core_at_first (i.watcher_of o))
   first_unseen o s here has inner guards =
       let holder_is = is_there (holder k s) (λ out. let wrong : true ≡ false = sym guards ∙ ap has_to_guard out in absurd cc) in
       let gone : standing_of at_first (holder k o) ≡ at.Outside =

@@ -108,9 +108,9 @@ heads a b xs ys e = cc
 -- the monitor of a superstate that is guarded, or open, is there
 monitor_there : (k core : Table) (i : Images) (o : ℕ) (x y : Standing) → Watches k core i o x y → IsInside k core i o x → y ≢ at.Outside
 monitor_there k core i o _ _ (watch_guards some among) inner away = absurd cc
-monitor_there k core i o _ _ (looks_strong some among) inner away = absurd cc
+monitor_there k core i o _ _ (looks_strong yet seen parted some among) inner away = absurd cc
 monitor_there k core i o _ _ (waits some ends among only) inner away = absurd cc
-monitor_there k core i o _ _ (looks first some ends among only) inner away = absurd cc
+monitor_there k core i o _ _ (looks yet seen parted first some ends among only) inner away = absurd cc
 monitor_there k core i o _ _ (elsewhere z a b) (guarded tests) away = a tests refl
 monitor_there k core i o _ _ (elsewhere z a b) (open_inside tests) away = b tests refl
 

@@ -4,7 +4,7 @@ use Rattle.std.proofs.Common.{◌≡◌, ◌≢◌, ℕ, pos, ◌<◌, ◌≤◌
 use Rattle.std.proofs.Common.{length, slice_get, slice_set, Contains, refl, sym, ap, subst, ◌∙◌, arith}
 use Rattle.std.specs.Prelude.{reverse, filter}
 use Rattle.std.specs.List.{list_any}
-use Rattle.std.proofs.lemmas.List.{reverse-append, append-nil}
+use Rattle.std.proofs.lemmas.List.{append-nil}
 use Rattle.std.proofs.lemmas.Bool.{or_parts}
 use Rattle.sc_values.specs.declared.value.Value.TheVariants as value_is
 use Rattle.sc_values.specs.Access.{Access, no_access}
@@ -33,7 +33,6 @@ use Rattle.chart_machine.specs.Steps.{step}
 use Rattle.abort_expansion_laws.specs.Related.{held_back, IsInside, guarded, open_inside, Stores}
 use Rattle.abort_expansion_laws.proofs.Simulation.{Segment}
 use Rattle.abort_expansion_laws.proofs.Supplying.{climbs_step, silent_idle}
-use Rattle.abort_expansion_laws.proofs.KnownVariables.{in_either}
 use Rattle.abort_expansion_laws.proofs.Leaving.{drops, at_number, set_here, set_other, set_length, drops_in, drops_out, drops_length, joined}
 use Rattle.abort_expansion_laws.proofs.InsideAround.{all_from}
 use Rattle.abort_expansion_laws.proofs.StageReached.{stage_of, none_of, holds_other, one_at_least}
@@ -44,6 +43,7 @@ use Rattle.abort_expansion_laws.proofs.CalmPending.{all_calm}
 use Rattle.abort_expansion_laws.proofs.FailedChecks.{IsDown, AllDown, checks_fail}
 use Rattle.abort_expansion_laws.proofs.EnteringSimple.{once_append, weak_once}
 use Rattle.abort_expansion_laws.proofs.Unchanged.{unguarded}
+use Rattle.abort_expansion_laws.proofs.YetToLook.{in_reverse}
 
 -- ---- what the continuation tests
 
@@ -87,13 +87,6 @@ module _ (k core : Table) (i : Images) where
       ∙ ap (λ zs. strong_checks true (i.places_of r).left (flags_around k core i r) ++ zs) (weak_once (i.places_of r).left (flags_around k core i r))))
 
 -- ---- the steps
-
-pub in_reverse : (xs : List ℕ) (y : ℕ) → Contains (reverse xs) y → Contains xs y
-in_reverse [] y h = absurd (none_in y h)
-in_reverse (x ∷ xs) y h =
-    ⊎_elim (λ first. tail_in x y xs (in_reverse xs y first)) (λ last. ⊎_elim (λ e. subst (Contains (x ∷ xs)) e (head_in x xs))
-    (λ none. absurd (none_in y none)) (head_or_tail x y [] last))
-    (in_either (reverse xs) (x ∷ []) y (subst (λ zs. Contains zs y) (reverse-append (x ∷ []) xs) h))
 
 module _ (k core : Table) (i : Images) (rows : CoreRows k core i) (tree : IsNested k) (counts : ℕ → Bool) (written_at : ℕ → ℕ)
     (Told : Configuration → Entry → Type 0)

@@ -1,5 +1,5 @@
 -- The last strong test of a superstate fails: its inside has its turn, and each thread there goes on behind its strong check.
-use Rattle.std.proofs.Common.{◌≡◌, ◌≢◌, ℕ, pos, ◌<◌, ◌⊎◌, ⊎_elim, Bool, true, false, Some, List, [], ◌∷◌, ◌++◌, map, length, slice_get}
+use Rattle.std.proofs.Common.{◌≡◌, ◌≢◌, ℕ, pos, ◌<◌, ⊎_elim, Bool, true, false, Some, List, [], ◌∷◌, ◌++◌, map, length, slice_get}
 use Rattle.std.proofs.Common.{slice_set, Contains, refl, sym, ap, subst, ◌∙◌, arith}
 use Rattle.sc_values.specs.declared.value.Value.TheVariants as value_is
 use Rattle.core_charts.specs.declared.region.Transition.{Transition}
@@ -234,9 +234,9 @@ module _ (k core : Table) (i : Images) (rows : CoreRows k core i) (layered : Lay
       -- another superstate of the region is not watched
       not_watched : (u : ℕ) → u ≢ o → (a b : Standing) → Watches k core i u a b → a ≡ at.Guarding o (t ∷ []) → Watches k core i u opened_now b
       not_watched u ne _ _ (watch_guards some among) f = let same : u ≡ o = cc in absurd (ne same)
-      not_watched u ne _ _ (looks_strong some among) f = let same : u ≡ o = cc in absurd (ne same)
+      not_watched u ne _ _ (looks_strong yet seen parted some among) f = let same : u ≡ o = cc in absurd (ne same)
       not_watched u ne _ _ (waits some ends among only) f = absurd cc
-      not_watched u ne _ _ (looks first some ends among only) f = absurd cc
+      not_watched u ne _ _ (looks yet seen parted first some ends among only) f = absurd cc
       not_watched u ne a _ (elsewhere z one two) f =
           elsewhere opened_now (λ tests g. absurd cc) (λ tests g. let same : o ≡ u = cc in ne (sym same))
 
@@ -334,7 +334,7 @@ module _ (k core : Table) (i : Images) (rows : CoreRows k core i) (layered : Lay
 
       -- the monitors inside stand as before
       unseen_now : (u s : ℕ) → IsState k u → has_aborts (own k u) ≡ true → Contains (around k (holder k u)) s →
-          has_to_guard (standing_of c' (holder k s)) ≡ true → LooksFirst k core i u (standing_of e (i.watcher_of u))
+          has_to_guard (standing_of c' (holder k s)) ≡ true → LooksFirst k core i u s (standing_of e (i.watcher_of u))
       unseen_now u s is has_too inner guard =
           ⊎_elim
           (λ f. let wrong : false ≡ true = sym (ap has_to_guard (ap (standing_of c') f ∙ here)) ∙ guard in absurd cc)

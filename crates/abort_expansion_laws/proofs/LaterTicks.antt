@@ -238,7 +238,7 @@ module _ (k core : Table) (i : Images) (rows : CoreRows k core i) (layered : Lay
         unseen = λ o s here has inner guarded_by.
             still_looks k core i o (woken core (standing_of core_before (i.watcher_of o))) (standing_of d (i.watcher_of o))
             (starts.at_d k core i rows layered tree more_rows before core_before rests inputs (i.watcher_of o))
-            (woken_looks k core i rows layered tree more_rows o here has (standing_of before (holder k o)) (standing_of core_before (i.watcher_of o))
+            (woken_looks k core i rows layered tree more_rows o here has s inner (standing_of before (holder k o)) (standing_of core_before (i.watcher_of o))
             (rests.watchers o here has));
       }
 

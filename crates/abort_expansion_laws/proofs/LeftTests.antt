@@ -42,7 +42,7 @@ use Rattle.abort_expansion_laws.proofs.TickStarts.{StartRows, some_kept}
 use Rattle.abort_expansion_laws.proofs.LaterTicks.{weak_no_join, each_more}
 use Rattle.abort_expansion_laws.proofs.IdleChart.{free, idle}
 use Rattle.abort_expansion_laws.proofs.LastTests.{Ends, nothing_left, some_left, FailsAtLast, none_left, one_more, fails_both}
-use Rattle.abort_expansion_laws.proofs.JoinsFork.{in_reverse}
+use Rattle.abort_expansion_laws.proofs.YetToLook.{in_reverse}
 use Rattle.tick_laws.proofs.Lists.{map_contains}
 
 none_any : (P : ℕ → Bool) (xs : List ℕ) → ((y : ℕ) → P y ≡ false) → list_any P xs ≡ false
@@ -275,7 +275,7 @@ module _ (k core : Table) (i : Images) (rows : CoreRows k core i) (layered : Lay
   watcher_ends : (o : ℕ) → IsState k o → has_aborts (own k o) ≡ true → (x y : Standing) → standing_of c (holder k o) ≡ x → Watches k core i o x y →
       EndsAt (i.watcher_of o) y
   watcher_ends o is has _ _ e (watch_guards some among) = absurd (works_not (holder k o) (at.Guarding o (map (λ z. z.1) some)) e refl)
-  watcher_ends o is has _ _ e (looks_strong some among) = absurd (works_not (holder k o) (at.Guarding o (map (λ z. z.1) some)) e refl)
+  watcher_ends o is has _ _ e (looks_strong yet seen parted some among) = absurd (works_not (holder k o) (at.Guarding o (map (λ z. z.1) some)) e refl)
   watcher_ends o is has _ _ e (waits [] ends among only) =
       subst (λ zs. EndsAt (i.watcher_of o) (at.Trying (i.watching_of o) (zs ++ monitor_last k core i o)))
       (sym (none_raised (λ t. t.immediate) (i.flags_of o).weak)) (count_left o is has ends e)
@@ -283,7 +283,7 @@ module _ (k core : Table) (i : Images) (rows : CoreRows k core i) (layered : Lay
       let weak : is_weak z.1.kind ≡ true = kept_is (λ t. is_weak t.kind) (own k o) z.0 z.1 among.0 in
       let no_join : is_join z.1.kind ≡ false = weak_no_join z.1.kind weak in
       absurd (works_not (holder k o) (at.Within o (z.1 ∷ (map (λ w. w.1) some ++ ends))) e (rw (no_join) refl))
-  watcher_ends o is has _ _ e (looks z some ends among only) =
+  watcher_ends o is has _ _ e (looks yet seen parted z some ends among only) =
       let weak : is_weak z.1.kind ≡ true = kept_is (λ t. is_weak t.kind) (own k o) z.0 z.1 among.0 in
       let no_join : is_join z.1.kind ≡ false = weak_no_join z.1.kind weak in
       absurd (works_not (holder k o) (at.Within o (z.1 ∷ (map (λ w. w.1) some ++ ends))) e (rw (no_join) refl))

@@ -36,6 +36,7 @@ pub mod WakesLow
 pub mod CheckNodes
 pub mod InsideLeaves
 pub mod AbortsHere
+pub mod YetToLook
 pub mod StrongLeaves
 pub mod FlagAccess
 pub mod CoreSteps
@@ -153,6 +154,8 @@ pub mod OpenForks
 pub mod ForkOver
 pub mod EnteredOver
 pub mod MonitorEntered
+pub mod FlagsDown
+pub mod MonitorMoved
 pub mod MonitorLooks
 pub mod EnteredReady
 pub mod OpenedRowsHold
@@ -191,6 +194,7 @@ pub mod OwnTests
 pub mod TestTargets
 pub mod QuietBegins
 pub mod SeesFirst
+pub mod BesideMonitors
 pub mod QuietAtStart
 pub mod TickFollowed
 pub mod PreemptionFollows
@@ -204,7 +208,12 @@ pub mod StrongTestReady
 pub mod StepsByCase
 pub mod HasLooked
 pub mod LooksBefore
+pub mod LookDropped
+pub mod GuardFlag
+pub mod LooksOuter
+pub mod Outermost
 pub mod MonitorsReady
+pub mod ChecksNext
 pub mod StepsReady
 pub mod ByEvaluation
 pub mod Proved

@@ -1,5 +1,6 @@
 -- Where nobody guards around a superstate, its monitor comes to have looked at the strong flags around.
-use Rattle.std.proofs.Common.{◌≡◌, ◌≢◌, ℕ, Bool, true, false, Option, Some, List, [], ◌∷◌, ◌++◌, map, Contains, refl, sym, ap, subst, ◌∙◌}
+use Rattle.std.proofs.Common.{◌≡◌, ◌≢◌, ℕ, Bool, true, false, Option, Some, List, ◌∷◌, ◌++◌, map, Contains, refl, sym, ap, subst, ◌∙◌}
+use Rattle.std.specs.Prelude.{reverse}
 use Rattle.sc_values.specs.Access.{Access}
 use Rattle.sc_values.specs.Runs.{Act}
 use Rattle.core_charts.specs.declared.region.Transition.{Transition}
@@ -14,7 +15,7 @@ use Rattle.chart_machine.specs.Machine.{machine}
 use Rattle.abort_expansion.specs.Transitions.{strong_checks, raising}
 use Rattle.abort_expansion_laws.specs.Stages.{Entry, Silent, Correspondence}
 use Rattle.chart_machine_laws.proofs.LyingIn.{IsNested, around, holder}
-use Rattle.abort_expansion_laws.specs.CoreRows.{own, IsState, Images, CoreRows, flags_around}
+use Rattle.abort_expansion_laws.specs.CoreRows.{own, IsState, Images, CoreRows}
 use Rattle.abort_expansion_laws.specs.Related.{raise_each, monitor_last, Watches, guards as watch_guards, looks_strong, waits, looks, elsewhere, Related}
 use Rattle.abort_expansion_laws.proofs.StageReached.{Stage}
 use Rattle.abort_expansion_laws.proofs.ImageSteps.{pair}
@@ -48,14 +49,15 @@ module _ (k core : Table) (i : Images) (rows : CoreRows k core i) (tree : IsNest
     -- it looks, before these tests
     module _ (goes_on : (z : Configuration) → Related k core i c z → Looked (standing_of z (i.watcher_of o)) →
         ((t : ℕ) → t ≢ i.watcher_of o → standing_of z t ≡ standing_of d t) → GoesFrom z) where
-      looks_now : (x : Standing) (rest : List Transition) → standing_of c (holder k o) ≡ x → x ≢ at.Outside → has_work k c x ≡ true →
+      looks_now : (x : Standing) (yet seen : List ℕ) → around k (holder k o) ≡ reverse yet ++ seen → (rest : List Transition) →
+          standing_of c (holder k o) ≡ x → x ≢ at.Outside → has_work k c x ≡ true →
           standing_of d (i.watcher_of o) ≡
-          at.Trying (i.watching_of o) (strong_checks false 1 (flags_around k core i (holder k o)) ++ rest) →
+          at.Trying (i.watching_of o) (strong_checks false 1 (map i.flags_of yet) ++ rest) →
           Watches k core i o x (at.Trying (i.watching_of o) rest) → HasLooked k core i o x (at.Trying (i.watching_of o) rest) → GoesFrom d
-      looks_now x rest x_is present works waits_there watches looked =
+      looks_now x yet seen parted rest x_is present works waits_there watches looked =
           looked_before k core i rows tree counts written_at counters opening strong_at super_there Told told c d related (holder k o) o o_there has refl
           (present_there k core i c d related (holder k o) (λ out. present (sym x_is ∙ out))) (λ out. present (sym x_is ∙ out))
-          (ap (has_work k c) x_is ∙ works) free rest waits_there
+          (ap (has_work k c) x_is ∙ works) free yet seen parted rest waits_there
           (subst (λ w. Watches k core i o w (at.Trying (i.watching_of o) rest)) (sym x_is) watches) steps After Reaches
           (λ z related_z at_test others.
           goes_on z related_z
@@ -67,14 +69,14 @@ module _ (k core : Table) (i : Images) (rows : CoreRows k core i) (tree : IsNest
 
       by_watch : (x y : Standing) → Watches k core i o x y → standing_of c (holder k o) ≡ x → standing_of d (i.watcher_of o) ≡ y → GoesFrom d
       by_watch _ _ (watch_guards some among) x_is y_is = has_looked _ _ x_is y_is (at_strong some among)
-      by_watch _ _ (looks_strong some among) x_is y_is =
-          looks_now (at.Guarding o (map (λ x. x.1) some))
+      by_watch _ _ (looks_strong yet seen parted some among) x_is y_is =
+          looks_now (at.Guarding o (map (λ x. x.1) some)) yet seen parted
           (raise_each (λ t. false) (i.flags_of o).strong some
           ++ (raising (λ t. t.immediate) 1 (i.flags_of o).weak 1 (weak_aborts (own k o)) ++ monitor_last k core i o))
           x_is (λ e. absurd cc) refl y_is (watch_guards some among) (at_strong some among)
       by_watch _ _ (waits some ends among only) x_is y_is = has_looked _ _ x_is y_is (at_weak some ends among only)
-      by_watch _ _ (looks first some ends among only) x_is y_is =
-          looks_now (at.Within o (map (λ x. x.1) (first ∷ some) ++ ends))
+      by_watch _ _ (looks yet seen parted first some ends among only) x_is y_is =
+          looks_now (at.Within o (map (λ x. x.1) (first ∷ some) ++ ends)) yet seen parted
           (raise_each (λ t. t.immediate) (i.flags_of o).weak (first ∷ some) ++ monitor_last k core i o)
           x_is (λ e. absurd cc) (rw (no_join) refl) y_is (waits (first ∷ some) ends among only) (at_weak (first ∷ some) ends among only)
         where

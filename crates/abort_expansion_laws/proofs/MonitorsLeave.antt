@@ -182,7 +182,7 @@ module _ (k core : Table) (i : Images) (rows : CoreRows k core i) (layered : Lay
     pub monitor_leaves : (w y : Standing) → standing_of c (holder k u) ≡ w → Watches k core i u w y → Leaves (i.watcher_of u) y
     monitor_leaves _ _ e (watch_guards among all) =
         absurd (works_not (holder k u) (there_by e (λ z. absurd cc)) in_o (at.Guarding u (map (λ z. z.1) among)) e refl)
-    monitor_leaves _ _ e (looks_strong among all) =
+    monitor_leaves _ _ e (looks_strong yet seen parted among all) =
         absurd (works_not (holder k u) (there_by e (λ z. absurd cc)) in_o (at.Guarding u (map (λ z. z.1) among)) e refl)
     monitor_leaves _ _ e (waits [] ends all only) =
         subst (λ zs. Leaves (i.watcher_of u) (at.Trying (i.watching_of u) (zs ++ monitor_last k core i u))) (sym (none_raised (i.flags_of u).weak))
@@ -195,7 +195,7 @@ module _ (k core : Table) (i : Images) (rows : CoreRows k core i) (layered : Lay
         (present_there k core i c d related (holder k u)
         (λ w. let wrong : at.Within u (z.1 ∷ (map (λ v. v.1) among ++ ends)) ≡ at.Outside = sym e ∙ w in absurd cc)) in_o
         (at.Within u (z.1 ∷ (map (λ v. v.1) among ++ ends))) e (rw (no_join) refl))
-    monitor_leaves _ _ e (looks z among ends all only) =
+    monitor_leaves _ _ e (looks yet seen parted z among ends all only) =
         let weak : is_weak z.1.kind ≡ true = kept_is (λ t. is_weak t.kind) (own k u) z.0 z.1 all.0 in
         let no_join : is_join z.1.kind ≡ false = weak_no_join z.1.kind weak in
         absurd (works_not (holder k u)

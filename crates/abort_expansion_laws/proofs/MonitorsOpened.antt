@@ -39,12 +39,12 @@ module _ (k core : Table) (i : Images) (rows : CoreRows k core i) (opened_rows :
 
   -- so whoever had yet to look before has so still
   module _ (before : Configuration) (unseen : (u v : ℕ) → IsState k u → has_aborts (own k u) ≡ true → Contains (around k (holder k u)) v →
-      has_to_guard (standing_of c (holder k v)) ≡ true → LooksFirst k core i u (standing_of before (i.watcher_of u)))
+      has_to_guard (standing_of c (holder k v)) ≡ true → LooksFirst k core i u v (standing_of before (i.watcher_of u)))
       (same : (u : ℕ) → IsState k u → has_aborts (own k u) ≡ true → ¬ WithinIt k core i s u → standing_of e (i.watcher_of u) ≡ standing_of before
       (i.watcher_of u)) (free : is_guarded k c (around k (holder k s)) ≡ false) (within_or_not : (u : ℕ) → WithinIt k core i s u ⊎ ¬ WithinIt k core i s u)
     where
       pub still_unseen : (u v : ℕ) → IsState k u → has_aborts (own k u) ≡ true → Contains (around k (holder k u)) v →
-          has_to_guard (standing_of c (holder k v)) ≡ true → LooksFirst k core i u (standing_of e (i.watcher_of u))
+          has_to_guard (standing_of c (holder k v)) ≡ true → LooksFirst k core i u v (standing_of e (i.watcher_of u))
       still_unseen u v u_there has inner guarded_by =
           ⊎_elim
           (⊎_elim (λ is. absurd (none_around (subst (λ w. Contains (around k (holder k w)) v) is inner)))

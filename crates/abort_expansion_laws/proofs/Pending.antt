@@ -138,7 +138,7 @@ module _ (k core : Table) (i : Images) (c : Configuration) where
     pub watchers : (o : ℕ) → IsState k o → has_aborts (own k o) ≡ true →
         Watches k core i o (standing_of c (holder k o)) (standing_of d (i.watcher_of o)) ⊎ ((standing_of d (i.watcher_of o) ≡ at.Outside) × Covered d o)
     pub unseen : (o s : ℕ) → IsState k o → has_aborts (own k o) ≡ true → Contains (around k (holder k o)) s →
-        has_to_guard (standing_of c (holder k s)) ≡ true → LooksFirst k core i o (standing_of d (i.watcher_of o))
+        has_to_guard (standing_of c (holder k s)) ≡ true → LooksFirst k core i o s (standing_of d (i.watcher_of o))
     pub flags : (s : ℕ) → IsState k s → IsInside k core i s (standing_of c (holder k s)) → Flagged d s ⊎ Covered d s
     pub late : (s : ℕ) → IsOpening d s → n ≤ holder k s
     pub joinable : (s : ℕ) → IsJoining d s → Over d s

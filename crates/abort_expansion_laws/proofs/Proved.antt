@@ -141,6 +141,8 @@ pub use Rattle.abort_expansion_laws.proofs.PreemptionFollows.{preemption_follows
 pub use Rattle.abort_expansion_laws.proofs.PreemptionKept.{preemption_kept}
 pub use Rattle.abort_expansion_laws.proofs.StepsByCase.{steps_followed, preemption_holds}
 pub use Rattle.abort_expansion_laws.proofs.StepsReady.{steps_ready, ticks_ready}
+pub use Rattle.abort_expansion_laws.proofs.MonitorsReady.{get_ready}
+pub use Rattle.abort_expansion_laws.proofs.ChecksNext.{region_next, monitor_next}
 
 pub checked : ◌≡◌ {A = ℕ} 0 0
 checked = refl

@@ -1,22 +1,15 @@
 -- As a tick starts, whatever lies in a superstate that is guarded resumes before its check of the strong flag, and comes so below
 -- the nodes of the monitor that raise it.
-use Rattle.std.proofs.Common.{◌≡◌, ◌≢◌, ℕ, zero, suc, ◌<◌, ◌≤◌, ◌⊎◌, inl, inr, ⊎_elim, Bool, true, false, ◌||◌, Some, List, [], ◌∷◌, ◌++◌, map}
-use Rattle.std.proofs.Common.{length, Contains, refl, sym, ap, subst, ◌∙◌, arith, cond, unwrap_or}
-use Rattle.std.proofs.lemmas.Option.{same_Some, slice_get_past}
-use Rattle.std.proofs.lemmas.Bool.{cases_lt}
-use Rattle.sc_values.specs.Access.{Reads, init_read}
+use Rattle.std.proofs.Common.{◌≡◌, ◌≢◌, ℕ, ◌<◌, ◌⊎◌, inl, inr, ⊎_elim, Bool, true, false, ◌||◌, Some, List, [], ◌∷◌, ◌++◌, map}
+use Rattle.std.proofs.Common.{Contains, refl, sym, ap, subst, ◌∙◌, cond}
 use Rattle.sc_graph.specs.declared.tables.Tables.{Tables}
 use Rattle.sc_graph.specs.declared.control.Control.{Control}
 use Rattle.sc_graph.specs.declared.control.Status.TheVariants as status
-use Rattle.sc_graph.specs.declared.place.Place.TheVariants as place
-use Rattle.sc_graph.specs.Program.{Program, parent_of, owner_of}
+use Rattle.sc_graph.specs.Program.{Program, parent_of}
 use Rattle.sc_graph.specs.Threads.{Descends}
-use Rattle.sc_graph.specs.Accesses.{accesses}
 use Rattle.sc_graph.specs.Control.{status_of}
 use Rattle.sc_graph.specs.Tables.{priority, priority_of}
-use Rattle.sc_graph.specs.Valid.{IsFormed, IsValid}
-use Rattle.tick_laws.proofs.Formed.{root_alone, valid_formed}
-use Rattle.tick_laws.proofs.Lists.{contains_head, map_contains}
+use Rattle.sc_graph.specs.Valid.{IsValid}
 use Rattle.tick_laws.proofs.Views.{Enabled}
 use Rattle.core_charts.specs.declared.region.Transition.{Transition}
 use Rattle.core_charts.specs.Tests.{is_strong, strong_aborts}
@@ -27,63 +20,33 @@ use Rattle.chart_machine.specs.declared.standing.Configuration.{Configuration}
 use Rattle.chart_machine.specs.declared.table.Table.{Table}
 use Rattle.chart_machine.specs.Table.{state_at}
 use Rattle.chart_machine.specs.Turns.{standing_of, guards}
-use Rattle.chart_machine.specs.Steps.{step, access_of_trigger}
-use Rattle.abort_expansion.specs.Transitions.{is_raised}
+use Rattle.chart_machine.specs.Steps.{step}
 use Rattle.chart_lowering_laws.specs.Stands.{Lowered}
 use Rattle.compiled_charts_laws.proofs.LateTests.{is_late}
-use Rattle.chart_machine_laws.proofs.LyingIn.{IsNested, around, holder, head_in, tail_in, swapped}
+use Rattle.chart_machine_laws.proofs.LyingIn.{IsNested, around, holder}
 use Rattle.chart_machine_laws.specs.Tree.{IsThere}
-use Rattle.abort_expansion_laws.specs.CoreRows.{own, IsState, Images, CoreRows, WatcherImage}
-use Rattle.abort_expansion_laws.specs.Related.{Stands, outside}
-use Rattle.abort_expansion_laws.specs.Related.{ended, left}
-use Rattle.abort_expansion_laws.specs.Related.{trying, acting, entering, guarding, staying, within}
-use Rattle.abort_expansion_laws.specs.Related.{behind, Watches, guards as watch_guards, waits, looks_strong, looks}
+use Rattle.abort_expansion_laws.specs.CoreRows.{own, IsState, Images, CoreRows}
+use Rattle.abort_expansion_laws.specs.Related.{Watches, guards as watch_guards, waits, looks_strong, looks}
 use Rattle.abort_expansion_laws.specs.Related.{elsewhere}
-use Rattle.abort_expansion_laws.specs.Related.{IsInside, guarded, open_inside, Related}
-use Rattle.abort_expansion_laws.proofs.FlagAccess.{raised_access}
+use Rattle.abort_expansion_laws.specs.Related.{Related}
 use Rattle.abort_expansion_laws.proofs.InsideLeaves.{LayeredRows}
+use Rattle.abort_expansion_laws.proofs.BesideMonitors.{LiesBeside, a_region, a_monitor, none_at_root, lies_beside, beside_apart, check_below}
 use Rattle.abort_expansion_laws.proofs.SeesFirst.{SeesFirst, out, over, checks, forks, sees_first, monitor_sees}
-use Rattle.abort_expansion_laws.proofs.MonitorsApart.{monitor_apart, monitors_apart}
 use Rattle.chart_machine.specs.Turns.{ForkedApart}
-use Rattle.abort_expansion_laws.proofs.StageReached.{holds_other}
-use Rattle.abort_expansion_laws.proofs.StrongNotTaken.{inside_guarding}
 use Rattle.abort_expansion_laws.proofs.ChecksUpTo.{ChecksUpTo, strong_around}
 use Rattle.abort_expansion_laws.proofs.StrongTestsQuiet.{Excused}
 use Rattle.abort_expansion_laws.proofs.WakesLow.{WakesLow, wakes_tests, wakes_fork}
 use Rattle.abort_expansion_laws.proofs.LowPriorities.{Under}
 use Rattle.abort_expansion_laws.proofs.QuietBegins.{LoweredTests, IsRaising, Beside, StaysLow}
-use Rattle.abort_expansion_laws.proofs.OneMonitor.{one_monitor}
 
--- ---- where threads are, regions are
-
-module _ (k core : Table) (i : Images) (c : Configuration) where
-  region_present : (r : ℕ) (x y : Standing) → Stands k core i c r x y → y ≢ at.Outside → x ≢ at.Outside
-  region_present r _ _ outside present e = present refl
-  region_present r _ _ (ended inner) present e = absurd cc
-  region_present r _ _ (left s ss round over_it) present e = absurd cc
-  region_present r _ _ (trying s tests simple held) present e = absurd cc
-  region_present r _ _ (acting s u p g effects lt) present e = absurd cc
-  region_present r _ _ (entering s fork t tests super held leads) present e = absurd cc
-  region_present r _ _ (guarding s join t tests has_some held leads) present e = absurd cc
-  region_present r _ _ (staying s tests super held stay) present e = absurd cc
-  region_present r _ _ (within s join tests super held stay open_still leads) present e = absurd cc
-  region_present r _ _ (behind s tests super held over_it) present e = absurd cc
-
-  -- a monitor is there where its superstate is guarded, or open
-  monitor_present : (o : ℕ) (x y : Standing) → Watches k core i o x y → y ≢ at.Outside → IsInside k core i o x
-  monitor_present o _ _ (watch_guards some among) present = guarded (map (λ (z : ℕ × Transition). z.1) some)
-  monitor_present o _ _ (looks_strong some among) present = guarded (map (λ (z : ℕ × Transition). z.1) some)
-  monitor_present o _ _ (waits some ends among all) present = open_inside (map (λ (z : ℕ × Transition). z.1) some ++ ends)
-  monitor_present o _ _ (looks first some ends among all) present = open_inside (map (λ (z : ℕ × Transition). z.1) (first ∷ some) ++ ends)
-  monitor_present o x _ (elsewhere _ a b) present = absurd (present refl)
-
-  -- where a delayed test is to be made, the superstate is guarded, or open
+-- where a delayed test is to be made, the superstate is guarded, or open
+module _ (k core : Table) (i : Images) where
   monitor_late : (o : ℕ) (x y : Standing) → Watches k core i o x y → is_late y ≡ true → ((tests : List Transition) × (x ≡ at.Guarding o tests)) ⊎
       ((tests : List Transition) × (x ≡ at.Within o tests))
   monitor_late o _ _ (watch_guards some among) late = inl (map (λ (z : ℕ × Transition). z.1) some, refl)
-  monitor_late o _ _ (looks_strong some among) late = inl (map (λ (z : ℕ × Transition). z.1) some, refl)
+  monitor_late o _ _ (looks_strong yet seen parted some among) late = inl (map (λ (z : ℕ × Transition). z.1) some, refl)
   monitor_late o _ _ (waits some ends among all) late = inr (map (λ (z : ℕ × Transition). z.1) some ++ ends, refl)
-  monitor_late o _ _ (looks first some ends among all) late = inr (map (λ (z : ℕ × Transition). z.1) (first ∷ some) ++ ends, refl)
+  monitor_late o _ _ (looks yet seen parted first some ends among all) late = inr (map (λ (z : ℕ × Transition). z.1) (first ∷ some) ++ ends, refl)
   monitor_late o x _ (elsewhere _ a b) late = absurd cc
 
 module _ (k core : Table) (i : Images) (rows : CoreRows k core i) (layered : LayeredRows k core i) (tree : IsNested k) (core_tree : IsNested core)
@@ -99,164 +62,11 @@ module _ (k core : Table) (i : Images) (rows : CoreRows k core i) (layered : Lay
     (c d : Configuration) (related : Related k core i c d) (m : Control) (alike : Alike d m)
     (wakes : (t : ℕ) → t ≢ 0 → Enabled p m t → WakesLow p q m t (standing_of d t))
     (plain_open : (o : ℕ) (tests : List Transition) → standing_of c (holder k o) ≡ at.Within o tests → strong_aborts (own k o) ≡ []) where
-  formed : IsFormed p
-  formed = valid_formed p q valid
-
-  -- ---- the tree of threads
-
-  none_at_root : (gens h u : ℕ) → parent_of p u ≡ Some h → Descends p gens 0 u → ⊥
-  none_at_root zero h u up same = root_alone p formed h (ap (parent_of p) same ∙ up)
-  none_at_root (suc gens) h u up below = root_alone p formed below.0 below.1
-
-  -- whose thread lies below one that the thread of r forks lies in a superstate of r
-  module _ (r u : ℕ) (r_there : IsThere k r) (up : parent_of p u ≡ Some (i.thread_of r)) where
-    abbrev InRegion : ℕ → Type 0
-    InRegion v = (s : ℕ) × Contains (around k v) s × (holder k s ≡ r)
-
-    not_root : i.thread_of r ≡ 0 → ⊥
-    not_root same =
-        let root : r ≡ 0 = rows.region_once r 0 (same ∙ sym rows.root) in
-        let lt = r_there.0 in absurd (omega (root, lt, arith))
-
-    parent_in : (v s : ℕ) (ss : List ℕ) → around k v ≡ s ∷ ss → parent_of p (i.thread_of v) ≡ Some (i.thread_of (holder k s))
-    parent_in v s ss round =
-        lowered.parent (i.thread_of v) (i.main_of s) (map i.main_of ss) (rows.encloses v ∙ ap (map i.main_of) round) ∙ ap Some (rows.held s)
-
-    parent_top : (v : ℕ) → IsThere k v → around k v ≡ [] → parent_of p (i.thread_of v) ≡ Some 0
-    parent_top v there round = top_parent (i.thread_of v) (rows.region v there).there (rows.encloses v ∙ ap (map i.main_of) round)
-
-    itself_in : (v : ℕ) → IsThere k v → i.thread_of v ≡ u → (zs : List ℕ) → around k v ≡ zs → InRegion v
-    itself_in v there same [] round =
-        absurd (not_root (same_Some (i.thread_of r) 0 (sym up ∙ (ap (parent_of p) (sym same) ∙ parent_top v there round))))
-    itself_in v there same (s ∷ ss) round =
-        let held : holder k s ≡ r = rows.region_once (holder k s) r
-        (same_Some (i.thread_of (holder k s)) (i.thread_of r) (sym (parent_in v s ss round) ∙ (ap (parent_of p) same ∙ up))) in
-        (s, subst (λ zs. Contains zs s) (sym round) (head_in s ss), held)
-
-    further_in : (gens v : ℕ) → IsThere k v → Descends p (suc gens) (i.thread_of v) u →
-        ((w : ℕ) → IsThere k w → Descends p gens (i.thread_of w) u → InRegion w) → (zs : List ℕ) → around k v ≡ zs → InRegion v
-    further_in gens v there below further [] round =
-        absurd (none_at_root gens (i.thread_of r) u up
-        (subst (λ w. Descends p gens w u) (same_Some below.0 0 (sym below.1 ∙ parent_top v there round)) below.2))
-    further_in gens v there below further (s ∷ ss) round =
-        let is_parent : below.0 ≡ i.thread_of (holder k s) = same_Some below.0 (i.thread_of (holder k s)) (sym below.1 ∙ parent_in v s ss round) in
-        let s_there : IsState k s = super_there v s (subst (λ zs. Contains zs s) (sym round) (head_in s ss)) in
-        let outer : InRegion (holder k s) = further (holder k s) (holds_there s s_there) (subst (λ w. Descends p gens w u) is_parent below.2) in (
-          outer.0,
-          subst (λ zs. Contains zs outer.0) (sym round)
-              (tail_in s outer.0 ss (subst (λ zs. Contains zs outer.0) (sym (tree.upward v s ss round)) outer.1)),
-          outer.2,
-        )
-
-    lies_in : (gens v : ℕ) → IsThere k v → Descends p gens (i.thread_of v) u → InRegion v
-    lies_in zero v there same = itself_in v there same (around k v) refl
-    lies_in (suc gens) v there below = further_in gens v there below (λ w w_there h. lies_in gens w w_there h) (around k v) refl
-
-  core_present : (t : ℕ) → standing_of d t ≢ at.Outside → IsThere core t
-  core_present zero present = absurd (present related.no_core)
-  core_present (suc t) present = by_place (cases_lt (suc t) (suc (length core.regions)))
-    where
-      by_place : (suc t < suc (length core.regions)) ⊎ (suc (length core.regions) ≤ suc t) → IsThere core (suc t)
-      by_place (inl lt) = (omega arith, lt)
-      by_place (inr past) =
-          let far : length d.regions ≤ suc t = omega (past, related.core_regions, arith) in
-          absurd (present (ap (λ o. unwrap_or o at.Outside) (slice_get_past d.regions (suc t) far)))
-
   -- ---- a guarded superstate
 
   module _ (o : ℕ) (o_there : IsState k o) (has : has_aborts (own k o) ≡ true) (others : List Transition)
       (guarding_now : standing_of c (holder k o) ≡ at.Guarding o others) (n : ℕ)
       (raises_it : IsRaising k core i rows core_tree p q valid Alike lowered tests late_before o n) where
-    h_there : IsThere k (holder k o)
-    h_there = holds_there o o_there
-
-    image : WatcherImage k core i o
-    image = rows.watcher o o_there has
-
-    -- of the superstates of that region it is the one in which somebody is
-    is_o : (s : ℕ) → holder k s ≡ holder k o → IsInside k core i s (standing_of c (holder k s)) → s ≡ o
-    is_o s held inner = inside_guarding k core i o s (standing_of c (holder k s)) inner others (ap (standing_of c) held ∙ guarding_now)
-
-    -- whoever is there, and lies below another child, lies in the superstate
-    by_region : (v u : ℕ) → IsThere k v → standing_of c v ≢ at.Outside → (gens : ℕ) → parent_of p u ≡ Some (i.thread_of (holder k o)) →
-        Descends p gens (i.thread_of v) u → Contains (around k v) o
-    by_region v u there present gens up below =
-        let s = lies_in (holder k o) u h_there up gens v there below in
-        subst (Contains (around k v)) (is_o s.0 s.2 (related.enclosed v s.0 there present s.1)) s.1
-
-    -- so does another monitor
-    by_monitor : (w u : ℕ) → IsState k w → has_aborts (own k w) ≡ true → standing_of d (i.watcher_of w) ≢ at.Outside → (gens : ℕ) →
-        parent_of p u ≡ Some (i.thread_of (holder k o)) → u ≢ i.watcher_of o → Descends p gens (i.watcher_of w) u → Contains (around k (holder k w)) o
-    by_monitor w u there has_too present gens up differs below = by gens below
-      where
-        inside_w : IsInside k core i w (standing_of c (holder k w))
-        inside_w = monitor_present k core i c w (standing_of c (holder k w)) (standing_of d (i.watcher_of w)) (related.watchers w there has_too) present
-
-        holder_present : standing_of c (holder k w) ≢ at.Outside
-        holder_present e = none (standing_of c (holder k w)) inside_w e
-          where
-            none : (z : Standing) → IsInside k core i w z → z ≢ at.Outside
-            none _ (guarded others) e = absurd cc
-            none _ (open_inside others) e = absurd cc
-
-        parent : parent_of p (i.watcher_of w) ≡ Some (i.thread_of (holder k w))
-        parent =
-            lowered.parent (i.watcher_of w) (i.main_of w) (around core (i.thread_of (holder k w))) (rows.watcher w there has_too).encloses
-            ∙ ap Some (rows.held w)
-
-        by : (gens : ℕ) → Descends p gens (i.watcher_of w) u → Contains (around k (holder k w)) o
-        by zero same =
-            let held : holder k w ≡ holder k o = rows.region_once (holder k w) (holder k o)
-            (same_Some (i.thread_of (holder k w)) (i.thread_of (holder k o)) (sym parent ∙ (ap (parent_of p) same ∙ up))) in
-            absurd (differs (sym same ∙ ap i.watcher_of (is_o w held inside_w)))
-        by (suc gens) below =
-            by_region (holder k w) u (holds_there w there) holder_present gens up
-            (subst (λ z. Descends p gens z u) (same_Some below.0 (i.thread_of (holder k w)) (sym below.1 ∙ parent)) below.2)
-
-    region_apart : (v : ℕ) → Contains (around k v) o → ForkedApart core (i.thread_of v) (i.watcher_of o) (i.thread_of (holder k o))
-    region_apart v in_o =
-        monitor_apart k core i rows core_tree o (i.watcher_of o) image.encloses image.no_thread v
-        (subst (λ zs. Contains zs (i.main_of o)) (sym (rows.encloses v)) (map_contains i.main_of (around k v) o in_o))
-
-    other_monitor : (w : ℕ) → IsState k w → has_aborts (own k w) ≡ true → Contains (around k (holder k w)) o → i.watcher_of w ≢ i.watcher_of o
-    other_monitor w there has_too in_o e =
-        let is : w ≡ o = one_monitor k core i rows w o there has_too o_there has e in
-        holds_other k tree (holder k o) o (subst (λ v. Contains (around k (holder k v)) o) is in_o) refl
-
-    monitor_beside : (w : ℕ) → IsState k w → has_aborts (own k w) ≡ true → Contains (around k (holder k w)) o →
-        ForkedApart core (i.watcher_of w) (i.watcher_of o) (i.thread_of (holder k o))
-    monitor_beside w there has_too in_o =
-        monitors_apart k core i rows core_tree o (i.watcher_of o) image.encloses image.no_thread w there has_too (other_monitor w there has_too in_o)
-        (subst (λ zs. Contains zs (i.main_of o)) (sym (rows.watcher w there has_too).encloses)
-        (tail_in (i.main_of w) (i.main_of o) (around core (i.thread_of (holder k w)))
-        (subst (λ zs. Contains zs (i.main_of o)) (sym (rows.encloses (holder k w))) (map_contains i.main_of (around k (holder k w)) o in_o))))
-
-    -- the check of the flag is to come behind what raises it, whichever thread makes it
-    module _ (t : ℕ) (apart : ForkedApart core t (i.watcher_of o) (i.thread_of (holder k o))) (node : ℕ) (owned : owner_of p node ≡ Some t)
-        (does : accesses p node ≡ access_of_trigger (Some (is_raised raises_it.flag))) where
-      reads : Reads (accesses p node) raises_it.flag
-      reads = subst (λ a. Reads a raises_it.flag) (sym (does ∙ raised_access raises_it.flag)) (contains_head raises_it.flag [])
-
-      check_below : priority q node < priority q n
-      check_below =
-          valid.protocol (place.Pair n node)
-          (record {
-            concurrent =
-                record {
-                  first = i.watcher_of o;
-                  second = t;
-                  first_owner = raises_it.owned;
-                  second_owner = owned;
-                  concurrent =
-                      record {
-                        forking = i.thread_of (holder k o);
-                        apart = lowered.apart (i.watcher_of o) t (i.thread_of (holder k o))
-                            (swapped core core_tree t (i.watcher_of o) (i.thread_of (holder k o)) apart);
-                      };
-                };
-            precedes = init_read raises_it.flag raises_it.inits reads;
-          })
-
     abbrev Low : ℕ → Type 0
     Low t = (priority_of q (status_of m t) < priority q n) ⊎ Excused p q (priority q n) (strong_around k o) (status_of m t)
 
@@ -269,10 +79,12 @@ module _ (k core : Table) (i : Images) (rows : CoreRows k core i) (layered : Lay
       by_first _ out (wakes_fork u is) = absurd cc
       by_first _ over (wakes_tests u tests is soon) = absurd cc
       by_first _ over (wakes_fork u is) = absurd cc
-      by_first _ (checks z place tests up) (wakes_tests u others is soon) =
-          let are : tests ≡ others = cc in
+      by_first _ (checks z place tests up) (wakes_tests u same is soon) =
+          let are : tests ≡ same = cc in
           inr (soon raises_it.flag place (strong_around k o) (priority q n) (subst (ChecksUpTo raises_it.flag place (strong_around k o)) are up)
-          (λ node owned does. check_below t apart node owned does))
+          (λ node owned does.
+          check_below k core i rows tree core_tree super_there holds_there p q valid Alike lowered top_parent c d related o o_there has others guarding_now
+          n raises_it.flag raises_it.owned raises_it.inits t apart node owned does))
       by_first _ (checks z place tests up) (wakes_fork u is) = absurd cc
       by_first _ (forks z w rest) (wakes_tests u tests is soon) = absurd cc
       by_first _ (forks z w rest) (wakes_fork u is) = absurd cc
@@ -282,12 +94,14 @@ module _ (k core : Table) (i : Images) (rows : CoreRows k core i) (layered : Lay
     woken_there t y (wakes_fork u is) e = let wrong : at.Within u [] ≡ at.Outside = sym is ∙ e in absurd cc
 
     low : (t : ℕ) → Under p (Beside k core i rows core_tree p q valid Alike lowered tests late_before o) t → Enabled p m t → Low t
-    low t under on = by_sort (rows.each t (core_present t present))
+    low t under on =
+        by_sort (lies_beside k core i rows tree core_tree super_there holds_there p q valid Alike lowered top_parent c d related o o_there has others
+        guarding_now t under.0 under.1.0 under.1.1 under.2 present)
       where
         not_root : t ≢ 0
         not_root same =
-            none_at_root under.2.generations (i.thread_of (holder k o)) under.0 under.1.0
-            (subst (λ z. Descends p under.2.generations z under.0) same under.2.descends)
+            none_at_root k core i rows tree core_tree super_there holds_there p q valid Alike lowered top_parent c d related under.2.generations
+            (i.thread_of (holder k o)) under.0 under.1.0 (subst (λ z. Descends p under.2.generations z under.0) same under.2.descends)
 
         woke : WakesLow p q m t (standing_of d t)
         woke = wakes t not_root on
@@ -295,36 +109,29 @@ module _ (k core : Table) (i : Images) (rows : CoreRows k core i) (layered : Lay
         present : standing_of d t ≢ at.Outside
         present = woken_there t (standing_of d t) woke
 
-        of_region : (v : ℕ) → IsThere k v → t ≡ i.thread_of v → Low t
-        of_region v there is =
-            subst Low (sym is)
-            (by_first (i.thread_of v) (region_apart v in_o) (standing_of d (i.thread_of v))
+        by_sees : ForkedApart core t (i.watcher_of o) (i.thread_of (holder k o)) →
+            SeesFirst k core i rows layered tree core_children children c d related o raises_it.flag has raises_it.is_flag (ap guards guarding_now)
+            (standing_of d t) → Low t
+        by_sees apart sees = by_first t apart (standing_of d t) sees woke
+
+        by_sort : (lies : LiesBeside k core i rows tree core_tree super_there holds_there p q valid Alike lowered top_parent c d related o o_there has others
+            guarding_now t) → Low t
+        by_sort (a_region v there is in_o) =
+            by_sees
+            (beside_apart k core i rows tree core_tree super_there holds_there p q valid Alike lowered top_parent c d related o o_there has others
+            guarding_now t (a_region v there is in_o))
+            (subst (λ z. SeesFirst k core i rows layered tree core_children children c d related o raises_it.flag has raises_it.is_flag
+            (ap guards guarding_now) (standing_of d z)) (sym is)
             (sees_first k core i rows layered tree core_children children c d related o raises_it.flag has raises_it.is_flag (ap guards guarding_now) v there
-            in_o) (subst (λ z. WakesLow p q m z (standing_of d z)) is woke))
-          where
-            there_now : standing_of c v ≢ at.Outside
-            there_now =
-                region_present k core i c v (standing_of c v) (standing_of d (i.thread_of v)) (related.regions v there)
-                (subst (λ z. standing_of d z ≢ at.Outside) is present)
-
-            in_o : Contains (around k v) o
-            in_o =
-                by_region v under.0 there there_now under.2.generations under.1.0
-                (subst (λ z. Descends p under.2.generations z under.0) is under.2.descends)
-
-        of_monitor : (w : ℕ) → IsState k w → has_aborts (own k w) ≡ true → t ≡ i.watcher_of w → Low t
-        of_monitor w there has_too is =
-            let in_o : Contains (around k (holder k w)) o =
-            by_monitor w under.0 there has_too (subst (λ z. standing_of d z ≢ at.Outside) is present) under.2.generations under.1.0 under.1.1
-            (subst (λ z. Descends p under.2.generations z under.0) is under.2.descends) in
-            subst Low (sym is)
-            (by_first (i.watcher_of w) (monitor_beside w there has_too in_o) (standing_of d (i.watcher_of w))
+            in_o))
+        by_sort (a_monitor w there has_too is in_o) =
+            by_sees
+            (beside_apart k core i rows tree core_tree super_there holds_there p q valid Alike lowered top_parent c d related o o_there has others
+            guarding_now t (a_monitor w there has_too is in_o))
+            (subst (λ z. SeesFirst k core i rows layered tree core_children children c d related o raises_it.flag has raises_it.is_flag
+            (ap guards guarding_now) (standing_of d z)) (sym is)
             (monitor_sees k core i rows layered tree core_children children c d related o raises_it.flag has raises_it.is_flag (ap guards guarding_now) w there
-            has_too in_o) (subst (λ z. WakesLow p q m z (standing_of d z)) is woke))
-
-        by_sort : ((r : ℕ) × IsThere k r × (t ≡ i.thread_of r)) ⊎ ((s : ℕ) × IsState k s × (has_aborts (own k s) ≡ true) × (t ≡ i.watcher_of s)) → Low t
-        by_sort (inl r) = of_region r.0 r.1 r.2
-        by_sort (inr s) = of_monitor s.0 s.1 s.2 s.3
+            has_too in_o))
 
   pub starts_low : (o : ℕ) → IsState k o → has_aborts (own k o) ≡ true → is_late (standing_of d (i.watcher_of o)) ≡ true → (n : ℕ) →
       IsRaising k core i rows core_tree p q valid Alike lowered tests late_before o n →
@@ -339,7 +146,7 @@ module _ (k core : Table) (i : Images) (rows : CoreRows k core i) (layered : Lay
       })
       (λ x.
       absurd (none (strong_for o raises_it.flag raises_it.is_flag) (plain_open o x.0 x.1)))
-      (monitor_late k core i c o (standing_of c (holder k o)) (standing_of d (i.watcher_of o)) (related.watchers o there has) late)
+      (monitor_late k core i o (standing_of c (holder k o)) (standing_of d (i.watcher_of o)) (related.watchers o there has) late)
     where
       strong_none : (ts : List Transition) → has_strong ts ≡ true → strong_aborts ts ≡ [] → ⊥
       strong_none [] some bare = absurd cc

@@ -1,5 +1,5 @@
 -- A region goes on, and so does its thread: what corresponds still does.
-use Rattle.std.proofs.Common.{◌≡◌, ◌≢◌, ℕ, zero, suc, ◌<◌, ◌≤◌, ◌⊎◌, inl, inr, ⊎_elim, true, false, ◌||◌, Option, Some, None, List, [], ◌∷◌, ◌++◌, length}
+use Rattle.std.proofs.Common.{◌≡◌, ◌≢◌, ℕ, zero, suc, ◌<◌, ◌≤◌, ◌⊎◌, inl, inr, ⊎_elim, true, false, Option, Some, None, List, [], ◌∷◌, ◌++◌, length}
 use Rattle.std.proofs.Common.{slice_get, slice_set}
 use Rattle.std.proofs.Common.{Contains, refl, sym, ap, subst, ◌∙◌, arith}
 use Rattle.sc_values.specs.declared.value.Value.{Value}
@@ -85,7 +85,7 @@ module _ (k core : Table) (i : Images) (rows : CoreRows k core i) where
     closes : (s : ℕ) (tests : List Transition) → holder k s ≡ r → y ≡ at.Within s tests → Closes k core i s tests
     calm : (q s : ℕ) → IsThere k q → Contains (around k q) s → guards (standing_of c' (holder k s)) ≡ true → IsCalm (standing_of c' q)
     unseen : (o s : ℕ) → IsState k o → has_aborts (own k o) ≡ true → Contains (around k (holder k o)) s → guards (standing_of c' (holder k s)) ≡ true →
-        LooksFirst k core i o (standing_of d (i.watcher_of o))
+        LooksFirst k core i o s (standing_of d (i.watcher_of o))
     more : List Value
     variables : d'.variables ≡ c'.variables ++ more
     flag_count : length d'.variables ≡ length core.variables
@@ -347,7 +347,7 @@ module _ (k core : Table) (i : Images) (rows : CoreRows k core i) where
         (same_or_not (holder k s) r)
 
     unseen_then : (o s : ℕ) → IsState k o → has_aborts (own k o) ≡ true → Contains (around k (holder k o)) s → guards (standing_of c' (holder k s)) ≡ true →
-        LooksFirst k core i o (standing_of d (i.watcher_of o))
+        LooksFirst k core i o s (standing_of d (i.watcher_of o))
     unseen_then o s there has inner guarded_by =
         ⊎_elim
         (λ held.

@@ -66,14 +66,14 @@ module _ (k core : Table) (i : Images) (rows : CoreRows k core i) (layered : Lay
 
   watcher_rests : (o : ℕ) (x y : Standing) → standing_of c (holder k o) ≡ x → Watches k core i o x y → WatchRests k core i o x (last_of y)
   watcher_rests o _ _ e (watch_guards some among) = absurd (works_not (holder k o) (at.Guarding o (map (λ z. z.1) some)) e refl)
-  watcher_rests o _ _ e (looks_strong some among) = absurd (works_not (holder k o) (at.Guarding o (map (λ z. z.1) some)) e refl)
+  watcher_rests o _ _ e (looks_strong yet seen parted some among) = absurd (works_not (holder k o) (at.Guarding o (map (λ z. z.1) some)) e refl)
   watcher_rests o _ _ e (waits [] ends among only) = watch_within ends
   watcher_rests o _ _ e (waits (z ∷ some) ends among only) =
       let weak : is_weak z.1.kind ≡ true =
       left_tests.kept_is (λ t. is_weak t.kind) (own k o) z.0 z.1 among.0 in
       let no_join : is_join z.1.kind ≡ false = weak_no_join z.1.kind weak in
       absurd (works_not (holder k o) (at.Within o (z.1 ∷ (map (λ w. w.1) some ++ ends))) e (rw (no_join) refl))
-  watcher_rests o _ _ e (looks z some ends among only) =
+  watcher_rests o _ _ e (looks yet seen parted z some ends among only) =
       let weak : is_weak z.1.kind ≡ true =
       left_tests.kept_is (λ t. is_weak t.kind) (own k o) z.0 z.1 among.0 in
       let no_join : is_join z.1.kind ≡ false = weak_no_join z.1.kind weak in

@@ -33,7 +33,7 @@ use Rattle.abort_expansion_laws.proofs.StageReached.{Stage, holds_other}
 use Rattle.abort_expansion_laws.proofs.StartingRegions.{CounterRows}
 use Rattle.abort_expansion_laws.proofs.OpensFork.{OpeningRows}
 use Rattle.abort_expansion_laws.proofs.FailedChecks.{IsDown, AllDown, checks_fail}
-use Rattle.abort_expansion_laws.proofs.JoinsFork.{in_reverse}
+use Rattle.abort_expansion_laws.proofs.YetToLook.{in_reverse}
 use Rattle.abort_expansion_laws.proofs.InsideLeaves.{LayeredRows}
 use Rattle.abort_expansion_laws.proofs.Answering.{AllFail, Passed, tests_fail}
 use Rattle.abort_expansion_laws.proofs.CoreSteps.{takes_any}

@@ -3,7 +3,8 @@
 use Rattle.std.proofs.Common.{◌≡◌, ◌≢◌, ℕ, ◌⊎◌, inl, inr, ⊎_elim, Bool, true, false, not, ◌||◌, Option, Some, None, List, [], ◌∷◌, ◌++◌, map, slice_get}
 use Rattle.std.proofs.Common.{Contains, refl, sym, ap, subst, ◌∙◌, arith}
 use Rattle.std.specs.Prelude.{reverse, flat_map}
-use Rattle.std.proofs.lemmas.List.{append_assoc}
+use Rattle.std.proofs.lemmas.List.{append_assoc, append-nil}
+use Rattle.std.proofs.lemmas.List.Elements.{Contains-append_left}
 use Rattle.std.proofs.lemmas.List.Folds.{flat_map-map}
 use Rattle.core_charts.specs.declared.region.Transition.{Transition}
 use Rattle.core_charts.specs.Tests.{at_once, strong_aborts, weak_aborts, terminations}
@@ -37,6 +38,7 @@ use Rattle.abort_expansion_laws.proofs.StartingRegions.{CounterRows}
 use Rattle.abort_expansion_laws.proofs.OpensFork.{OpeningRows}
 use Rattle.abort_expansion_laws.proofs.Fronts.{reversed, guards_not, guards_here}
 use Rattle.abort_expansion_laws.proofs.AbortsHere.{aborts_here}
+use Rattle.abort_expansion_laws.proofs.YetToLook.{in_reversed, checks_are}
 use Rattle.abort_expansion_laws.proofs.QuietBegins.{state_with_aborts}
 use Rattle.abort_expansion_laws.proofs.SplitTests.{continuation_tests}
 use Rattle.abort_expansion_laws.proofs.MayLeave.{LeavesBy, leads_out, fails_before, MayLeave, out, over, tries}
@@ -155,26 +157,40 @@ module _ (k core : Table) (i : Images) (rows : CoreRows k core i) (more : Layere
           taken_apart s zs rest
           (all_outer zs (λ u h. among u (tail_in s u zs h)) ((f s ++ []) ++ rest) (one_outer s here.0 here.1 rest then_leaves))
 
-      up_to_own : (zs : List ℕ) (p : ℕ) → around k p ≡ zs → Contains zs o → ((s : ℕ) → Contains zs s → Contains (around k q) s) → (rest : List Transition) →
-          LeavesTests t (flat_map f (reverse zs) ++ rest)
-      up_to_own [] p e h among rest = absurd (none_in o h)
-      up_to_own (s ∷ zs) p e h among rest =
+      up_to_own : (zs more : List ℕ) (p : ℕ) → around k p ≡ zs ++ more → Contains zs o → ((s : ℕ) → Contains zs s → Contains (around k q) s) →
+          (rest : List Transition) → LeavesTests t (flat_map f (reverse zs) ++ rest)
+      up_to_own [] more p e h among rest = absurd (none_in o h)
+      up_to_own (s ∷ zs) more p e h among rest =
           ⊎_elim
           (λ is.
           taken_apart s zs rest
           (all_outer zs
           (λ u inner. (
-            subst (λ v. Contains (around k (holder k v)) u) is (subst (λ ys. Contains ys u) (tree.upward p s zs e) inner),
+            subst (λ v. Contains (around k (holder k v)) u) is
+                (subst (λ ys. Contains ys u) (tree.upward p s (zs ++ more) e) (Contains-append_left zs more u inner)),
             among u (tail_in s u zs inner),
           )) ((f s ++ []) ++ rest)
           (subst (λ ys. LeavesTests t ((ys ++ []) ++ rest)) (sym (ap f is ∙ own_one)) (own_leads rest))))
           (λ tail.
           taken_apart s zs rest
-          (up_to_own zs (holder k s) (sym (tree.upward p s zs e)) tail (λ u inner. among u (tail_in s u zs inner)) ((f s ++ []) ++ rest)))
+          (up_to_own zs more (holder k s) (sym (tree.upward p s (zs ++ more) e)) tail (λ u inner. among u (tail_in s u zs inner)) ((f s ++ []) ++ rest)))
           (head_or_tail s o zs h)
 
+      -- those of the innermost ones, o among them
+      some_leave : (zs more : List ℕ) → around k q ≡ zs ++ more → Contains zs o → (rest : List Transition) → LeavesTests t (flat_map f (reverse zs) ++ rest)
+      some_leave zs more e h rest =
+          up_to_own zs more q e h (λ s inner. subst (λ ys. Contains ys s) (sym e) (Contains-append_left zs more s inner)) rest
+
       whole_leaves : (rest : List Transition) → LeavesTests t (flat_map f (reverse (around k q)) ++ rest)
-      whole_leaves rest = up_to_own (around k q) q refl q_in (λ s h. h) rest
+      whole_leaves rest = some_leave (around k q) [] (sym (append-nil (around k q))) q_in rest
+
+    -- those that are left
+    looks_leave : (yet seen : List ℕ) → around k q ≡ reverse yet ++ seen → Contains yet o → (rest : List Transition) →
+        LeavesTests t (strong_checks b place (map i.flags_of yet) ++ rest)
+    looks_leave yet seen parted inner rest =
+        subst (λ zs. LeavesTests t (zs ++ rest)) (sym (checks_are i b place yet))
+        (some_leave (λ s. check b place (i.flags_of s).strong) (ap (check b place) flag) (λ s outer. inr refl) (reverse yet) seen parted
+        (in_reversed yet o inner) rest)
 
     -- all strong checks
     checks_leave : (rest : List Transition) → LeavesTests t (strong_checks b place (flags_around k core i q) ++ rest)
@@ -200,15 +216,15 @@ module _ (k core : Table) (i : Images) (rows : CoreRows k core i) (more : Layere
 
   -- a monitor inside has yet to look
   monitor_leaves : (u : ℕ) → IsState k u → has_aborts (own k u) ≡ true → Contains (around k (holder k u)) o → (y : Standing) →
-      LooksFirst k core i u y → Leaves (i.watcher_of u) y
+      LooksFirst k core i u o y → Leaves (i.watcher_of u) y
   monitor_leaves u u_there some in_o _ looks_never = out
-  monitor_leaves u u_there some in_o _ (looks_first rest) =
-      tries (i.watching_of u) (strong_checks false 1 (flags_around k core i (holder k u)) ++ rest) (more.watching_alone u u_there some)
-      (checks_leave (i.watcher_of u) 1 (holder k u) false in_o
+  monitor_leaves u u_there some in_o _ (looks_first yet seen rest parted inner) =
+      tries (i.watching_of u) (strong_checks false 1 (map i.flags_of yet) ++ rest) (more.watching_alone u u_there some)
+      (looks_leave (i.watcher_of u) 1 (holder k u) false in_o
       (λ s in_s.
       subst (λ zs. Contains zs (i.main_of s)) (sym image.encloses)
       (tail_in (i.main_of u) (i.main_of s) (around core (i.thread_of (holder k u))) (in_fork (holder k u) s in_s)))
-      (ap (λ n. (state_at core n).entered) image.ended ∙ image.watched) rest)
+      (ap (λ n. (state_at core n).entered) image.ended ∙ image.watched) yet seen parted inner rest)
     where
       image : WatcherImage k core i u
       image = rows.watcher u u_there some

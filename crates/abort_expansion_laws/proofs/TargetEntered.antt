@@ -48,9 +48,9 @@ module _ (k core : Table) (i : Images) (more : EntryRows k core i) (c d : Config
   watcher_out : (o : ℕ) (x y : Standing) → Watches k core i o x y → ((tests : List Transition) → x ≢ at.Guarding o tests) →
       ((tests : List Transition) → x ≢ at.Within o tests) → y ≡ at.Outside
   watcher_out o _ _ (guards some among) not_guarding not_within = absurd (not_guarding _ refl)
-  watcher_out o _ _ (looks_strong some among) not_guarding not_within = absurd (not_guarding _ refl)
+  watcher_out o _ _ (looks_strong yet seen parted some among) not_guarding not_within = absurd (not_guarding _ refl)
   watcher_out o _ _ (waits some joins_left among ends) not_guarding not_within = absurd (not_within _ refl)
-  watcher_out o _ _ (looks first some joins_left among ends) not_guarding not_within = absurd (not_within _ refl)
+  watcher_out o _ _ (looks yet seen parted first some joins_left among ends) not_guarding not_within = absurd (not_within _ refl)
   watcher_out o _ _ (elsewhere x not_guarding not_within) never never_within = refl
 
   -- nobody lies in a region that is in no superstate

@@ -53,7 +53,7 @@ none_still k core i c (q ∷ rs) over =
 monitor_counts : (k core : Table) (i : Images) (s : ℕ) (t : Transition) (rest : List Transition) → is_join t.kind ≡ true → (x y : Standing) →
     Watches k core i s x y → x ≡ at.Within s (t ∷ rest) → y ≡ at.Trying (i.watching_of s) (monitor_last k core i s)
 monitor_counts k core i s t rest join _ _ (watch_guards some among) e = absurd cc
-monitor_counts k core i s t rest join _ _ (looks_strong some among) e = absurd cc
+monitor_counts k core i s t rest join _ _ (looks_strong yet seen parted some among) e = absurd cc
 monitor_counts k core i s t rest join _ _ (waits [] ends among only) e =
     ap (λ zs. at.Trying (i.watching_of s) (zs ++ monitor_last k core i s)) (none_raised (i.flags_of s).weak)
   where
@@ -64,7 +64,7 @@ monitor_counts k core i s t rest join _ _ (waits (z ∷ some) ends among only) e
     let same : z.1 ≡ t = cc in
     let weak : is_weak z.1.kind ≡ true = kept_is (λ u. is_weak u.kind) (own k s) z.0 z.1 among.0 in
     let wrong : true ≡ false = sym join ∙ (ap (λ u. is_join u.kind) (sym same) ∙ weak_no_join z.1.kind weak) in absurd cc
-monitor_counts k core i s t rest join _ _ (looks z some ends among only) e =
+monitor_counts k core i s t rest join _ _ (looks yet seen parted z some ends among only) e =
     let same : z.1 ≡ t = cc in
     let weak : is_weak z.1.kind ≡ true = kept_is (λ u. is_weak u.kind) (own k s) z.0 z.1 among.0 in
     let wrong : true ≡ false = sym join ∙ (ap (λ u. is_join u.kind) (sym same) ∙ weak_no_join z.1.kind weak) in absurd cc

@@ -145,13 +145,13 @@ module _ (k core : Table) (i : Images) (rows : CoreRows k core i) (tree : IsNest
 
   watcher_over : (u : ℕ) (x y : Standing) → Watches k core i u x y → IsOver x → IsOver y
   watcher_over u _ _ (watch_guards some among) (inl e) = absurd cc
-  watcher_over u _ _ (looks_strong some among) (inl e) = absurd cc
+  watcher_over u _ _ (looks_strong yet seen parted some among) (inl e) = absurd cc
   watcher_over u _ _ (watch_guards some among) (inr e) = absurd cc
-  watcher_over u _ _ (looks_strong some among) (inr e) = absurd cc
+  watcher_over u _ _ (looks_strong yet seen parted some among) (inr e) = absurd cc
   watcher_over u _ _ (waits some joins among ends) (inl e) = absurd cc
   watcher_over u _ _ (waits some joins among ends) (inr e) = absurd cc
-  watcher_over u _ _ (looks first some joins among ends) (inl e) = absurd cc
-  watcher_over u _ _ (looks first some joins among ends) (inr e) = absurd cc
+  watcher_over u _ _ (looks yet seen parted first some joins among ends) (inl e) = absurd cc
+  watcher_over u _ _ (looks yet seen parted first some joins among ends) (inr e) = absurd cc
   watcher_over u x _ (elsewhere z a b) over = inr refl
 
   -- a thread in the fork is over, or it is the monitor

@@ -83,9 +83,9 @@ module _ (k core : Table) (i : Images) where
       ((tests : List Transition) → x ≢ at.Guarding o tests) → ((tests : List Transition) → x ≢ at.Within o tests) →
       ((tests : List Transition) → x' ≢ at.Guarding o tests) → ((tests : List Transition) → x' ≢ at.Within o tests) → Watches k core i o x' y
   watch_other o _ _ x' (watch_guards some among) not_g not_w g w = absurd (not_g (map (λ x. x.1) some) refl)
-  watch_other o _ _ x' (looks_strong some among) not_g not_w g w = absurd (not_g (map (λ x. x.1) some) refl)
+  watch_other o _ _ x' (looks_strong yet seen parted some among) not_g not_w g w = absurd (not_g (map (λ x. x.1) some) refl)
   watch_other o _ _ x' (waits some joins among ends) not_g not_w g w = absurd (not_w (map (λ x. x.1) some ++ joins) refl)
-  watch_other o _ _ x' (looks first some joins among ends) not_g not_w g w = absurd (not_w (map (λ x. x.1) (first ∷ some) ++ joins) refl)
+  watch_other o _ _ x' (looks yet seen parted first some joins among ends) not_g not_w g w = absurd (not_w (map (λ x. x.1) (first ∷ some) ++ joins) refl)
   watch_other o x _ x' (elsewhere z a b) not_g not_w g w = elsewhere x' g w
 
   pub trying_no_inside : (s u : ℕ) (tests : List Transition) (x : Standing) → x ≡ at.Trying u tests → IsInside k core i s x → ⊥

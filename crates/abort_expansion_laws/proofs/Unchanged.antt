@@ -128,9 +128,9 @@ module _ (k core : Table) (i : Images) (rows : CoreRows k core i) (c d : Configu
 
   not_watching : (o : ℕ) (x y : Standing) → Watches k core i o x y → guards y ≡ false
   not_watching o _ _ (watch_guards some among) = refl
-  not_watching o _ _ (looks_strong some among) = refl
+  not_watching o _ _ (looks_strong yet seen parted some among) = refl
   not_watching o _ _ (waits some joins among ends) = refl
-  not_watching o _ _ (looks first some joins among ends) = refl
+  not_watching o _ _ (looks yet seen parted first some joins among ends) = refl
   not_watching o x _ (elsewhere z a b) = refl
 
   past_or_there : (t : ℕ) → (t ≡ 0) ⊎ (IsThere core t ⊎ (suc (length core.regions) ≤ t))

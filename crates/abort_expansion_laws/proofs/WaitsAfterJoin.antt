@@ -236,9 +236,9 @@ module _ (k core : Table) (i : Images) (rows : CoreRows k core i) (tree : IsNest
 
   watch_not_ended : (u : ℕ) (x y : Standing) → Watches k core i u x y → y ≢ at.Ended
   watch_not_ended u _ _ (watch_guards some among) e = absurd cc
-  watch_not_ended u _ _ (looks_strong some among) e = absurd cc
+  watch_not_ended u _ _ (looks_strong yet seen parted some among) e = absurd cc
   watch_not_ended u _ _ (waits some others among all) e = absurd cc
-  watch_not_ended u _ _ (looks first some others among all) e = absurd cc
+  watch_not_ended u _ _ (looks yet seen parted first some others among all) e = absurd cc
   watch_not_ended u x _ (elsewhere w a b) e = absurd cc
 
   watcher_same : (t : ℕ) → t ≢ g → standing_of d t ≢ at.Ended → standing_of z t ≡ standing_of d t
@@ -321,7 +321,7 @@ module _ (k core : Table) (i : Images) (rows : CoreRows k core i) (tree : IsNest
               covered_z u hides.1,
             )) (p.watchers u u_there has);
         unseen = λ u v u_there has inner guarded_by.
-            let before : LooksFirst k core i u (standing_of d (i.watcher_of u)) = p.unseen u v u_there has inner guarded_by in
+            let before : LooksFirst k core i u v (standing_of d (i.watcher_of u)) = p.unseen u v u_there has inner guarded_by in
             still_looks k core i u (standing_of d (i.watcher_of u)) (standing_of z (i.watcher_of u))
             (watcher_same (i.watcher_of u) (λ e. (rows.watcher u u_there has).no_thread r (sym e))
             (looks_not_ended k core i u (standing_of d (i.watcher_of u)) before)) before;

@@ -34,7 +34,7 @@ use Rattle.abort_expansion_laws.proofs.StartingRegions.{CounterRows}
 use Rattle.abort_expansion_laws.proofs.Resets.{Apart}
 use Rattle.abort_expansion_laws.proofs.OpensFork.{OpeningRows}
 use Rattle.abort_expansion_laws.proofs.TickStarts.{StartRows}
-use Rattle.abort_expansion_laws.proofs.JoinsFork.{in_reverse}
+use Rattle.abort_expansion_laws.proofs.YetToLook.{in_reverse}
 use Rattle.abort_expansion_laws.proofs.MayLeave.{LeavesBy, leads_out, fails_before, MayLeave, is_forked}
 use Rattle.abort_expansion_laws.proofs.InsideLeaves.{LayeredRows, one_checked}
 use Rattle.abort_expansion_laws.proofs.WeakNotTaken.{IsWithin, within_back}

@@ -1,6 +1,7 @@
 -- A monitor is woken: all tests of its superstate are to be made anew.
-use Rattle.std.proofs.Common.{◌≡◌, ◌≢◌, ℕ, ⊎_elim, Bool, true, false, ◌||◌, Option, Some, None, List, [], ◌∷◌, ◌++◌, map}
-use Rattle.std.proofs.Common.{refl, sym, ap, subst, ◌∙◌}
+use Rattle.std.proofs.Common.{◌≡◌, ◌≢◌, ℕ, Bool, true, false, ◌||◌, Option, Some, None, List, [], ◌∷◌, ◌++◌, map}
+use Rattle.std.proofs.Common.{Contains, refl, sym, ap, subst, ◌∙◌}
+use Rattle.std.specs.Prelude.{reverse}
 use Rattle.std.proofs.lemmas.List.{append_assoc}
 use Rattle.core_charts.specs.declared.region.Transition.{Transition}
 use Rattle.core_charts.specs.Tests.{strong_aborts, weak_aborts, terminations, closing_tests, is_strong, is_weak, is_join}
@@ -12,7 +13,7 @@ use Rattle.chart_machine.specs.Machine.{woken, guarded_first}
 use Rattle.core_charts.specs.Aborts.{has_strong, has_weak, has_aborts}
 use Rattle.abort_expansion.specs.Transitions.{strong_checks, weak_checks, raising}
 use Rattle.abort_expansion.specs.Superstates.{all_ended}
-use Rattle.chart_machine_laws.specs.Tree.{IsNested, holder}
+use Rattle.chart_machine_laws.specs.Tree.{IsNested, around, holder}
 use Rattle.abort_expansion_laws.specs.CoreRows.{own, IsState, Images, CoreRows, flags_around}
 use Rattle.abort_expansion_laws.specs.Related.{monitor_last}
 use Rattle.abort_expansion_laws.specs.Related.{raise_each, AreAmong, Watches, looks_strong, looks, elsewhere, LooksFirst, looks_never, looks_first}
@@ -20,6 +21,7 @@ use Rattle.abort_expansion_laws.proofs.InsideLeaves.{LayeredRows}
 use Rattle.abort_expansion_laws.proofs.Owed.{WatchRests, watch_within, watch_elsewhere}
 use Rattle.abort_expansion_laws.proofs.WokenConfigurations.{numbered_from, numbered_are, all_among, raising_is, each_kept, guards_then, open_then}
 use Rattle.abort_expansion_laws.proofs.TickStarts.{StartRows, some_kept}
+use Rattle.abort_expansion_laws.proofs.YetToLook.{in_reversed, all_yet}
 
 -- a list of five, the first in front of the others
 five : (a b c d e : List Transition) → a ++ b ++ c ++ d ++ e ≡ a ++ (b ++ (c ++ (d ++ e)))
@@ -37,6 +39,10 @@ module _ (k core : Table) (i : Images) (rows : CoreRows k core i) (layered : Lay
     (o : ℕ) (here : IsState k o) (has : has_aborts (own k o) ≡ true) where
   abbrev checks : List Transition
   checks = strong_checks false 1 (flags_around k core i (holder k o))
+
+  -- at all of them
+  abbrev each_one : List ℕ
+  each_one = reverse (around k (holder k o))
 
   abbrev behind_checks : List Transition
   behind_checks =
@@ -65,7 +71,7 @@ module _ (k core : Table) (i : Images) (rows : CoreRows k core i) (layered : Lay
       (raising_is (λ t. false) (i.flags_of o).strong 0 all) in
       subst (λ z. Watches k core i o z (at.Trying (i.watching_of o) (state_at core (i.watching_of o)).transitions)) (sym chart)
       (subst (λ zs. Watches k core i o (at.Guarding o (map (λ x. x.1) (numbered_from 0 all))) (at.Trying (i.watching_of o) zs)) (sym monitor)
-      (looks_strong (numbered_from 0 all) (all_among all)))
+      (looks_strong each_one [] (all_yet (around k (holder k o))) (numbered_from 0 all) (all_among all)))
   within_woken tests [] e =
       let all : List Transition = weak_aborts (own k o) in
       let first = some_kept (λ t. is_weak t.kind) (own k o)
@@ -98,7 +104,7 @@ module _ (k core : Table) (i : Images) (rows : CoreRows k core i) (layered : Lay
           subst (λ zs. Watches k core i o (at.Within o (map (λ x. x.1) (numbered_from 0 zs) ++ terminations (own k o)))
           (at.Trying (i.watching_of o) (checks
           ++ (raise_each (λ t. t.immediate) (i.flags_of o).weak (numbered_from 0 zs) ++ monitor_last k core i o)))) (sym is)
-          (looks (0, t) (numbered_from 1 more) (terminations (own k o))
+          (looks each_one [] (all_yet (around k (holder k o))) (0, t) (numbered_from 1 more) (terminations (own k o))
           (subst (λ zs. AreAmong zs (numbered_from 0 (t ∷ more))) (sym is) (all_among (t ∷ more))) (each_kept (λ t. is_join t.kind) (own k o)))
 
   first_guards : (s : ℕ) (strong closing tests : List Transition) → guarded_first s strong closing ≡ at.Guarding o tests → s ≡ o
@@ -138,7 +144,8 @@ module _ (k core : Table) (i : Images) (rows : CoreRows k core i) (layered : Lay
   monitor_woken _ _ (watch_elsewhere x other) never = elsewhere (woken k x) (not_guarding x other never) (not_within x other)
 
   -- whatever it watches, it looks first
-  pub woken_looks : (x y : Standing) → WatchRests k core i o x y → LooksFirst k core i o (woken core y)
-  woken_looks _ _ (watch_within tests) =
-      subst (λ zs. LooksFirst k core i o (at.Trying (i.watching_of o) zs)) (sym transitions_are) (looks_first behind_checks)
-  woken_looks _ _ (watch_elsewhere x other) = looks_never
+  pub woken_looks : (s : ℕ) → Contains (around k (holder k o)) s → (x y : Standing) → WatchRests k core i o x y → LooksFirst k core i o s (woken core y)
+  woken_looks s inner _ _ (watch_within tests) =
+      subst (λ zs. LooksFirst k core i o s (at.Trying (i.watching_of o) zs)) (sym transitions_are)
+      (looks_first each_one [] behind_checks (all_yet (around k (holder k o))) (in_reversed (around k (holder k o)) s inner))
+  woken_looks s inner _ _ (watch_elsewhere x other) = looks_never

@@ -1,5 +1,5 @@
 -- A configuration of a weakly layered chart within a tick, and that of its core chart which stands for it. The core's is given by the
--- chart's, but for monitors that have yet to look at the strong flags around: weak checks and the count test of a monitor are always held
+-- chart's, but for monitors that have yet to look at strong flags around: weak checks and the count test of a monitor are always held
 -- back to the end of the tick, or to an abort.
 use Rattle.std.specs.Prelude.{◌≡◌, ◌≢◌, ℕ, suc, ◌+◌, ◌<◌, Bool, true, false, not, ◌&&◌, pos, Option, Some, None, List, [], ◌∷◌, ◌++◌, map, length, slice_get}
 use Rattle.std.specs.Prelude.{Contains, if◌then◌else◌, reverse, flat_map}
@@ -68,6 +68,10 @@ module _ (k core : Table) (i : Images) where
   abbrev pub held_back : ℕ → List Transition
   held_back r = weak_checks true (i.places_of r).left (flags_here r)
 
+  -- the looks of a monitor at the strong flags of these superstates around it, the outermost first
+  abbrev pub looks_at : List ℕ → List Transition
+  looks_at yet = strong_checks false 1 (map i.flags_of yet)
+
   -- what a monitor has behind the tests of aborts: the count test, and weak checks, which are held back as well
   abbrev pub monitor_last : ℕ → List Transition
   monitor_last o = all_ended (i.flags_of o).counter ++ weak_checks true 1 (flags_here (holder k o))
@@ -114,28 +118,30 @@ module _ (k core : Table) (i : Images) where
         Watches o (at.Guarding o (map (λ x. x.1) some))
         (at.Trying (i.watching_of o) (raise_each (λ t. false) (i.flags_of o).strong some
         ++ (raising (λ t. t.immediate) 1 (i.flags_of o).weak 1 (weak_aborts (own k o)) ++ monitor_last o)))
-    -- it has yet to look at the strong flags around, before its first strong test
-    looks_strong : (some : List (ℕ × Transition)) → AreAmong (strong_aborts (own k o)) some →
+    -- it has yet to look at strong flags around, before its first strong test
+    looks_strong : (yet seen : List ℕ) → around k (holder k o) ≡ reverse yet ++ seen → (some : List (ℕ × Transition)) →
+        AreAmong (strong_aborts (own k o)) some →
         Watches o (at.Guarding o (map (λ x. x.1) some))
-        (at.Trying (i.watching_of o) (strong_checks false 1 (flags_here (holder k o)) ++ (raise_each (λ t. false) (i.flags_of o).strong some
+        (at.Trying (i.watching_of o) (looks_at yet ++ (raise_each (λ t. false) (i.flags_of o).strong some
         ++ (raising (λ t. t.immediate) 1 (i.flags_of o).weak 1 (weak_aborts (own k o)) ++ monitor_last o))))
     waits : (some : List (ℕ × Transition)) (joins : List Transition) → AreAmong (weak_aborts (own k o)) some → Each (λ t. is_join t.kind ≡ true) joins →
         Watches o (at.Within o (map (λ x. x.1) some ++ joins))
         (at.Trying (i.watching_of o) (raise_each (λ t. t.immediate) (i.flags_of o).weak some ++ monitor_last o))
-    -- it has yet to look at the strong flags around, before its first weak test
-    looks : (first : ℕ × Transition) (some : List (ℕ × Transition)) (joins : List Transition) → AreAmong (weak_aborts (own k o)) (first ∷ some) →
-        Each (λ t. is_join t.kind ≡ true) joins →
+    -- it has yet to look at strong flags around, before its first weak test
+    looks : (yet seen : List ℕ) → around k (holder k o) ≡ reverse yet ++ seen → (first : ℕ × Transition) (some : List (ℕ × Transition))
+        (joins : List Transition) → AreAmong (weak_aborts (own k o)) (first ∷ some) → Each (λ t. is_join t.kind ≡ true) joins →
         Watches o (at.Within o (map (λ x. x.1) (first ∷ some) ++ joins))
-        (at.Trying (i.watching_of o) (strong_checks false 1 (flags_here (holder k o))
+        (at.Trying (i.watching_of o) (looks_at yet
         ++ (raise_each (λ t. t.immediate) (i.flags_of o).weak (first ∷ some) ++ monitor_last o)))
     elsewhere : (x : Standing) → ((tests : List Transition) → x ≢ at.Guarding o tests) → ((tests : List Transition) → x ≢ at.Within o tests) →
         Watches o x at.Outside
 
-  -- the monitor of superstate o looks at the strong flags around before anything else, or is not there
-  pub data LooksFirst (o : ℕ) : Standing → Type 0 where
-    looks_never : LooksFirst o at.Outside
-    looks_first : (rest : List Transition) →
-        LooksFirst o (at.Trying (i.watching_of o) (strong_checks false 1 (flags_here (holder k o)) ++ rest))
+  -- the monitor of superstate o looks at the strong flag of superstate s around it, and at those between, before anything else but some further out;
+  -- or it is not there
+  pub data LooksFirst (o s : ℕ) : Standing → Type 0 where
+    looks_never : LooksFirst o s at.Outside
+    looks_first : (yet seen : List ℕ) (rest : List Transition) → around k (holder k o) ≡ reverse yet ++ seen → Contains yet s →
+        LooksFirst o s (at.Trying (i.watching_of o) (looks_at yet ++ rest))
 
   -- ---- flags
 
@@ -188,4 +194,4 @@ module _ (k core : Table) (i : Images) where
     pub closes_last : (s : ℕ) (tests : List Transition) → standing_of c (holder k s) ≡ at.Within s tests → Closes s tests
     pub calm : (q s : ℕ) → IsThere k q → Contains (around k q) s → has_to_guard (standing_of c (holder k s)) ≡ true → IsCalm (standing_of c q)
     pub unseen : (o s : ℕ) → IsState k o → has_aborts (own k o) ≡ true → Contains (around k (holder k o)) s →
-        has_to_guard (standing_of c (holder k s)) ≡ true → LooksFirst o (standing_of d (i.watcher_of o))
+        has_to_guard (standing_of c (holder k s)) ≡ true → LooksFirst o s (standing_of d (i.watcher_of o))

@@ -38,13 +38,13 @@ use Rattle.compiled_charts_laws.specs.Reactions.{AreSeenAlike as AreSeenAlikeBy}
 use Rattle.compiled_charts_laws.proofs.Plain.{expands_to_itself, stands_for_itself}
 use Rattle.compiled_charts_laws.proofs.Ticks.{one_reaction}
 use Rattle.compiled_charts_laws.proofs.Told.{as_many_states, nodes_stand}
-use Rattle.abort_expansion_laws.specs.Layered.{IsLayered, IsWeaklyLayered}
+use Rattle.abort_expansion_laws.specs.Layered.{IsWeaklyLayered}
 use Rattle.abort_expansion_laws.specs.Preemption.{HasImage}
 use Rattle.abort_expansion_laws.proofs.StepsByCase.{preemption_holds}
 use Rattle.reaction_laws.proofs.LayeredRanks.{reacts}
 use Rattle.compiled_charts.specs.Ticks.{AreTicks}
 use Rattle.compiled_charts.specs.Compiled.{CompiledChart}
-use Rattle.compiled_charts.specs.Kept.{AreSeenAlike, IsEachSeen, IsReactionSeen, ShowsItsReaction}
+use Rattle.compiled_charts.specs.Kept.{AreSeenAlike, IsReactionSeen, ShowsItsReaction}
 use Rattle.compiled_charts.proofs.ActiveStates.{same_numbers}
 use Rattle.compiled_charts.proofs.LayeredCharts.{layered_shown, layered_reacts}
 
@@ -178,19 +178,13 @@ module _ (c : Chart) (image : Image) (is : IsImageOfChart c image) (kept : Keeps
     valid = is.image_of.valid;
   }
 
-  weakly_seen : IsChart features.Extended c → IsWeaklyLayered c → IsEachSeen c (stands_for c) (state_count c) ticks controls
-  unfolding has_image
-  weakly_seen rules layered =
-      let r : AreReaction image ticks (initial image.program) controls = are_reaction image ticks (initial image.program) controls are in
-      layered_shown c rules image.program (preemption_holds c rules is.lowers.core layered has_image) ticks controls r.accepted
-      (λ ends reacts. (one (state_of_node core) own).each ticks ends controls r.accepted reacts r.reacts)
-
-  layered_seen : IsChart features.Extended c → IsLayered c → IsReactionSeen c (stands_for c) (state_count c) ticks controls
+  layered_seen : IsChart features.Extended c → IsWeaklyLayered c → IsReactionSeen c (stands_for c) (state_count c) ticks controls
   unfolding has_image
   layered_seen rules layered =
       let r : AreReaction image ticks (initial image.program) controls = are_reaction image ticks (initial image.program) controls are in
       record {
-        each = weakly_seen rules layered.weakly;
+        each = layered_shown c rules image.program (preemption_holds c rules is.lowers.core layered has_image) ticks controls r.accepted
+            (λ ends reacts. (one (state_of_node core) own).each ticks ends controls r.accepted reacts r.reacts);
         some = layered_reacts c rules image.program (reacts c rules layered has_image low) ticks r.accepted;
       }
 
@@ -203,10 +197,6 @@ shows_its_reaction x ticks controls are c is = ∥∥₁_map is.image.lowers.rul
       (subst (λ states. IsReactionSeen c (stands_for c) states ticks controls) (sym is.states)
       (chart_shown c x.image is.image kept ticks controls are (expands_to_itself c is.rules none) (stands_for_itself c is.rules none)));
   weakly_layered = λ layered.
-      subst (λ nodes. IsEachSeen c nodes x.states ticks controls) (sym is.nodes)
-      (subst (λ states. IsEachSeen c (stands_for c) states ticks controls) (sym is.states)
-      (weakly_seen c x.image is.image kept ticks controls are is.rules layered));
-  layered = λ layered.
       subst (λ nodes. IsReactionSeen c nodes x.states ticks controls) (sym is.nodes)
       (subst (λ states. IsReactionSeen c (stands_for c) states ticks controls) (sym is.states)
       (layered_seen c x.image is.image kept ticks controls are is.rules layered));

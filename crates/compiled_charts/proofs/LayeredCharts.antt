@@ -1,4 +1,4 @@
--- What shows the reaction of the core chart of a layered chart shows each reaction of the chart; and the chart has one.
+-- What shows the reaction of the core chart of a weakly layered chart shows each reaction of the chart; and the chart has one.
 use Rattle.std.proofs.Common.{ℕ, ◌≡◌, ◌<◌, true, Some, List, [], ◌∷◌, length, take, sym, ap, subst, ◌∙◌}
 use Rattle.sc_graph.specs.declared.control.Control.{Control}
 use Rattle.sc_graph.specs.Program.{Program}

@@ -9,7 +9,7 @@ use Rattle.chart_machine.specs.declared.table.Table.{Table}
 use Rattle.chart_machine.specs.Table.{table}
 use Rattle.chart_machine.specs.Machine as chart
 use Rattle.abort_expansion.specs.Expansion.{expanded}
-use Rattle.abort_expansion_laws.specs.Layered.{IsLayered, IsWeaklyLayered}
+use Rattle.abort_expansion_laws.specs.Layered.{IsWeaklyLayered}
 use Rattle.chart_lowering_laws.specs.Keeps.{Reaction, EachPair}
 use Rattle.node_states.specs.Active.{active_states, numbers_where}
 use Rattle.node_states.specs.Nodes.{state_of_node}
@@ -37,13 +37,11 @@ pub record IsReactionSeen (c : Chart) (nodes : List (Option ℕ)) (states : ℕ)
   pub each : IsEachSeen c nodes states ticks controls
   pub some : (ends : List Configuration) × Reacts c ticks ends
 
--- the core chart's reaction is seen in these configurations, and so is that of the chart, where it has no aborts or is layered; where it is weakly
--- layered, each reaction that it has
+-- the core chart's reaction is seen in these configurations, and so is that of the chart, where it has no aborts or is weakly layered
 pub record ShowsReaction (c : Chart) (x : CompiledChart) (ticks : List Inputs) (controls : List Control) : Type 0 where
   pub core : IsReactionSeen (expanded c) (state_of_node (expanded c)) (length (table (expanded c)).states) ticks controls
   pub without_aborts : chart_has_aborts c ≡ false → IsReactionSeen c x.nodes x.states ticks controls
-  pub weakly_layered : IsWeaklyLayered c → IsEachSeen c x.nodes x.states ticks controls
-  pub layered : IsLayered c → IsReactionSeen c x.nodes x.states ticks controls
+  pub weakly_layered : IsWeaklyLayered c → IsReactionSeen c x.nodes x.states ticks controls
 
 -- of whichever chart this was compiled
 abbrev pub ShowsItsReaction : CompiledChart → List Inputs → List Control → Type 0

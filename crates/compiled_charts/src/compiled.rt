@@ -54,11 +54,28 @@ impl Compiled {
         &self.verified
     }
 
+    /// For which of the chart's states each of its nodes stands.
+    pub fn nodes(&self) -> &[Option<u32>]
+        ensures { result.now ≡ self.now.nodes }
+    {
+        self.nodes.as_slice()
+    }
+
+    /// The same image, whose nodes stand for these of so many states.
+    pub fn standing_for(self, states: u32, nodes: Items<Option<u32>>) -> Compiled
+        ensures { result ≡ record { image = self.image; states = states; nodes = nodes } }
+    {
+        Compiled {
+            verified: self.verified,
+            states,
+            nodes,
+        }
+    }
+
     /// Runs ticks from the configuration before the first one, with 1 to 8 workers, and gives the configuration
     /// after each: they show the reaction of the core chart, and that of the chart, with its variables and its active
-    /// states, where it has no aborts or is layered, so that no abort lies inside of one of its kind. Where no weak
-    /// abort lies inside of a weak one, they show each reaction that the chart has. `Input` names, counted from 1, the
-    /// first tick whose inputs are not accepted. `Memory`: it was refused.
+    /// states, where it has no aborts or is weakly layered, so that no weak abort lies inside of a weak one. `Input`
+    /// names, counted from 1, the first tick whose inputs are not accepted. `Memory`: it was refused.
     #[tactic(auto, using(crate::proofs::Kept::run_shows))]
     pub fn run<R: Threads + Wait + Sync>(
         &self,

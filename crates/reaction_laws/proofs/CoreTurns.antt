@@ -130,7 +130,7 @@ module _ (c : Chart) (rules : IsChart features.Extended c) (core_rules : IsChart
           let here : IsState k o = state_with_aborts k o b.has in
           let m : MonitorGuards k core i o t tests (standing_of d (i.watcher_of o)) =
           looked_strong k core i o (standing_of now (holder k o)) (standing_of d (i.watcher_of o))
-          (ready o here b.has (subst (λ p. is_guarded k now (around k p) ≡ false) (sym b.held) free)) t tests (ap (standing_of now) b.held ∙ is) in
+          ((ready o).looked here b.has (subst (λ p. is_guarded k now (around k p) ≡ false) (sym b.held) free)) t tests (ap (standing_of now) b.held ∙ is) in
           let flag = rows.strong_there o m.number t here m.first in
           by_monitor o here b.held b.has (ap (λ x. taker x q) is)
           (tries (i.watcher_of o) (i.watching_of o) (raises (λ z. false) flag.0 (m.number, t)) (map (raises (λ z. false) flag.0) m.others
@@ -150,7 +150,8 @@ module _ (c : Chart) (rules : IsChart features.Extended c) (core_rules : IsChart
           let here : IsState k o = state_with_aborts k o has in
           let m : MonitorWaits k core i o t tests (standing_of d (i.watcher_of o)) =
           looked_weak k core i o (standing_of now (holder k o)) (standing_of d (i.watcher_of o))
-          (ready o here has (subst (λ p. is_guarded k now (around k p) ≡ false) (sym b.held) free)) t tests (ap (standing_of now) b.held ∙ is) no_join in
+          ((ready o).looked here has (subst (λ p. is_guarded k now (around k p) ≡ false) (sym b.held) free)) t
+          tests (ap (standing_of now) b.held ∙ is) no_join in
           let flag = rows.weak_there o m.number t here m.first in
           by_monitor o here b.held has
           (ap (λ x. taker x q) is ∙ ap (λ (z : Bool). if z then i.thread_of q else i.watcher_of o) no_join)

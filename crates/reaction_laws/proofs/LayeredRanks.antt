@@ -1,4 +1,4 @@
--- The steps of a layered chart that has a valid image have capped ranks, so it has a list of ends for each list of accepted inputs.
+-- The steps of a weakly layered chart that has a valid image have capped ranks, so it has a list of ends for each list of accepted inputs.
 use Rattle.std.proofs.Common.{◌≡◌, ℕ, true, Some, List, length, refl, sym, ap, subst, ◌∙◌}
 use Rattle.sc_values.specs.Access.{MayPrecede}
 use Rattle.sc_graph.specs.declared.control.Control.{Control}
@@ -19,7 +19,7 @@ use Rattle.scl_graph.specs.Graph.{program_of}
 use Rattle.abort_expansion.specs.Expansion.{expanded}
 use Rattle.chart_lowering_laws.specs.Laws.{IsLowering}
 use Rattle.compiled_charts_laws.proofs.TickStarts as tick_starts
-use Rattle.abort_expansion_laws.specs.Layered.{IsLayered}
+use Rattle.abort_expansion_laws.specs.Layered.{IsWeaklyLayered}
 use Rattle.abort_expansion_laws.specs.Preemption.{chart_machine, HasImage}
 use Rattle.abort_expansion_laws.specs.Ticks.{Reaction, AllOf}
 use Rattle.abort_expansion_laws.proofs.PreemptionKept.{own_tests_kept}
@@ -38,7 +38,7 @@ use Rattle.reaction_laws.proofs.RanksReact.{has_reaction}
 use Rattle.reaction_laws.proofs.RunsComplete.{enabled_there, turn_of}
 use Rattle.reaction_laws.proofs.SeenTheSame.{core_ends_alike}
 
-module _ (c : Chart) (rules : IsChart features.Extended c) (layered : IsLayered c) (image : HasImage c) (low : IsLowering (expanded c) image.scl) where
+module _ (c : Chart) (rules : IsChart features.Extended c) (layered : IsWeaklyLayered c) (image : HasImage c) (low : IsLowering (expanded c) image.scl) where
   abbrev k : Table
   k = table c
 
@@ -46,10 +46,10 @@ module _ (c : Chart) (rules : IsChart features.Extended c) (layered : IsLayered 
   G = program_of (numbered image.scl)
 
   abbrev Calm : Configuration → Control → Type 0
-  Calm = Quiet c rules low.core layered image.scl image.tables low (is_valid c rules low.core layered.weakly image low)
+  Calm = Quiet c rules low.core layered image.scl image.tables low (is_valid c rules low.core layered image low)
 
   abbrev Capped : (now d : Configuration) → Control → ℕ → Type 0
-  Capped = IsCapped c rules low.core image.scl image.tables low (is_valid c rules low.core layered.weakly image low)
+  Capped = IsCapped c rules low.core image.scl image.tables low (is_valid c rules low.core layered image low)
 
   -- where the chart is, its core chart, and the graph of that
   pub record KnownAt : Type 0 where
@@ -63,14 +63,14 @@ module _ (c : Chart) (rules : IsChart features.Extended c) (layered : IsLayered 
     pub quiet : Calm at.core at.control
 
   abbrev priority_at : KnownAt → ℕ → ℕ
-  priority_at at = step_priority c rules low.core image.scl image.tables low (is_valid c rules low.core layered.weakly image low) at.now at.control
+  priority_at at = step_priority c rules low.core image.scl image.tables low (is_valid c rules low.core layered image low) at.now at.control
 
   goes_at : (next : Configuration) (at : KnownAt) (cap least t : ℕ) → Capped at.now at.core at.control cap → Calm at.core at.control →
       step k t at.now ≡ Some next →
-      RanksWithin c rules low.core image.scl image.tables low (is_valid c rules low.core layered.weakly image low) at.now at.control cap least →
+      RanksWithin c rules low.core image.scl image.tables low (is_valid c rules low.core layered image low) at.now at.control cap least →
       (l : KnownAt) × HoldsAt next l least
   goes_at next at cap least t known quiet steps ranks =
-      let v = is_valid c rules low.core layered.weakly image low in
+      let v = is_valid c rules low.core layered image low in
       let tests = lowered_tests c rules low.core layered image.scl image.tables low v in
       let late = earlier c rules low.core layered image.scl image.tables low v in (
         record {
@@ -93,16 +93,16 @@ module _ (c : Chart) (rules : IsChart features.Extended c) (layered : IsLayered 
       AreAccepted image.program next → Reaction (chart_machine c) inputs (initial k) ends →
       (at : KnownAt) × (cap : ℕ) × HoldsAt (start k next (last_of (initial k) ends)) at cap
   begins_at inputs ends next accepted takes_next reaction =
-      let v = is_valid c rules low.core layered.weakly image low in
+      let v = is_valid c rules low.core layered image low in
       let tests = lowered_tests c rules low.core layered image.scl image.tables low v in
       let late = earlier c rules low.core layered image.scl image.tables low v in
-      let here : (d : Configuration) × BothRest c rules low.core layered.weakly image low (last_of (initial k) ends) d =
-      resting c rules low.core layered.weakly image low inputs ends next accepted takes_next reaction in
+      let here : (d : Configuration) × BothRest c rules low.core layered image low (last_of (initial k) ends) d =
+      resting c rules low.core layered image low inputs ends next accepted takes_next reaction in
       let before : Configuration = last_of (initial k) ends in
-      let taken = takes c rules low.core layered.weakly image low next takes_next in
+      let taken = takes c rules low.core layered image low next takes_next in
       let d : Configuration = start (table (expanded c)) next here.0 in
       let m : Control = graph_tick.start G next here.1.graph.0 in
-      let begun = started c rules low.core layered.weakly image low next before here.0 here.1.alike in
+      let begun = started c rules low.core layered image low next before here.0 here.1.alike in
       let owns = (own_tests_kept c rules low.core).starts next before here.1.owns in
       let alike = tick_starts.starts_alike (expanded c) image.scl image.tables low v next taken here.0 here.1.graph.0 here.1.graph.1 in
       let quiet = starts_quiet c rules low.core layered image.scl image.tables low v next taken before here.0 here.1.graph.0 here.1.graph.1 here.1.alike in (
@@ -140,13 +140,13 @@ module _ (c : Chart) (rules : IsChart features.Extended c) (layered : IsLayered 
         is_free = λ x at cap u holds free.
             ap (λ z. access_of (standing_of z u)) holds.same ∙ idle_is (access_of (standing_of at.now u)) free;
         uncapped = λ x at cap u holds on writes.
-            uncapped c rules low.core image.scl image.tables low (is_valid c rules low.core layered.weakly image low) at.now at.core at.control cap
+            uncapped c rules low.core image.scl image.tables low (is_valid c rules low.core layered image low) at.now at.core at.control cap
             holds.is_capped u
             (enabled_too x at u holds.same on) (λ none. writes (ap (λ z. (access_of (standing_of z u)).writes) holds.same ∙ none));
         order = λ x y at to cap other t u a here there on on_too apart writes lower.
             subst (λ z. MayPrecede (access_of (standing_of z t)) (access_of (standing_of y u))) (sym here.same)
             (subst (λ z. MayPrecede (access_of (standing_of at.now t)) (access_of (standing_of z u))) (sym there.same)
-            (in_order c rules low.core image.scl image.tables low (is_valid c rules low.core layered.weakly image low) at.now at.core to.now to.core at.control
+            (in_order c rules low.core image.scl image.tables low (is_valid c rules low.core layered image low) at.now at.core to.now to.core at.control
             to.control here.is_capped.all there.is_capped.all t u a (enabled_too x at t here.same on) (enabled_too y to u there.same on_too) apart lower));
       }
 
@@ -163,5 +163,5 @@ does_no_more c rules layered image low ticks es accepted core_reacts =
     record {
       others = those.0;
       reaction = those.1;
-      alike = core_ends_alike c rules layered.weakly image low ticks those.0 es accepted those.1 core_reacts;
+      alike = core_ends_alike c rules layered image low ticks those.0 es accepted those.1 core_reacts;
     }

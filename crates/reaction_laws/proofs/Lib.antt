@@ -30,7 +30,9 @@ pub mod OpenedThreads
 pub mod OwnSteps
 pub mod StepLow
 pub mod GuardsLow
-pub mod WithoutTests
+pub mod TestsThere
+pub mod EnabledNodes
+pub mod ChecksBeside
 pub mod MonitorsLow
 pub mod QuietRuns
 pub mod GraphComes

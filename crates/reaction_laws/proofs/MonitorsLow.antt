@@ -5,10 +5,12 @@ use Rattle.sc_values.specs.Access.{no_access}
 use Rattle.sc_values.specs.declared.expression.Expr.{Expr}
 use Rattle.sc_values.specs.declared.value.Value.TheVariants as value_is
 use Rattle.sc_graph.specs.declared.control.Control.{Control}
+use Rattle.sc_graph.specs.declared.program.Step.TheVariants as node_step
 use Rattle.sc_graph.specs.declared.tables.Tables.{Tables}
 use Rattle.sc_graph.specs.Control.{status_of}
-use Rattle.sc_graph.specs.Program.{Program}
+use Rattle.sc_graph.specs.Program.{Program, parent_of}
 use Rattle.sc_graph.specs.Tables.{priority, priority_of}
+use Rattle.sc_graph.specs.Threads.{Below}
 use Rattle.sc_graph.specs.Valid.{IsValid}
 use Rattle.tick_laws.proofs.Formed.{valid_formed}
 use Rattle.tick_laws.proofs.Falling.{StandsAt}
@@ -38,6 +40,7 @@ use Rattle.chart_machine_laws.specs.Tree.{IsThere}
 use Rattle.compiled_charts_laws.proofs.LateTests.{is_late}
 use Rattle.compiled_charts_laws.proofs.Stands.{stand_alike}
 use Rattle.abort_expansion_laws.specs.CoreRows.{own, IsState, Images, CoreRows}
+use Rattle.abort_expansion_laws.specs.Layered.{IsWeaklyLayered}
 use Rattle.abort_expansion_laws.specs.Related.{monitor_last}
 use Rattle.abort_expansion_laws.specs.Related.{raises, raise_each}
 use Rattle.abort_expansion_laws.proofs.ChecksUpTo.{strong_around}
@@ -47,7 +50,7 @@ use Rattle.abort_expansion_laws.proofs.KnownVariables.{present_there, both_true,
 use Rattle.abort_expansion_laws.proofs.QuietBegins.{LoweredTests, IsRaising, StaysLow, state_with_aborts}
 use Rattle.abort_expansion_laws.proofs.RowsOfCharts as whole
 use Rattle.abort_expansion_laws.proofs.StrongNotTaken.{IsGuarding as StandsGuarding, guarding_back, MonitorGuards}
-use Rattle.abort_expansion_laws.proofs.StrongTestsQuiet.{SoonLow}
+use Rattle.abort_expansion_laws.proofs.StrongTestsQuiet.{SoonLow, soon_low, soon_resumed, soon_tested}
 use Rattle.abort_expansion_laws.proofs.TickFollowed as ticks
 use Rattle.reaction_laws.specs.StepNodes.{Alike}
 use Rattle.reaction_laws.proofs.CappedSteps.{IsGuarding}
@@ -55,7 +58,8 @@ use Rattle.reaction_laws.proofs.ChartOrder.{AllAt, step_priority}
 use Rattle.reaction_laws.proofs.GuardsLow.{BesideLow, guard_low}
 use Rattle.reaction_laws.proofs.LinesAhead.{LowAhead}
 use Rattle.reaction_laws.proofs.RaiseNodes.{LeadsToEffect, taken_lower}
-use Rattle.reaction_laws.proofs.WithoutTests.{at_priority, without_tests, no_resume}
+use Rattle.reaction_laws.proofs.ChecksBeside.{test_below}
+use Rattle.reaction_laws.proofs.EnabledNodes.{at_priority, at_test, no_resume}
 
 less_then : (a b c : ℕ) → a < b → b ≤ c → a ≤ c
 less_then a b c lt le = omega (lt, le, arith)
@@ -99,7 +103,7 @@ module _ (c : Chart) (rules : IsChart features.Extended c) (core_rules : IsChart
 
     module _ (now d : Configuration) (m : Control) (all : AllAt c rules core_rules p q low valid now d m) (alike : Alike (expanded c) p d m)
         (quiet : MonitorsQuiet d m) (t : ℕ) (on : is_enabled k now t ≡ true)
-        (alone : (o x : ℕ) → (i.flags_of o).strong ≡ Some x → strong_around k o ≡ 0) where
+        (layered : IsWeaklyLayered c) where
       module _ (o : ℕ) (test : Transition) (tests : List Transition) (e : Expr) (guards : standing_of now t ≡ at.Guarding o (test ∷ tests))
           (triggered : test.trigger ≡ Some e) where
         there : IsThere k t
@@ -123,7 +127,8 @@ module _ (c : Chart) (rules : IsChart features.Extended c) (core_rules : IsChart
         monitor : MonitorGuards k core i o test tests (standing_of d (i.watcher_of o))
         monitor =
             looked_strong k core i o (standing_of now (holder k o)) (standing_of d (i.watcher_of o))
-            (all.ready o o_there b.has (subst (λ p. is_guarded k now (around k p) ≡ false) (sym b.held) free)) test tests (ap (standing_of now) b.held ∙ guards)
+            ((all.ready o).looked o_there b.has (subst (λ p. is_guarded k now (around k p) ≡ false) (sym b.held) free)) test
+            tests (ap (standing_of now) b.held ∙ guards)
 
         flag : (x : ℕ) × ((i.flags_of o).strong ≡ Some x)
         flag = rows.strong_there o monitor.number test o_there monitor.first
@@ -161,27 +166,34 @@ module _ (c : Chart) (rules : IsChart features.Extended c) (core_rules : IsChart
         stays : Stays o raise.taken m
         stays = quiet o o_there b.has (ap is_late core_stands) raise.taken raises_it
 
-        -- where no tests come first, who is below the node soon is so, since nobody resumes
-        none_tests : (u : ℕ) → Enabled G m u → (n : ℕ) → StandsAt (status_of m u) n → SoonLow G q (priority q raise.taken) 0 n →
-            priority_of q (status_of m u) ≤ priority_of q (status_of m (i.watcher_of o))
-        none_tests u on_u n there soon =
-            ⊎_elim
-            (λ lower.
-            less_then (priority_of q (status_of m u)) (priority q raise.taken) (priority_of q (status_of m (i.watcher_of o)))
-            (subst (λ z. z < priority q raise.taken) (sym (at_priority q (status_of m u) n there)) lower)
-            (taken_lower G q valid m (i.watcher_of o) (put flag.0 (suc monitor.number)) raise))
-            (λ found. absurd (no_resume G (valid_formed G q valid) m u n found.0 (all.resumed u) on_u there found.1))
-            (without_tests G q (priority q raise.taken) 0 n soon refl)
+        abbrev IsLower : ℕ → Type 0
+        IsLower u = priority_of q (status_of m u) < priority q raise.taken
+
+        -- who is below the node soon is so, since nobody resumes, and whoever is at a test is at its check of the flag
+        by_soon : (child u : ℕ) → parent_of G child ≡ Some (i.thread_of (holder k o)) → child ≢ i.watcher_of o → Below G u child → Enabled G m u →
+            (many n : ℕ) → SoonLow G q (priority q raise.taken) many n → StandsAt (status_of m u) n → IsLower u
+        by_soon child u up ne under on_u _ _ (soon_low many n lt) there =
+            subst (λ z. z < priority q raise.taken) (sym (at_priority q (status_of m u) n there)) lt
+        by_soon child u up ne under on_u _ _ (soon_resumed many n to found soon) there =
+            absurd (no_resume G (valid_formed G q valid) m u n to (all.resumed u) on_u there found)
+        by_soon child u up ne under on_u _ _ (soon_tested many n on_true on_false code found first second) there =
+            subst (λ z. z < priority q raise.taken) (sym (at_priority q (status_of m u) n there))
+            (test_below c rules core_rules layered p q low valid now d m all alike o raises_it.flag raise.taken o_there b.has (test ∷ tests)
+            (ap (standing_of now) b.held ∙ guards) (subst (λ r. is_guarded k now (around k r) ≡ false) (sym b.held) free) raises_it.is_flag
+            raise.owned raises_it.inits
+            u child up ne under n
+            (at_test G (valid_formed G q valid) m u n (node_step.Cond code on_true on_false) tt on_u there found)
+            (node_step.Cond code on_true on_false) tt found)
 
         beside : BesideLow G q valid m alike.is_configuration (i.thread_of t) (i.watcher_of o)
         beside child u parent ne under on_u =
-            ⊎_elim
-            (λ lower. less_then (priority_of q (status_of m u)) (priority q raise.taken) (priority_of q (status_of m (i.watcher_of o))) lower
-            (taken_lower G q valid m (i.watcher_of o) (put flag.0 (suc monitor.number)) raise))
-            (λ soon.
-            none_tests u (enabled_view G m u on_u) soon.0 soon.1
-            (subst (λ z. SoonLow G q (priority q raise.taken) z soon.0) (alone o flag.0 flag.1) soon.2))
-            (stays.low u (child, (parent ∙ ap (λ h. Some (i.thread_of h)) (sym b.held), ne), under) (enabled_view G m u on_u))
+            less_then (priority_of q (status_of m u)) (priority q raise.taken) (priority_of q (status_of m (i.watcher_of o)))
+            (⊎_elim (λ lower. lower) (λ soon. by_soon child u up ne under (enabled_view G m u on_u) (strong_around k o) soon.0 soon.2 soon.1)
+            (stays.low u (child, (up, ne), under) (enabled_view G m u on_u)))
+            (taken_lower G q valid m (i.watcher_of o) (put flag.0 (suc monitor.number)) raise)
+          where
+            up : parent_of G child ≡ Some (i.thread_of (holder k o))
+            up = parent ∙ ap (λ h. Some (i.thread_of h)) (sym b.held)
 
         guarding_low : access_of (standing_of now t) ≢ no_access → LowAhead G q (step_priority c rules core_rules p q low valid now m t) (i.thread_of t) m
         guarding_low some = guard_low c rules core_rules p q low valid now d m all alike t o (test ∷ tests) on guards some beside

@@ -29,7 +29,7 @@ use Rattle.chart_machine_laws.specs.Tree.{IsThere}
 use Rattle.compiled_charts_laws.proofs.AtJoins as at_joins
 use Rattle.compiled_charts_laws.proofs.LateTests.{is_late}
 use Rattle.abort_expansion_laws.specs.CoreRows.{own, Images, CoreRows}
-use Rattle.abort_expansion_laws.specs.Layered.{IsLayered}
+use Rattle.abort_expansion_laws.specs.Layered.{IsWeaklyLayered}
 use Rattle.abort_expansion_laws.specs.Segments.{Segment, threads}
 use Rattle.abort_expansion_laws.specs.StageReached.{some_work, stage_of, Stage}
 use Rattle.abort_expansion_laws.specs.Stages.{Entry, Correspondence, NoneReached}
@@ -48,15 +48,13 @@ use Rattle.reaction_laws.proofs.ChartOrder.{AllAt}
 use Rattle.reaction_laws.proofs.GraphComes.{graph_run, graph_next, graph_leads, all_there, alike_there, quiet_there, own_there}
 use Rattle.reaction_laws.proofs.GreatestPriority.{greatest_priority, all_ahead, all_once_stepped}
 use Rattle.reaction_laws.proofs.MonitorsLow.{lowered, MonitorsQuiet, guards_low}
-use Rattle.reaction_laws.proofs.WithoutTests.{none_further}
-use Rattle.abort_expansion_laws.proofs.LayeredChartRows.{start_rows}
 use Rattle.reaction_laws.proofs.OpenedThreads.{waits_there}
 use Rattle.reaction_laws.proofs.OthersLow.{RanksWithin}
 use Rattle.reaction_laws.proofs.OwnSteps.{touched, touched_climbs, has_own_step}
 use Rattle.reaction_laws.proofs.StepLow.{LinesLow, step_low}
 
-module _ (c : Chart) (rules : IsChart features.Extended c) (core_rules : IsChart features.Core (expanded c)) (layered : IsLayered c) (p : Scl) (q : Tables)
-    (low : IsLowering (expanded c) p) (valid : IsValid (program_of (numbered p)) q)
+module _ (c : Chart) (rules : IsChart features.Extended c) (core_rules : IsChart features.Core (expanded c)) (layered : IsWeaklyLayered c) (p : Scl)
+    (q : Tables) (low : IsLowering (expanded c) p) (valid : IsValid (program_of (numbered p)) q)
     (lowered_tests : LoweredTests (table (expanded c)) (program_of (numbered p)) (Alike (expanded c) p) (lowered c rules core_rules p q low valid))
     (earlier : (d next : Configuration) (t g : ℕ) → step (table (expanded c)) t d ≡ Some next → is_late (standing_of next g) ≡ true →
     is_late (standing_of d g) ≡ true) where
@@ -90,7 +88,7 @@ module _ (c : Chart) (rules : IsChart features.Extended c) (core_rules : IsChart
       (ranks : RanksWithin c rules core_rules p q low valid now m most least) (r : ℕ) (steps : step k r now ≡ Some next) where
     pub followed : Segment (machine core) corr Told d (Stage k i.thread_of now d) (Stage k i.thread_of next) (act_of (machine k) now r ∷ [])
         (AllReady k core i next)
-    followed = steps_ready c rules core_rules layered.weakly now d known.all.related known.all.owns r next steps
+    followed = steps_ready c rules core_rules layered now d known.all.related known.all.owns r next steps
 
     pub owns_next : OwnTests k next
     owns_next = (own_tests_kept c rules core_rules).steps now next r known.all.owns steps
@@ -169,7 +167,7 @@ module _ (c : Chart) (rules : IsChart features.Extended c) (core_rules : IsChart
           joins = low_next.joins;
           guarded = λ t on guards some.
               guards_low c rules core_rules p q low valid lowered_tests earlier next followed.last n all_next alike_next quiet_next t on
-              (λ o x flag. none_further c layered o ((start_rows c rules core_rules layered.weakly).strong_for o x flag)) guards some;
+              layered guards some;
         }
 
   -- ---- as a tick starts
@@ -177,7 +175,7 @@ module _ (c : Chart) (rules : IsChart features.Extended c) (core_rules : IsChart
   module _ (now d : Configuration) (m : Control) (started : Started k core i now d) (owns : OwnTests k now) (alike : Alike (expanded c) p d m)
       (quiet : Quiet d m) where
     pub first : Segment (machine core) corr Told d NoneReached (Stage k i.thread_of now) [] (AllReady k core i now)
-    first = ticks_ready c rules core_rules layered.weakly now d started
+    first = ticks_ready c rules core_rules layered now d started
 
     abbrev pub m_first : Control
     m_first =
@@ -208,5 +206,5 @@ module _ (c : Chart) (rules : IsChart features.Extended c) (core_rules : IsChart
           joins = λ t on inside. all_once_stepped G q (i.thread_of t) m_first;
           guarded = λ t on guards some.
               guards_low c rules core_rules p q low valid lowered_tests earlier now first.last m_first all_first alike_first quiet_first t on
-              (λ o x flag. none_further c layered o ((start_rows c rules core_rules layered.weakly).strong_for o x flag)) guards some;
+              layered guards some;
         }

@@ -28,6 +28,8 @@ pub use Rattle.reaction_laws.proofs.OwnSteps.{touched_climbs, has_own_step}
 pub use Rattle.reaction_laws.proofs.StepLow.{step_low}
 pub use Rattle.reaction_laws.proofs.GuardsLow.{guard_low}
 pub use Rattle.reaction_laws.proofs.NoResumes.{no_resumes}
+pub use Rattle.reaction_laws.proofs.TestsThere.{tests_there}
+pub use Rattle.reaction_laws.proofs.ChecksBeside.{test_below}
 pub use Rattle.reaction_laws.proofs.RaiseNodes.{leads_to_effect, taken_lower}
 pub use Rattle.reaction_laws.proofs.ChartOrder.{in_order}
 pub use Rattle.reaction_laws.proofs.CoreTurns.{taken_by}

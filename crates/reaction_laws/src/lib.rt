@@ -1,5 +1,5 @@
-//! What a layered chart does in a tick: the laws of its reaction, of the steps of a core chart, and of priorities in a
-//! graph, over the definitions alone.
+//! What a weakly layered chart does in a tick: the laws of its reaction, of the steps of a core chart, and of
+//! priorities in a graph, over the definitions alone.
 #![tactic(auto)]
 
 ghost use Rattle.reaction_laws.specs.Alike.{LayeredReactionsAreAlike};
@@ -16,8 +16,9 @@ pub fn layered_ticks_end()
     ensures { LayeredTicksEnd }
 {}
 
-/// A layered chart that has a valid image has a reaction to whatever inputs that accepts: a list of ends, one for each
-/// tick, and to each of them an admissible complete run leads. This function does nothing; its contract is the law.
+/// A weakly layered chart that has a valid image has a reaction to whatever inputs that accepts: a list of ends, one
+/// for each tick, and to each of them an admissible complete run leads. This function does nothing; its contract is the
+/// law.
 pub fn layered_charts_react()
     ensures { LayeredChartsReact }
 {}
@@ -29,8 +30,8 @@ pub fn layered_reactions_are_alike()
     ensures { LayeredReactionsAreAlike }
 {}
 
-/// Each list of ends of the core chart of a layered chart that has a valid image, to inputs that are accepted, has one
-/// of the chart that is seen alike. This function does nothing; its contract is the law.
+/// Each list of ends of the core chart of a weakly layered chart that has a valid image, to inputs that are accepted,
+/// has one of the chart that is seen alike. This function does nothing; its contract is the law.
 pub fn core_charts_do_no_more()
     ensures { CoreChartsDoNoMore }
 {}
