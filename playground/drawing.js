@@ -7,6 +7,7 @@ const Drawing = (() => {
   const FONTS = { state: "600 13px", region: "12px", label: "12px" };
   const FAMILY = '"DejaVu Sans", "Liberation Sans", Verdana, Arial, sans-serif';
   const KINDS = { go: "transition", strong: "strong abort", weak: "weak abort", join: "termination" };
+  const HEAD = "M-4 -8L0 0L4 -8Z";
   const TURNS = { down: 0, left: 90, up: 180, right: 270 };
 
   function made(name, attributes = {}, ...inside) {
@@ -31,7 +32,9 @@ const Drawing = (() => {
   }
 
   function words(transition) {
-    const parts = [transition.immediate ? `immediate ${KINDS[transition.kind]}` : KINDS[transition.kind], `to ${transition.target}`];
+    const parts = [transition.immediate ? `immediate ${KINDS[transition.kind]}` : KINDS[transition.kind],
+      transition.history ? `to the history of ${transition.target}` : `to ${transition.target}`];
+    if (transition.wait) parts.push(transition.wait.words);
     if (transition.trigger) parts.push(`if ${transition.trigger.words}`);
     if (transition.effects.length) parts.push(`do ${transition.effects.map((effect) => effect.words).join(", ")}`);
     return parts.join(" ");
@@ -83,7 +86,8 @@ const Drawing = (() => {
       if (state.final) group.append(made("rect", { class: "inner", x: 3, y: 3, width: box.wide - 6, height: box.tall - 6, rx: 6 }));
       group.append(made("circle", { class: "light", cx: 9, cy: 9, r: 3.5 }));
       const middle = box.regions.length ? 16 : box.tall / 2 + 5;
-      group.append(made("text", { class: "state-name", x: box.wide / 2, y: middle }, state.name));
+      group.append(made("text", { class: "state-name", x: box.wide / 2, y: box.actions.length ? 18 : middle }, state.name));
+      if (box.actions.length) group.append(...actions(box));
       if (state.regions.length) {
         const handle = this.handle("state", state, box.folded);
         handle.setAttribute("transform", `translate(${box.wide - 20} 4)`);
@@ -101,7 +105,7 @@ const Drawing = (() => {
       const sorts = ["transition", transition.kind, transition.immediate && "immediate"].filter(Boolean);
       const group = made("g", { class: sorts.join(" "), "data-path": transition.path, role: "img", "aria-label": words(transition) });
       group.append(made("path", { class: "reach", d: edge.way }), made("path", { class: "way", d: edge.way }));
-      group.append(made("path", { class: "head", d: "M-4 -8L0 0L4 -8Z", transform: turned(head) }));
+      group.append(...(edge.history ? history(head) : [made("path", { class: "head", d: HEAD, transform: turned(head) })]));
       if (transition.kind === "strong") group.append(made("circle", { class: "tail", r: 4.5, transform: turned(tail), cy: 4.5 }));
       if (transition.kind === "join") group.append(made("path", { class: "tail", d: "M-6 0L6 0L0 10Z", transform: turned(tail) }));
       if (label) {
@@ -114,6 +118,22 @@ const Drawing = (() => {
       this.parts.set(transition.path, { element: group, part: transition });
       return group;
     }
+  }
+
+  // What a state does by itself, below its name.
+  function actions(box) {
+    const words = made("text", { class: "action" });
+    box.actions.forEach((line, k) => words.append(made("tspan", { x: 10, y: Layout.TITLE + 17 + k * Layout.LINE }, line)));
+    return [made("path", { class: "rule", d: `M0.6 ${Layout.TITLE + 3}H${box.wide - 0.6}` }), words];
+  }
+
+  // The head of an arrow that leads to a state as it was left.
+  function history(head) {
+    const r = Layout.MARK / 2;
+    const [x, y] = { down: [0, -r], up: [0, r], left: [r, 0] }[head.side];
+    return [made("path", { class: "head", d: HEAD, transform: `${turned(head)} translate(0 ${1 - 2 * r})` }),
+      made("circle", { class: "history", r: r - 1, cx: head.x + x, cy: head.y + y }),
+      made("text", { class: "history-letter", x: head.x + x, y: head.y + y + 3.6 }, "H")];
   }
 
   function turned(end) {

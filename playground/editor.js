@@ -5,6 +5,7 @@
 class Editor {
   static LINE = 18;
   static TAB = 2;
+  static LONGEST = 2000; // letters of a line that are coloured
 
   // `changed` hears of each new text, `pointed` of the place under the pointer or the caret.
   constructor(host, changed, pointed) {
@@ -23,8 +24,7 @@ class Editor {
       ["autocomplete", "off"], ["wrap", "off"], ["aria-describedby", "verdict"]]) this.area.setAttribute(key, value);
     host.append(this.numbers, this.under, this.sheet, this.area);
     this.marks = new Map();
-    this.lines = [""];
-    this.starts = [0];
+    this.read("");
     this.changed = changed;
     const context = document.createElement("canvas").getContext("2d");
     context.font = getComputedStyle(this.area).font;
@@ -51,17 +51,32 @@ class Editor {
   }
 
   renew() {
-    this.lines = this.area.value.split("\n");
-    this.starts = [0];
-    for (const line of this.lines) this.starts.push(this.starts[this.starts.length - 1] + line.length + 1);
+    this.read(this.area.value);
     this.show();
     this.changed(this.area.value);
+  }
+
+  read(text) {
+    this.pieces = new Tokens.Lines(text);
+    this.lines = this.pieces.lines;
+    this.starts = this.pieces.starts;
   }
 
   // The offset of a line and a column, which both count from 1.
   offset(line, column) {
     const at = Math.min(Math.max(line, 1), this.lines.length) - 1;
     return this.starts[at] + Math.min(column - 1, this.lines[at].length);
+  }
+
+  // Where the token or comment ends that stands at an offset.
+  endOfToken(offset) {
+    const line = this.lineOf(offset);
+    let from = this.starts[line];
+    for (const { piece } of this.pieces.pieces(line)) {
+      if (from + piece.length > offset) return piece.trim() ? from + piece.length : offset + 1;
+      from += piece.length;
+    }
+    return offset + 1;
   }
 
   lineOf(offset) {
@@ -116,9 +131,9 @@ class Editor {
     this.last = Math.min(this.lines.length, this.first + Math.ceil(this.area.clientHeight / Editor.LINE) + 2);
     const lines = [];
     const numbers = [];
-    for (let at = this.first; at < this.last; at += 1) {
+    for (const [k, pieces] of this.pieces.coloured(this.first, this.last, Editor.LONGEST).entries()) {
       const line = document.createElement("div");
-      for (const { sort, piece } of Language.piecesOfLine(this.lines[at].slice(0, 2000))) {
+      for (const { sort, piece } of pieces) {
         if (sort === "space" || sort === "name") line.append(piece);
         else {
           const span = document.createElement("span");
@@ -129,7 +144,7 @@ class Editor {
       }
       lines.push(line);
       const number = document.createElement("div");
-      number.textContent = at + 1;
+      number.textContent = this.first + k + 1;
       numbers.push(number);
     }
     this.sheet.replaceChildren(...lines);

@@ -286,7 +286,7 @@ const Layers = (() => {
     }
   }
 
-  // Nodes have what they take up left and right of the middle of their box and its height, `wide` and `tall` of the box itself;
+  // Nodes have what they take up left and right of the middle of their box and around it, `wide` and `tall` of the box itself;
   // edges have the like for their labels. Gives the middle and the top of each node, the ways of the edges, and the whole's size.
   function* arranged(nodes, edges, ranking) {
     const grid = new Grid(nodes, edges, ranking);
@@ -298,7 +298,7 @@ const Layers = (() => {
     const least = Math.min(...grid.cells.map((cell) => cell.x - cell.left));
     for (const cell of grid.cells) {
       cell.x -= least;
-      cell.top = (bands[cell.row].top + bands[cell.row].bottom - cell.height) / 2;
+      cell.top = (bands[cell.row].top + bands[cell.row].bottom - (cell.isNode ? cell.tall : cell.height)) / 2;
     }
     const ways = yield* grid.ways(bands);
     const width = Math.max(...grid.cells.map((cell) => cell.x + cell.right));

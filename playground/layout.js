@@ -7,17 +7,26 @@ const Layout = (() => {
   const LETTERS = 30; // about as many in a line
   const EDGE = 8; // between a box and what is in it
   const TITLE = 22;
+  const MARK = 16; // the height of the mark of a history
   const ROW = 1100; // the width up to which regions stand in one row
   const SHAPE = 1.45; // the width that a chart should have for its height
 
   // The words of a transition in lines: "1: trigger", "/ effect, effect".
   function labelOf(transition, number) {
-    const trigger = transition.trigger ? transition.trigger.words : "";
+    const { wait, trigger } = transition;
+    const asked = [wait && wait.words, trigger && (wait ? `if ${trigger.words}` : trigger.words)].filter(Boolean).join(" ");
     const effects = transition.effects.map((effect) => effect.words);
     const head = number ? `${number}:` : "";
     const made = effects.length ? `/ ${effects.join(", ")}` : "";
-    if (!trigger) return wrapped(`${head} ${made}`.trim(), /(?<=,) /);
-    return [...wrapped(`${head} ${trigger}`.trim(), / (?=and |or )/), ...wrapped(made, /(?<=,) /)];
+    if (!asked) return wrapped(`${head} ${made}`.trim(), /(?<=,) /);
+    return [...wrapped(`${head} ${asked}`.trim(), / (?=and |or |if |of )/), ...wrapped(made, /(?<=,) /)];
+  }
+
+  // The words of a state's action in lines: "entry / effect, effect".
+  function actionLines({ kind, immediate, trigger, effects }) {
+    const head = [immediate && "immediate", kind, trigger && trigger.words].filter(Boolean).join(" ");
+    const breaks = trigger ? /(?<=,) | (?=\/ |and |or )/ : /(?<=,) /;
+    return wrapped(`${head} / ${effects.map((effect) => effect.words).join(", ")}`, breaks);
   }
 
   // Breaks words where a break may be; what goes on stands behind a space.
@@ -43,19 +52,29 @@ const Layout = (() => {
       return { lines, wide, height: lines.length * LINE };
     }
 
+    // What a state does by itself stands below its name.
     * state(state) {
       const title = this.measure(state.name, "state");
-      const box = { sort: "state", state, regions: [], folded: this.folded.has(state.path) };
-      if (!state.regions.length || box.folded) {
-        box.wide = Math.max(48, title + (box.folded ? 48 : 36));
+      const box = { sort: "state", state, regions: [], actions: [], folded: this.folded.has(state.path) };
+      if (box.folded) {
+        box.wide = Math.max(48, title + 48);
         box.tall = 28;
         return box;
       }
+      box.actions = state.actions.flatMap(actionLines);
+      const wide = box.actions.length ? this.sized(box.actions).wide + 20 : 0;
+      const tall = box.actions.length * LINE + (box.actions.length ? 6 : 0);
+      if (!state.regions.length) {
+        box.wide = Math.max(48, title + 36, wide);
+        box.tall = 28 + tall;
+        return box;
+      }
       const inside = yield* this.regions(state.regions);
+      const top = TITLE + 4 + (tall && tall + 4);
       box.regions = inside.boxes;
-      for (const region of box.regions) move(region, region.left + EDGE, region.top + TITLE + 4);
-      box.wide = Math.max(inside.wide + 2 * EDGE, title + 44);
-      box.tall = TITLE + 4 + inside.tall + EDGE;
+      for (const region of box.regions) move(region, region.left + EDGE, region.top + top);
+      box.wide = Math.max(inside.wide + 2 * EDGE, title + 44, wide);
+      box.tall = top + inside.tall + EDGE;
       return box;
     }
 
@@ -137,13 +156,14 @@ const Layout = (() => {
       const beside = boxes.map(() => []);
       for (const edge of all) if (edge.from === edge.to || jumps.has(edge)) beside[edge.from].push(edge);
       yield;
-      const nodes = boxes.map((one, i) => this.node(one, beside[i]));
+      const marked = new Set(far.filter((edge) => edge.transition.history && !jumps.has(edge)).map((edge) => edge.to));
+      const nodes = boxes.map((one, i) => this.node(one, beside[i], marked.has(i) ? MARK : 0));
       yield;
       const plan = yield* Layers.arranged(nodes, far, ranking);
       boxes.forEach((one, i) => {
         const { x, top } = plan.places[i];
         one.left = x - one.wide / 2 + EDGE;
-        one.top = top + (nodes[i].height - one.tall) / 2 + TITLE + 2;
+        one.top = top + TITLE + 2;
       });
       box.states = boxes;
       for (const [k, edge] of far.entries()) {
@@ -155,12 +175,12 @@ const Layout = (() => {
       box.tall = plan.height + TITLE + 2 + EDGE;
     }
 
-    // What a state takes up with the transitions that are drawn at its right side.
-    node(box, beside) {
+    // What a state takes up with the transitions that are drawn at its right side, and with the marks of histories above and below.
+    node(box, beside, mark) {
       const tall = beside.reduce((sum, edge) => sum + sideHeight(edge), 0);
       box.tall = Math.max(box.tall, tall);
       const extra = Math.max(0, ...beside.map((edge) => 30 + sideWidth(edge, this.measure)));
-      return { left: box.wide / 2, right: box.wide / 2 + extra, height: box.tall, wide: box.wide, tall: box.tall };
+      return { left: box.wide / 2, right: box.wide / 2 + extra, height: box.tall + 2 * mark, wide: box.wide, tall: box.tall };
     }
   }
 
@@ -189,12 +209,22 @@ const Layout = (() => {
     return edge.from === edge.to;
   }
 
+  // From where a loop leaves its state down to where it comes back.
+  function loopHeight({ transition }) {
+    return transition.history ? 18 : 12;
+  }
+
   function sideHeight(edge) {
-    return isLoop(edge) ? Math.max(24, edge.size.height + 6) : edge.size.height + LINE + 8;
+    return isLoop(edge) ? Math.max(loopHeight(edge) + 12, edge.size.height + 6) : edge.size.height + LINE + 8;
   }
 
   function sideWidth(edge, measure) {
-    return Math.max(edge.size.wide, isLoop(edge) ? 0 : measure(`to ${edge.transition.target}`, "label"));
+    return Math.max(edge.size.wide, isLoop(edge) ? 0 : measure(farWords(edge), "label"));
+  }
+
+  // What stands at the head of an arrow that is too far from its target to be drawn.
+  function farWords({ transition }) {
+    return transition.history ? `to ${transition.target}, history` : `to ${transition.target}`;
   }
 
   // A transition that goes from row to row: its way in the direction in which it is taken, its ends, and its label.
@@ -219,7 +249,7 @@ const Layout = (() => {
     const label = labelled && { x: labelled.x + 6, top: labelled.label.top + dy, lines: edge.size.lines };
     const end = stops[stops.length - 1];
     const side = back ? "up" : "down";
-    return { transition: edge.transition, way: drawn.join(""), label, tail: { x: stops[0].x, y: stops[0].first, side },
+    return { transition: edge.transition, way: drawn.join(""), label, history: edge.transition.history, tail: { x: stops[0].x, y: stops[0].first, side },
       head: { x: end.x, y: end.last, side } };
   }
 
@@ -230,13 +260,14 @@ const Layout = (() => {
       const middle = top + sideHeight(edge) / 2;
       const right = box.left + box.wide;
       top += sideHeight(edge);
-      const lines = isLoop(edge) ? edge.size.lines : [...edge.size.lines, `to ${edge.transition.target}`];
+      const lines = isLoop(edge) ? edge.size.lines : [...edge.size.lines, farWords(edge)];
       const label = { x: right + 26, top: middle - (lines.length * LINE) / 2, lines };
-      const y = isLoop(edge) ? middle - 6 : middle;
+      const down = isLoop(edge) ? loopHeight(edge) : 0;
+      const y = middle - down / 2;
       const way = isLoop(edge)
-        ? `M${right} ${y}C${right + 28} ${y - 4} ${right + 28} ${y + 16} ${right} ${y + 12}` : `M${right} ${y}L${right + 20} ${y}`;
-      region.edges.push({ transition: edge.transition, way, label, tail: { x: right, y, side: "right" },
-        head: isLoop(edge) ? { x: right, y: y + 12, side: "left" } : { x: right + 20, y, side: "right" } });
+        ? `M${right} ${y}C${right + 28} ${y - 4} ${right + 28} ${y + down + 4} ${right} ${y + down}` : `M${right} ${y}L${right + 20} ${y}`;
+      region.edges.push({ transition: edge.transition, way, label, history: edge.transition.history && isLoop(edge), tail: { x: right, y, side: "right" },
+        head: isLoop(edge) ? { x: right, y: y + down, side: "left" } : { x: right + 20, y, side: "right" } });
     }
   }
 
@@ -254,5 +285,5 @@ const Layout = (() => {
       tall: inside.tall + TITLE + 4 + EDGE };
   }
 
-  return { of, LINE, TITLE };
+  return { of, LINE, TITLE, MARK };
 })();

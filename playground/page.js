@@ -120,67 +120,10 @@ const Page = (() => {
     if (!verdict || text !== editor.text) return;
     $("verdict").classList.remove("waiting");
     if ($("notice-act").textContent === "Try again") $("notice").hidden = true;
-    showVerdict(verdict);
+    said.show(verdict, chart);
     views.take(text);
     if (verdict.accepted) await told(() => session.take(text, Language.variablesOf(text)));
     showAll();
-  }
-
-  // ---- what the compiler says
-
-  const PLACE = /^(?:text:(\d+):(\d+): |node \d+ at (\d+):(\d+))/;
-
-  // Of an accepted text what it has and its warnings, of another one its fault.
-  function showVerdict(verdict) {
-    const host = $("verdict");
-    const { accepted } = verdict;
-    host.className = accepted ? "accepted" : "refused";
-    const marks = [];
-    const lines = (verdict.words || verdict.fault).trimEnd().split("\n").map((line, at) => {
-      const found = PLACE.exec(line);
-      if (!found) {
-        return lineOf(accepted ? line.replace(/^ok /, "Accepted: ") : line, at === 0 ? "headline" : /^(help:|\s+=)/.test(line) ? "advice" : "shown");
-      }
-      const place = editor.offset(Number(found[1] || found[3]), Number(found[2] || found[4]));
-      marks.push({ from: place, to: endOfToken(place), isNode: Boolean(found[3]) });
-      return placeButton(found[1] ? line.replace(/^text:/, "") : line, place, found[1] ? "headline" : "node");
-    });
-    host.replaceChildren(...lines);
-    const faults = accepted ? [] : marks;
-    editor.mark("fault", faults.filter((mark, at) => !mark.isNode || at));
-    editor.mark("warned", accepted ? marks : []);
-    markFaults(faults);
-  }
-
-  function lineOf(words, kind) {
-    const line = document.createElement("div");
-    line.className = kind;
-    line.textContent = words;
-    return line;
-  }
-
-  function placeButton(words, place, kind) {
-    const button = document.createElement("button");
-    button.type = "button";
-    button.className = kind;
-    button.textContent = words;
-    button.addEventListener("click", () => editor.go(place));
-    return button;
-  }
-
-  function endOfToken(place) {
-    const line = editor.lineOf(place);
-    let from = editor.starts[line];
-    for (const { piece } of Language.piecesOfLine(editor.lines[line])) {
-      if (from + piece.length > place) return piece.trim() ? from + piece.length : place + 1;
-      from += piece.length;
-    }
-    return place + 1;
-  }
-
-  function markFaults(marks) {
-    const parts = chart ? marks.map((mark) => Language.partAt(chart, mark.from)).filter(Boolean) : [];
-    pane.mark("fault", parts.map(({ part }) => part.path));
   }
 
   // ---- what is pointed at
@@ -191,15 +134,10 @@ const Page = (() => {
       let found = place !== null && chart ? Language.partAt(chart, place) : null;
       if (path && chart) found = [...Language.partsOf(chart.regions)].find(({ part }) => part.path === path) || null;
       const part = found && found.part;
+      const paths = (part && !path ? Language.alike(chart, part) : [part || []]).flat().map((one) => one.path);
       editor.mark("under", part ? [part.head || { from: part.from, to: part.to }] : []);
-      pane.mark("under", part ? [part.path] : []);
-      const line = place !== null && !chart ? editor.lineOf(place) + 1 : 0;
-      const pathOfNode = (node) => {
-        const at = Language.partAt(chart, editor.offset(node.line, node.column));
-        return at && at.part.path;
-      };
-      const isMeant = (node) => (chart ? Boolean(part) && pathOfNode(node) === part.path : node.line === line);
-      views.mark(isMeant, part && part.path);
+      pane.mark("under", paths);
+      views.mark(paths, place !== null && !chart ? editor.lineOf(place) + 1 : 0);
     });
   }
 
@@ -219,7 +157,8 @@ const Page = (() => {
     const now = session.now();
     const lit = new Set(now && now.states && chart ? now.states : []);
     const parts = lit.size ? [...Language.partsOf(chart.regions)].filter(({ part }) => lit.has(part.path)) : [];
-    editor.mark("lit", parts.map(({ part }) => part.label));
+    // the uses of a module have one text
+    editor.mark("lit", [...new Map(parts.map(({ part }) => [part.label.from, part.label])).values()]);
   }
 
   function canPlay() {
@@ -323,7 +262,7 @@ const Page = (() => {
       reset: () => { stop(); session.reset(); },
       smaller: () => pane.scale(1 / 1.2), larger: () => pane.scale(1.2), fit: () => pane.scale(0),
       "fold-all": () => pane.foldAll(), "unfold-all": () => pane.unfoldAll(), "save-drawing": saveDrawing, "save-image": saveImage, link,
-      "save-text": () => save(Language.isChart(editor.text) ? "chart" : "scl", [editor.text], "text/plain"),
+      "save-text": () => save(Language.endingOf(editor.text), [editor.text], "text/plain"),
       "save-ticks": () => save("ticks", [session.ticks.map((line) => `${line}\n`).join("")], "text/plain"),
       "save-trace": () => save("trace", [session.results.map(({ line }) => `${line}\n`).join("")], "text/plain"),
       "open-text": () => $("text-file").click(), "load-ticks": () => $("ticks-file").click(),
@@ -386,8 +325,9 @@ const Page = (() => {
     },
     drawn: () => {},
   });
-  const views = new Views((found) => point(found ? editor.offset(found.line, found.column) : null, null));
+  const views = new Views((node) => point(node && !node.path ? editor.offset(node.line, node.column) : null, node && node.path));
   const editor = new Editor($("editor"), changed, (place) => point(place, null));
+  const said = new Verdict($("verdict"), editor, pane, views);
   begin();
   return { editor, session, pane, views };
 })();

@@ -106,20 +106,14 @@ class Panel {
   words() {
     const { session } = this;
     if (!session.at) return session.ticks.length ? `Before the first of ${session.ticks.length} ticks.` : "No tick yet.";
-    const now = session.now();
-    const changed = Object.entries(now.out).filter(([name, value]) => value !== this.earlier(name, now.out));
-    const said = changed.length ? changed.map(([name, value]) => `${name} ${value}`).join(", ") : "no output changed";
-    return `Tick ${session.at} of ${session.ticks.length}, ${now.steps} steps: ${said}.`;
-  }
-
-  earlier(name, values) {
-    const before = this.session.before();
-    const found = before && { ...before.out, ...before.locals }[name];
-    return found ?? (typeof values[name] === "boolean" ? false : 0);
+    const outputs = session.variables.filter(({ role }) => role === "output");
+    const changed = outputs.filter((output) => session.value(output, session.at) !== session.value(output, session.at - 1));
+    const said = changed.map((output) => `${output.name} ${session.value(output, session.at)}`).join(", ") || "no output changed";
+    return `Tick ${session.at} of ${session.ticks.length}, ${session.now().steps} steps: ${said}.`;
   }
 
   showValues() {
-    const now = this.session.now();
+    const { session } = this;
     const table = document.createElement("table");
     const head = table.createTHead().insertRow();
     for (const words of ["variable", "value", "before"]) {
@@ -129,24 +123,31 @@ class Panel {
       head.append(cell);
     }
     const body = table.createTBody();
-    for (const { name, role, kind } of this.session.variables.filter((variable) => variable.role !== "input")) {
-      const given = now ? { ...now.out, ...now.locals } : {};
-      const first = kind === "bool" ? false : 0;
-      const value = now ? given[name] : first;
-      if (value !== undefined) Panel.row(body, name, role, value, this.earlier(name, { [name]: first }));
+    const place = { output: 0, local: 0, pre: 1, const: 2 };
+    const shown = session.variables.filter(({ role }) => role in place).sort((a, b) => place[a.role] - place[b.role]);
+    for (const variable of shown) {
+      const value = session.value(variable, session.at);
+      if (value !== undefined) Panel.row(body, variable, value, session.value(variable, Math.max(0, session.at - 1)));
     }
     this.values.replaceChildren(table);
-    if (now && !now.locals) this.values.append("Locals are not shown: with them there are too many outputs.");
+    if (!session.hasLocals()) this.values.append("Locals are not shown: with them there are too many outputs.");
   }
 
-  static row(body, name, role, value, before) {
+  // What is said of a variable where the pointer rests on its name.
+  static title({ role, isSignal, initial, of }) {
+    if (role === "const") return "constant";
+    if (role === "pre") return `what ${of} was in the tick before`;
+    return `${role}${isSignal ? " signal" : ""}${initial === undefined ? "" : `, ${initial} before the first tick`}`;
+  }
+
+  static row(body, variable, value, before) {
     const row = body.insertRow();
-    row.dataset.name = name;
+    row.dataset.name = variable.name;
     const head = document.createElement("th");
     head.scope = "row";
-    head.textContent = name;
-    head.className = role;
-    head.title = role;
+    head.textContent = variable.name;
+    head.className = variable.role;
+    head.title = Panel.title(variable);
     row.append(head);
     row.insertCell().textContent = String(value);
     const last = row.insertCell();

@@ -5,28 +5,29 @@ const Run = (() => {
   const $ = (id) => document.getElementById(id);
   const PERIOD = 700; // milliseconds
   const data = JSON.parse($("data").textContent);
-  const names = new Map(); // of each state its name in the text
+  const names = new Map(); // of each name of a state in the text the paths that it has: in a module one for each use
   let running = null;
 
   // The text in colours, with the names of states to be lit.
   function showText(chart) {
     const labels = new Map();
     for (const { sort, part } of Language.partsOf(chart ? chart.regions : [])) {
-      if (sort === "state") labels.set(part.label.from, part.path);
+      if (sort === "state") labels.set(part.label.from, [...(labels.get(part.label.from) || []), part.path]);
     }
+    const lines = new Tokens.Lines(data.text);
     let at = 0;
-    for (const line of data.text.split("\n")) {
+    for (const pieces of lines.coloured(0, lines.lines.length)) {
       const row = document.createElement("div");
-      for (const { sort, piece } of Language.piecesOfLine(line)) {
+      for (const { sort, piece } of pieces) {
         const span = document.createElement("span");
         span.className = sort;
         span.textContent = piece;
-        if (labels.has(at)) names.set(labels.get(at), span);
+        if (labels.has(at)) names.set(span, labels.get(at));
         row.append(span);
         at += piece.length;
       }
       at += 1;
-      if (!line) row.append(" ");
+      if (!pieces.length) row.append(" ");
       $("text").append(row);
     }
   }
@@ -35,7 +36,7 @@ const Run = (() => {
     panel.show();
     const now = session.now();
     const lit = new Set(now && now.states ? now.states : []);
-    for (const [path, span] of names) span.classList.toggle("lit", lit.has(path));
+    for (const [span, paths] of names) span.classList.toggle("lit", paths.some((path) => lit.has(path)));
     pane.light([...lit]);
     panel.fill(now ? session.given(session.at) : {});
     if (session.at === session.ticks.length) stop();
@@ -63,7 +64,7 @@ const Run = (() => {
   session.text = data.text;
   session.variables = Language.variablesOf(data.text);
   session.ticks = data.ticks;
-  session.results = Session.results(data, data.ticks);
+  session.results = Session.results(data, data.ticks, data.text);
   session.at = Math.min(1, data.ticks.length);
   const acts = { back: () => session.go(session.at - 1), forward: () => session.go(session.at + 1), reset: () => session.go(0), run,
     "save-ticks": () => Files.save(data.name, "ticks", data.ticks.map((line) => `${line}\n`), "text/plain"),

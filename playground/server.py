@@ -48,8 +48,8 @@ def files_of_page():
 def gallery():
     """The charts and texts of the examples, with their ticks."""
     folder, texts = os.path.join(TOP, "examples"), []
-    for place in (folder, os.path.join(folder, "refused")):
-        names = sorted(name for name in os.listdir(place) if name.endswith((".chart", ".scl")))
+    for place in (folder, os.path.join(folder, "extended"), os.path.join(folder, "refused")):
+        names = sorted(name for name in os.listdir(place) if name.endswith((".chart", ".extended", ".scl")))
         for name in sorted(names, key=lambda name: name.endswith(".scl")):
             ticks = os.path.join(place, os.path.splitext(name)[0] + ".ticks")
             texts.append({"name": os.path.relpath(os.path.join(place, name), folder), "text": read(place, name).decode(),
@@ -108,7 +108,7 @@ class Answers:
 def of_run(program, text, image, lines, first=0):
     """The output of each tick, the locals, and the active states, or why there are none."""
     printed, states, fault = program.played(image, lines, text)
-    locals_after = program.locals_in(text, lines[:len(printed)], len(printed))
+    locals_after = program.locals_in(text, lines[:len(printed)], printed)
     return {"lines": printed[first:], "fault": fault, "states": states[first:],
             "locals": locals_after[first:] if locals_after is not None else None}
 

@@ -23,18 +23,13 @@ class Session {
     return this.at ? this.results[this.at - 1] : null;
   }
 
-  before() {
-    return this.at > 1 ? this.results[this.at - 2] : null;
-  }
-
   inputs() {
     return this.variables.filter((variable) => variable.role === "input");
   }
 
   // The inputs of a tick by their names, those too that its line does not name.
   given(at) {
-    const line = this.results[at - 1].given;
-    return Object.fromEntries(this.inputs().map(({ name, kind }) => [name, line[name] ?? (kind === "bool" ? false : 0)]));
+    return Object.fromEntries(this.inputs().map((input) => [input.name, this.value(input, at)]));
   }
 
   // What is asked for is done one after another.
@@ -50,17 +45,18 @@ class Session {
     const answer = await Calls.ask("run", { text, ticks, from });
     if (text !== this.text) return;
     if (answer.refused) throw new Calls.Sentence(`The text was refused: ${answer.refused}.`);
-    this.results = [...this.results.slice(0, from), ...Session.results(answer, ticks.slice(from))];
+    this.results = [...this.results.slice(0, from), ...Session.results(answer, ticks.slice(from), text)];
     this.ticks = ticks.slice(0, this.results.length);
     this.at = Math.min(at, this.ticks.length);
     this.fault = answer.fault;
     this.changed();
   }
 
-  // What each tick gave: its line and what stands there, its inputs, the locals and the active states.
-  static results(answer, ticks) {
+  // What each tick gave: its line and what stands there, its inputs, the locals and the author's active states.
+  static results(answer, ticks, text) {
+    const authors = (states) => (states && Tokens.isExtended(text) ? states.map(Made.stateOf).filter((path) => path) : states);
     return answer.lines.map((line, k) => ({ line, ...JSON.parse(line), given: JSON.parse(ticks[k]),
-      locals: answer.locals && answer.locals[k], states: answer.states[k] }));
+      locals: answer.locals && answer.locals[k], states: authors(answer.states[k]) }));
   }
 
   // One tick more, behind the one that is looked at; those behind it are dropped.
@@ -104,13 +100,34 @@ class Session {
     return this.reset();
   }
 
-  // The rows of the diagram.
+  // Whether the locals are known after each tick.
+  hasLocals() {
+    return this.results.every((result) => result.locals);
+  }
+
+  // What a variable holds after a tick, before the first one where that is 0; undefined where that is not known.
+  value(variable, at) {
+    const { role, name, kind } = variable;
+    if (role === "const") return variable.initial;
+    if (role === "pre") return this.earlier(variable, at);
+    if (!at) return variable.initial ?? (kind === "bool" ? false : 0);
+    const { given, out, locals } = this.results[at - 1];
+    if (role === "input") return given[name] ?? (kind === "bool" ? false : 0);
+    if (role === "output") return out[name];
+    return locals ? locals[name] : undefined;
+  }
+
+  // What the variable of a `pre` was in the tick before.
+  earlier(variable, at) {
+    const of = this.variables.find(({ role, name }) => name === variable.of && role !== "pre" && role !== "const");
+    return of ? this.value(of, Math.max(0, at - 1)) : undefined;
+  }
+
+  // The rows of the diagram: constants have none.
   rows() {
-    const place = { input: 0, output: 1, local: 2 };
-    const shown = [...this.variables].sort((a, b) => place[a.role] - place[b.role]);
-    const values = { input: (result, name, kind) => result.given[name] ?? (kind === "bool" ? false : 0),
-      output: (result, name) => result.out[name], local: (result, name) => result.locals && result.locals[name] };
-    return shown.filter(({ role }) => role !== "local" || this.results.every((result) => result.locals)).map(({ name, role, kind }) => ({
-      name, role, kind, values: this.results.map((result) => values[role](result, name, kind)) }));
+    const place = { input: 0, output: 1, local: 2, pre: 3 };
+    const shown = this.variables.filter(({ role }) => role in place).sort((a, b) => place[a.role] - place[b.role]);
+    return shown.map((variable) => ({ name: variable.name, role: variable.role, kind: variable.kind,
+      values: this.results.map((_, k) => this.value(variable, k + 1)) })).filter(({ values }) => !values.includes(undefined));
   }
 }

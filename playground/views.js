@@ -1,9 +1,10 @@
-// The tabs beside the drawing: the chart without aborts, the program to which it is lowered, the listing of its image, and
-// the Graphviz text. What is pointed at is marked in each of them, by the place in the text that each node has.
+// The tabs beside the drawing: the chart to which an extended chart is reduced, the chart without aborts, the program to which it
+// is lowered, the listing of its image, and the Graphviz text. What is pointed at is marked in each of them, by the place in the
+// text that each node has, or in the reduced chart.
 "use strict";
 
 class Views {
-  static NAMES = ["chart", "expanded", "lowered", "listing", "graph"];
+  static NAMES = ["chart", "reduced", "expanded", "lowered", "listing", "graph"];
 
   // `pointed` hears of the place in the text of what is pointed at.
   constructor(pointed) {
@@ -30,11 +31,12 @@ class Views {
   }
 
   key(event, name) {
-    const at = Views.NAMES.indexOf(name);
-    const to = { ArrowLeft: at - 1, ArrowRight: at + 1, Home: 0, End: Views.NAMES.length - 1 }[event.key];
+    const names = Views.NAMES.filter((one) => !this.tab(one).hidden);
+    const at = names.indexOf(name);
+    const to = { ArrowLeft: at - 1, ArrowRight: at + 1, Home: 0, End: names.length - 1 }[event.key];
     if (to === undefined) return;
     event.preventDefault();
-    const next = Views.NAMES[(to + Views.NAMES.length) % Views.NAMES.length];
+    const next = names[(to + names.length) % names.length];
     this.show(next);
     this.tab(next).focus();
   }
@@ -46,7 +48,7 @@ class Views {
       this.tab(other).tabIndex = other === name ? 0 : -1;
       this.panel(other).hidden = other !== name;
     }
-    this.fill();
+    return this.fill();
   }
 
   // The text whose views are wanted, once it can be read.
@@ -54,7 +56,19 @@ class Views {
     if (text === this.text) return;
     this.text = text;
     this.given = null;
-    this.fill();
+    const isExtended = Tokens.isExtended(text);
+    this.tab("reduced").hidden = !isExtended;
+    if (this.shown === "reduced" && !isExtended) this.show("chart");
+    else this.fill();
+  }
+
+  // Shows a line of the reduced chart.
+  async showReduced(line) {
+    await this.show("reduced");
+    const row = this.panel("reduced").querySelectorAll("pre > div")[line - 1];
+    if (!row) return;
+    row.classList.add("under");
+    row.scrollIntoView({ block: "center" });
   }
 
   async fill() {
@@ -87,8 +101,21 @@ class Views {
     this.given = given;
     this.filled.clear();
     const lowered = Views.places(given.lowered_listing || "");
-    this.nodes = Views.places(given.listing || "").map((node, at) => ({ ...node, lowered: lowered[at] && lowered[at].line }));
-    this.expanded = given.expanded ? Language.chartOf(given.expanded) : null;
+    const shown = Views.places(given.listing || "");
+    this.reduced = new Made(given.reduced, Language.chartOf(text));
+    this.expanded = new Made(given.expanded, this.reduced.author);
+    const pathOf = given.reduced ? (node) => this.reduced.pathAt(node.line, node.column) : Views.paths(text, this.reduced.author);
+    this.nodes = Views.places(given.reduced_listing || given.listing || "").map((node, at) => ({ ...node, row: shown[at] && shown[at].row,
+      lowered: lowered[at] && lowered[at].line, path: pathOf(node) }));
+  }
+
+  // For a place in the text of a chart the path of what is there.
+  static paths(text, chart) {
+    const { starts } = new Tokens.Lines(text);
+    return (node) => {
+      const found = chart && Language.partAt(chart, starts[node.line - 1] + node.column - 1);
+      return found ? found.part.path : null;
+    };
   }
 
   // The nodes of a listing: the line and column of the source, and the line in the listing itself.
@@ -106,25 +133,29 @@ class Views {
     panel.addEventListener("mousemove", (event) => {
       const row = event.target.closest("pre > div");
       const at = row ? [...row.parentNode.children].indexOf(row) + 1 : 0;
-      const node = this.nodes.find((one) => (name === "listing" ? one.row : name === "lowered" && one.lowered) === at);
-      this.pointed(node ? { line: node.line, column: node.column } : null);
+      this.pointed(this.nodeAt(name, at));
     });
     panel.addEventListener("mouseleave", () => this.pointed(null));
   }
 
-  // Marks the nodes for which this holds, and what is at this path in the chart without aborts.
-  mark(isMeant, path) {
+  // What a line of a tab has: a node with the path of its part, or, of an SCL text, with its line; or the path of a part.
+  nodeAt(name, row) {
+    if (name === "reduced" && this.reduced) {
+      const path = this.reduced.pathOfLine(row);
+      return path && { path };
+    }
+    const node = this.nodes.find((one) => (name === "listing" ? one.row : name === "lowered" && one.lowered) === row);
+    return node && (node.path || !this.reduced.author) ? node : null;
+  }
+
+  // Marks what belongs to the parts at these paths; of an SCL text, to this line.
+  mark(paths, line) {
     const panel = this.shown === "chart" ? null : this.panel(this.shown).querySelector("pre");
     if (!panel) return;
     for (const row of panel.querySelectorAll(".under")) row.classList.remove("under");
-    const lines = new Set();
-    for (const node of this.nodes) {
-      if (node && isMeant(node)) lines.add(this.shown === "listing" ? node.row : this.shown === "lowered" ? node.lowered : 0);
-    }
-    if (this.shown === "expanded" && path && this.expanded) this.linesOf(path).forEach((line) => lines.add(line));
     let first = null;
-    for (const line of lines) {
-      const row = panel.children[line - 1];
+    for (const at of this.linesOf(paths, line)) {
+      const row = panel.children[at - 1];
       if (!row) continue;
       row.classList.add("under");
       if (!first || first.offsetTop > row.offsetTop) first = row;
@@ -132,11 +163,11 @@ class Views {
     if (first && !panel.matches(":hover")) panel.scrollTop = Math.max(0, first.offsetTop - panel.clientHeight / 3);
   }
 
-  linesOf(path) {
-    const wanted = path.split("#")[0];
-    for (const { part } of Language.partsOf(this.expanded.regions)) {
-      if (part.path === wanted && part.head) return [this.given.expanded.slice(0, part.head.to).split("\n").length];
-    }
-    return [];
+  linesOf(paths, line) {
+    if (this.shown === "reduced") return this.reduced ? paths.flatMap((path) => this.reduced.linesOf(path)) : [];
+    if (this.shown === "expanded") return this.expanded ? paths.flatMap((path) => this.expanded.linesOf(path.split("#")[0])) : [];
+    const hasLines = Boolean(line) && this.given && !this.given.reduced;
+    const isMeant = (node) => node && (paths.length ? paths.includes(node.path) : hasLines && node.line === line);
+    return new Set(this.nodes.filter(isMeant).map((node) => (this.shown === "listing" ? node.row : this.shown === "lowered" ? node.lowered : 0)));
   }
 }

@@ -7,6 +7,8 @@ unlet b:current_syntax
 syntax match extendedStorage "\<extended\ze\s\+chart\>"
 syntax match extendedStorage "\<\(const\|pre\)\ze\s\+\(bool\|int\)\>"
 syntax match extendedStorage "\<signal\ze\s\+[A-Za-z][A-Za-z0-9_]*\s*;"
+syntax match extendedStorage "\([;{}]\_s*\)\@<=\(module\|use\)\ze\s\+[A-Za-z][A-Za-z0-9_]*\s*("
+syntax match extendedStorage "\()\s*\)\@<=as\ze\s\+[A-Za-z][A-Za-z0-9_]*\s*;"
 syntax match extendedStatement "\(\<do\s\+\|,\s*\)\@<=emit\ze\s\+[A-Za-z]"
 syntax match extendedStatement "\<\(entry\|exit\)\ze\s\+do\>"
 syntax match extendedStatement "\<during\ze\s\+\(do\|if\)\>"
