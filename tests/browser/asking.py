@@ -107,7 +107,8 @@ def broken_requests(served):
 def hostile_texts(served):
     """Whatever the text is, the answer is the program's."""
     for text, fault in [("", "E02 at 0"), ("\0", "E01 at 0"), ("\ud800", "E01 at 0"), ("chart \u00e9", "E01 at 6"), ("chart", "E02 at 5"),
-                        ("x" * 20_000, "E07 at 0"), ("(" * 5_000, "E02 at 0"), ("chart P {" + " region R { initial state s {" * 200, None)]:
+                        ("x" * 20_000, "E07 at 0"), ("(" * 5_000, "E02 at 0"), ("chart P {" + " region R { initial state s {" * 200, None),
+                        ("extended " + "/* " * 50_000, "E01 at 9"), ("/* " * 50_000, "E02 at 0"), ("extended chart P {" + "/* */" * 20_000, None)]:
         status, answer = served.question("check", {"text": text})
         expect((status, answer["accepted"]), (200, False), f"{text[:20]!r}")
         if fault:

@@ -13,6 +13,10 @@ PLAY = os.path.join(TOP, "tools", "play")
 sys.path.insert(0, os.path.join(TOP, "tests", "plain"))
 from chart_machine import ChartMachine  # noqa: E402
 from chart_reader import read_chart  # noqa: E402
+from extended import ExtendedMachine, read_extended  # noqa: E402
+from flaws import begins_extended  # noqa: E402
+from modules import without_modules  # noqa: E402
+from reader import END, tokens  # noqa: E402
 
 
 def text_of(*parts):
@@ -106,16 +110,27 @@ class Program:
         return lines_of(self.call("run", "image", lines="".join(line + "\n" for line in ticks))[1])
 
 
-def active_after(text, ticks):
-    """The names of the active states after each tick, in the order of the text, with the locals, by the machine of tests/plain."""
-    machine = ChartMachine(read_chart(text.encode()), random.Random(7))
+def machine_of(text):
+    """The machine of tests/plain for a chart or an extended chart."""
+    data, seed = text.encode(), random.Random(7)
+    return ExtendedMachine(read_extended(data), seed) if begins_extended(data) else ChartMachine(read_chart(data), seed)
+
+
+def active_after(text, ticks, roles=("local",)):
+    """The names of the active states after each tick, in the order of the text, with the variables of these roles, by that machine."""
+    machine = machine_of(text)
     told = []
     for line in ticks:
         machine.tick(json.loads(line))
         active = machine.active()
-        hidden = {v.name: machine.values[x] for x, v in enumerate(machine.chart.variables) if v.role == "local"}
-        told.append(([path for state, path in paths(machine.chart.regions) if state in active], hidden))
+        shown = {v.name: machine.values[x] for x, v in enumerate(machine.chart.variables) if v.role in roles}
+        told.append(([path for state, path in paths(machine.chart.regions) if state in active], shown))
     return told
+
+
+def words_of(text):
+    """The words and signs of an extended chart, where each use of a module stands for its regions."""
+    return [value for kind, value, _ in without_modules(tokens(text.encode(), is_chart=True, is_extended=True)) if kind != END]
 
 
 def paths(regions, above=""):

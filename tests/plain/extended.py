@@ -10,6 +10,7 @@ from chart_machine import ChartMachine, access_of
 from chart_reader import ChartGrammar, ChartRules, Draft
 from charts import Chart, Region, State, Transition, states_of
 from machine import value
+from modules import without_modules
 from programs import Variable, loads, text_of_expression
 from reader import END, NAME, NESTED, Fault, is_utf8, tell_first, tokens, tree_of
 
@@ -49,7 +50,7 @@ class ExtendedGrammar(ChartGrammar):
     """Reads the tokens into the word before `chart`, a name, items and regions, in which names are not yet resolved."""
 
     def __init__(self, text):
-        self.tokens, self.at = tokens(text, is_chart=True, is_extended=True), 0
+        self.tokens, self.at = without_modules(tokens(text, is_chart=True, is_extended=True)), 0
 
     def extended(self):
         _, word, place = self.take(NAME)
