@@ -25,7 +25,7 @@ use Rattle.abort_expansion.proofs.Leaving.{InText, left_by, ended_in, simple_tra
 use Rattle.abort_expansion.proofs.Apart.{Apart, IsText, text_is_named, distinct_if_apart, letter_of}
 use Rattle.abort_expansion.proofs.Added.{none_added}
 use Rattle.abort_expansion.proofs.Shapes.{IsNamed, rolled_named}
-use Rattle.abort_expansion.proofs.Joined.{HasShape, StateKeeps, IsScene, names_of}
+use Rattle.abort_expansion.proofs.Joined.{HasShape, StateKeeps, IsOuter, names_of}
 
 counted_alone : (b c : Bool) → b ≡ c → cond b (1 + 0) 0 ≡ one c
 counted_alone true true is = refl
@@ -53,13 +53,13 @@ simple_named false name own around to begins = rolled_named name begins false []
 
 simple_state_keeps : (declared variables : List Variable) (levels m n : ℕ) (is_final : Bool) (name : List ℕ) (own : List Transition) (around : List Flags)
     (to : RegionPlaces) (begins : Bool)
-    → IsText name → Each (InText declared variables m false) own → IsScene variables m n around to
+    → IsText name → Each (InText declared variables m false) own → IsOuter variables m n around to
     → IsState features.Core variables (AreRegions features.Core variables levels) n (simple is_final name own around to begins)
-simple_state_keeps declared variables levels m n true name own around to begins text h scene =
+simple_state_keeps declared variables levels m n true name own around to begins text h outer =
     ended_in variables levels n name begins (text_is_named name text)
-simple_state_keeps declared variables levels m n false name own around to begins text h scene =
+simple_state_keeps declared variables levels m n false name own around to begins text h outer =
     left_by variables levels n name begins (simple_transitions around to own) (text_is_named name text)
-    (simple_transitions_go declared variables m n around to own scene.flags scene.left scene.places h)
+    (simple_transitions_go declared variables m n around to own outer.flags outer.left outer.places h)
 
 pub simple_piece_keeps : (declared variables : List Variable) (levels m : ℕ) (is_initial is_final : Bool) (name : List ℕ) (own : List Transition)
     → IsText name → Each (InText declared variables m false) own
@@ -69,8 +69,8 @@ simple_piece_keeps declared variables levels m is_initial is_final name own text
   shape = λ around to place begins at small.
       one_shape name at.superstate (at.superstate + (0 + 0)) begins (simple is_final name own around to begins) (Some at.state ∷ [])
       (simple_named is_final name own around to begins);
-  keeps = λ n around to place begins at small scene within located.
-      (simple_state_keeps declared variables levels m n is_final name own around to begins text h scene, tt);
+  keeps = λ n around to place begins at small outer within located.
+      (simple_state_keeps declared variables levels m n is_final name own around to begins text h outer, tt);
 }
 
 -- ---- regions

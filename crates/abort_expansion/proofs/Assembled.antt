@@ -26,7 +26,7 @@ use Rattle.abort_expansion.proofs.Leaving.{state_keeps}
 use Rattle.abort_expansion.proofs.Apart.{Apart, text_is_named}
 use Rattle.abort_expansion.proofs.Added.{Located, AreAdded, wider}
 use Rattle.abort_expansion.proofs.Shapes.{IsNamed, rolled_named}
-use Rattle.abort_expansion.proofs.Joined.{HasShape, IsScene, StateKeeps, region_names}
+use Rattle.abort_expansion.proofs.Joined.{HasShape, IsOuter, StateKeeps, region_names}
 use Rattle.abort_expansion.proofs.Inner.{inside_of, inside_added, inside_keeps, inside_named, side_by_side, as_many_names}
 use Rattle.abort_expansion.proofs.Splitting.{IsSuperstate, sized, mine, still_some}
 use Rattle.abort_expansion.proofs.Prepared.{split_shape, split_keeps, AreLocated}
@@ -80,10 +80,10 @@ staying_keeps : (declared variables : List Variable) (levels m n : ℕ) (name : 
     (to : RegionPlaces) (begins : Bool) (at : NextNumbers)
     → IsSuperstate declared variables levels m name regions own → has_regions regions ≡ true → has_aborts own ≡ false → aborts_around around ≡ false
     → suc at.superstate + superstates_in (map piece_of_region regions) ≤ 2 ^ 64
-    → IsScene variables m n around to → Located variables at.variable (inside_of regions own around at).variables
+    → IsOuter variables m n around to → Located variables at.variable (inside_of regions own around at).variables
     → Each (IsState features.Core variables (AreRegions features.Core variables (suc levels)) n)
     (as_it_is name own (inside_of regions own around at) to begins at).states
-staying_keeps declared variables levels m n name regions own around to begins at h some plain outside small scene located =
+staying_keeps declared variables levels m n name regions own around to begins at h some plain outside small outer located =
     let inside : Regions = inside_of regions own around at in
     let weak : weak_around around ≡ false = weak_none around outside in
     let aborts : (has_strong own ≡ false) × (has_weak own ≡ false) = or_parts (has_strong own) (has_weak own) plain in
@@ -95,13 +95,13 @@ staying_keeps declared variables levels m n name regions own around to begins at
     omega (arith, sym (as_many_names inside.regions) ∙ ap (λ ns. length ns) names ∙ as_many_names regions, h.few) in
     let sides : AreRegions features.Core variables (suc levels) inside.regions =
     side_by_side variables levels inside.regions few (subst Apart (sym names) h.apart)
-    (inside_keeps variables levels regions own around at h.inner small scene.flags here there) in
+    (inside_keeps variables levels regions own around at h.inner small outer.flags here there) in
     let super : true ≡ has_regions inside.regions = sym (still_some regions inside.regions names some) in (
       state_keeps variables (suc levels) n
           (record { name = name; is_initial = begins; is_final = false; regions = inside.regions; transitions = map (led to) own })
           (text_is_named name h.text) (λ is. absurd cc) sides (joins_led to own h.joins)
           (subst (λ b. Each (IsTransition features.Core variables n b) (map (led to) own)) super
-          (led_all_keep declared variables m n to own scene.places h.taken aborts.0 aborts.1)),
+          (led_all_keep declared variables m n to own outer.places h.taken aborts.0 aborts.1)),
       tt,
     )
 
@@ -137,7 +137,7 @@ either_keeps : (b : Bool) (declared variables : List Variable) (levels m n : ℕ
     (around : List Flags) (to : RegionPlaces) (place : ℕ) (begins : Bool) (at : NextNumbers)
     → stays around own ≡ b → IsSuperstate declared variables levels m name regions own → has_regions regions ≡ true
     → suc at.superstate + superstates_in (map piece_of_region regions) ≤ 2 ^ 64
-    → IsScene variables m n around to → place + (if b then 1 else if is_prepared around own then 3 else 2) ≤ n
+    → IsOuter variables m n around to → place + (if b then 1 else if is_prepared around own then 3 else 2) ≤ n
     → Located variables at.variable
     (if b
     then as_it_is name own (inside_of regions own around at) to begins at
@@ -146,11 +146,11 @@ either_keeps : (b : Bool) (declared variables : List Variable) (levels m n : ℕ
     (if b
     then as_it_is name own (inside_of regions own around at) to begins at
     else split name (length regions) own around (mine own around at) (inside_of regions own around at) to place begins at).states
-either_keeps true declared variables levels m n name regions own around to place begins at stay h some small scene within located =
+either_keeps true declared variables levels m n name regions own around to place begins at stay h some small outer within located =
     let plain : (has_aborts own ≡ false) × (aborts_around around ≡ false) = stays_plain (has_aborts own) (aborts_around around) stay in
-    staying_keeps declared variables levels m n name regions own around to begins at h some plain.0 plain.1 small scene located
-either_keeps false declared variables levels m n name regions own around to place begins at stay h some small scene within located =
-    split_keeps (is_prepared around own) declared variables levels m n name regions own around to place begins at h some small scene within
+    staying_keeps declared variables levels m n name regions own around to begins at h some plain.0 plain.1 small outer located
+either_keeps false declared variables levels m n name regions own around to place begins at stay h some small outer within located =
+    split_keeps (is_prepared around own) declared variables levels m n name regions own around to place begins at h some small outer within
     (located_either (is_prepared around own) variables regions own around name to place begins at located)
 
 least_width : (b c : Bool) → 1 ≤ (if b then 1 else if c then 3 else 2)
@@ -181,9 +181,9 @@ superstate_piece_keeps declared variables levels m is_initial is_final name r rs
           same
           (either_shape (stays around own) declared variables levels m (at.superstate + (1 + superstates_in (map piece_of_region regions))) name regions own
           around to place begins at refl h (omega arith) small);
-      keeps = λ n around to place begins at small scene within located.
+      keeps = λ n around to place begins at small outer within located.
           subst (λ k. Each (IsState features.Core variables (AreRegions features.Core variables (suc levels)) n) (Over k around to place begins at).states) same
           (either_keeps (stays around own) declared variables levels m n name regions own around to place begins at refl h refl
-          (omega (arith, small)) scene within
+          (omega (arith, small)) outer within
           (subst (λ k. Located variables at.variable (Over k around to place begins at).variables) (sym same) located));
     }

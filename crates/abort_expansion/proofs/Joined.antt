@@ -89,7 +89,7 @@ both_shapes ts us low mid high v w width i j initial m n size a b first last sma
 -- ---- states
 
 -- where a region's states are, of which the text has `m`, and expansion leaves `n`
-pub record IsScene (variables : List Variable) (m n : ℕ) (around : List Flags) (to : RegionPlaces) : Type 0 where
+pub record IsOuter (variables : List Variable) (m n : ℕ) (around : List Flags) (to : RegionPlaces) : Type 0 where
   pub flags : Each (AreFlags variables) around
   pub left : IsTrue (aborts_around around) → to.left < n
   pub places : ArePlaces variables m n to
@@ -101,7 +101,7 @@ pub record StateKeeps (variables : List Variable) (levels m : ℕ) (name : List 
       → HasShape (name ∷ []) at.superstate (at.superstate + p.superstates) (p.width around) (one begins) (p.variables (weak_around around))
       (p.made around to place begins at)
   pub keeps : (n : ℕ) (around : List Flags) (to : RegionPlaces) (place : ℕ) (begins : Bool) (at : NextNumbers) → at.superstate + p.superstates ≤ 2 ^ 64
-      → IsScene variables m n around to → place + p.width around ≤ n → Located variables at.variable (p.made around to place begins at).variables
+      → IsOuter variables m n around to → place + p.width around ≤ n → Located variables at.variable (p.made around to place begins at).variables
       → Each (IsState features.Core variables (AreRegions features.Core variables levels) n) (p.made around to place begins at).states
 
 abbrev pub AllKeep : List Variable → ℕ → ℕ → List State → Type 0
@@ -151,11 +151,11 @@ states_shape variables levels m (s ∷ states) anew around to place at h texts a
 pub states_keep : (variables : List Variable) (levels m n : ℕ) (states : List State) (anew : Bool) (around : List Flags) (to : RegionPlaces) (place : ℕ)
     (at : NextNumbers)
     → AllKeep variables levels m states → at.superstate + superstates_among (pieces_of states) ≤ 2 ^ 64
-    → IsScene variables m n around to → place + widths (pieces_of states) around ≤ n
+    → IsOuter variables m n around to → place + widths (pieces_of states) around ≤ n
     → Located variables at.variable (expanded_states anew (pieces_of states) around to place at).variables
     → Each (IsState features.Core variables (AreRegions features.Core variables levels) n) (expanded_states anew (pieces_of states) around to place at).states
-states_keep variables levels m n [] anew around to place at h small scene within located = tt
-states_keep variables levels m n (s ∷ states) anew around to place at h small scene within located =
+states_keep variables levels m n [] anew around to place at h small outer within located = tt
+states_keep variables levels m n (s ∷ states) anew around to place at h small outer within located =
     let p : StatePiece = piece_of_state s in
     let rest : List StatePiece = pieces_of states in
     let next : NextNumbers = past_state (weak_around around) p at in
@@ -164,9 +164,9 @@ states_keep variables levels m n (s ∷ states) anew around to place at h small 
     let size : length a.variables
     ≡ p.variables (weak_around around) = (h.0.shape around to place (p.is_initial && not anew) at (omega (arith, small))).added.many in
     each_append (IsState features.Core variables (AreRegions features.Core variables levels) n) a.states b.states
-    (h.0.keeps n around to place (p.is_initial && not anew) at (omega (arith, small)) scene (omega (arith, within))
+    (h.0.keeps n around to place (p.is_initial && not anew) at (omega (arith, small)) outer (omega (arith, within))
     (located_first variables at.variable a.variables b.variables located))
-    (states_keep variables levels m n states anew around to (place + p.width around) next h.1 (omega (arith, small)) scene (omega (arith, within))
+    (states_keep variables levels m n states anew around to (place + p.width around) next h.1 (omega (arith, small)) outer (omega (arith, within))
     (located_later variables at.variable (p.variables (weak_around around)) next.variable a.variables b.variables size refl located))
 
 -- ---- regions

@@ -24,7 +24,7 @@ use Rattle.abort_expansion.proofs.Leaving.{preparation_keeps}
 use Rattle.abort_expansion.proofs.Apart.{text_has_no_bar}
 use Rattle.abort_expansion.proofs.Added.{Located, located_first, flags_there}
 use Rattle.abort_expansion.proofs.Shapes.{IsNamed, preparation_named, fork_named, continuation_named}
-use Rattle.abort_expansion.proofs.Joined.{HasShape, IsScene, initial_in}
+use Rattle.abort_expansion.proofs.Joined.{HasShape, IsOuter, initial_in}
 use Rattle.abort_expansion.proofs.Inner.{inside_of}
 use Rattle.abort_expansion.proofs.Splitting.{IsSuperstate, sized, mine, taken_all, forked_shape, forked_keeps, preparation_added, preparation_not_continuation}
 use Rattle.abort_expansion.proofs.Splitting.{apart_two}
@@ -96,21 +96,21 @@ pub split_keeps : (prepare : Bool) (declared variables : List Variable) (levels 
     (around : List Flags) (to : RegionPlaces) (place : ℕ) (begins : Bool) (at : NextNumbers)
     → IsSuperstate declared variables levels m name regions own → has_regions regions ≡ true
     → suc at.superstate + superstates_in (map piece_of_region regions) ≤ 2 ^ 64
-    → IsScene variables m n around to → place + (if prepare then 3 else 2) ≤ n → AreLocated variables regions own around at
+    → IsOuter variables m n around to → place + (if prepare then 3 else 2) ≤ n → AreLocated variables regions own around at
     → Each (IsState features.Core variables (AreRegions features.Core variables (suc levels)) n)
     (if prepare
     then beside (prepared (length regions) own (mine own around at) to place begins at)
     (forked name own around (mine own around at) (inside_of regions own around at) to (suc place) false at)
     else forked name own around (mine own around at) (inside_of regions own around at) to place begins at).states
-split_keeps true declared variables levels m n name regions own around to place begins at h some small scene within located =
+split_keeps true declared variables levels m n name regions own around to place begins at h some small outer within located =
     let s : ℕ = at.superstate in
     let flags : Flags = mine own around at in
     let here : AreFlags variables flags =
     flags_there variables (weak_around around) own s at.variable
     (located_first variables at.variable (declarations s flags) (inside_of regions own around at).variables located) in (
-      preparation_keeps variables (suc levels) m n s flags (length regions) own to (suc place) begins (added_is_named (101 ∷ decimal s)) here scene.places
+      preparation_keeps variables (suc levels) m n s flags (length regions) own to (suc place) begins (added_is_named (101 ∷ decimal s)) here outer.places
           (taken_all declared variables m true own h.taken) (omega (arith, within)),
-      forked_keeps declared variables levels m n name regions own around to (suc place) false at h some small scene (omega (arith, within)) located,
+      forked_keeps declared variables levels m n name regions own around to (suc place) false at h some small outer (omega (arith, within)) located,
     )
-split_keeps false declared variables levels m n name regions own around to place begins at h some small scene within located =
-    forked_keeps declared variables levels m n name regions own around to place begins at h some small scene within located
+split_keeps false declared variables levels m n name regions own around to place begins at h some small outer within located =
+    forked_keeps declared variables levels m n name regions own around to place begins at h some small outer within located

@@ -23,10 +23,10 @@ use Rattle.abort_expansion.proofs.Taken.{IsFlagIfAny, AreFlags}
 use Rattle.abort_expansion.proofs.Apart.{Unlike, Apart, IsCalled, IsText, text_is_named, letter_of}
 use Rattle.abort_expansion.proofs.Added.{Located, AreAdded}
 use Rattle.abort_expansion.proofs.Shapes.{IsNamed, rolled_named}
-use Rattle.abort_expansion.proofs.Joined.{HasShape, IsScene, AllKeep, RegionKeeps, names_of, initial_in, initial_of, states_shape, states_keep}
+use Rattle.abort_expansion.proofs.Joined.{HasShape, IsOuter, AllKeep, RegionKeeps, names_of, initial_in, initial_of, states_shape, states_keep}
 use Rattle.abort_expansion.proofs.Alone.{region_keeps}
 use Rattle.abort_expansion.proofs.Regional.{called_not_plain, left_names, with_left, left_count, left_keeps, first_keeps, left_size, first_size, same_variables}
-use Rattle.abort_expansion.proofs.Within.{region_scene, initial_within, initial_still, initial_no_more}
+use Rattle.abort_expansion.proofs.Within.{region_outer, initial_within, initial_still, initial_no_more}
 
 abbrev pieces_of : List State → List StatePiece
 pieces_of states = map piece_of_state states
@@ -145,8 +145,8 @@ region_is_kept variables levels name states anew around counter at is_anew text 
       left_size left,
       shape.wide,
     ) in
-    let scene : IsScene variables (length states) (length all) around (region_places (pieces_of states) around counter (one anew)) =
-    region_scene variables levels (length states) (length all) states around counter (one anew) h.keep refl flags counted size in
+    let outer : IsOuter variables (length states) (length all) around (region_places (pieces_of states) around counter (one anew)) =
+    region_outer variables levels (length states) (length all) states around counter (one anew) h.keep refl flags counted size in
     let begun : count (λ s. (out-State s).is_initial) all ≡ 1 =
     omega (
       arith,
@@ -167,7 +167,7 @@ region_is_kept variables levels name states anew around counter at is_anew text 
     (λ is. omega (arith, anew_within variables levels (length states) states around counter (one anew) h.keep (is_anew ∙ is), size)))
     (each_append (IsState features.Core variables (AreRegions features.Core variables levels) (length all)) made.states (left_behind left).states
     (states_keep variables levels (length states) (length all) states anew around (region_places (pieces_of states) around counter (one anew))
-    (one anew) at h.keep small scene (omega (arith, size))
+    (one anew) at h.keep small outer (omega (arith, size))
     (subst (Located variables at.variable) (sym (same_variables anew left counter target number made)) located))
     (left_keeps variables levels (length all) left)))
 

@@ -28,7 +28,7 @@ use Rattle.abort_expansion.proofs.Leaving.{InText, state_keeps, continuation_kee
 use Rattle.abort_expansion.proofs.Apart.{Unlike, Apart, apart_append, IsAdded, IsText, text_has_no_bar, text_is_named, letter_of}
 use Rattle.abort_expansion.proofs.Added.{Located, located_first, located_later, AreAdded, declarations_added, flags_there}
 use Rattle.abort_expansion.proofs.Shapes.{IsNamed, continuation_named, fork_named}
-use Rattle.abort_expansion.proofs.Joined.{HasShape, IsScene, RegionsKeep, region_names}
+use Rattle.abort_expansion.proofs.Joined.{HasShape, IsOuter, RegionsKeep, region_names}
 use Rattle.abort_expansion.proofs.Alone.{monitor_keeps}
 use Rattle.abort_expansion.proofs.Inner.{inside_of, inside_keeps, inside_named, all_added, side_by_side, as_many_names, has_some}
 
@@ -168,11 +168,11 @@ pub forked_keeps : (declared variables : List Variable) (levels m n : ℕ) (name
     (to : RegionPlaces) (place : ℕ) (begins : Bool) (at : NextNumbers)
     → IsSuperstate declared variables levels m name regions own → has_regions regions ≡ true
     → suc at.superstate + superstates_in (map piece_of_region regions) ≤ 2 ^ 64
-    → IsScene variables m n around to → place + 2 ≤ n
+    → IsOuter variables m n around to → place + 2 ≤ n
     → Located variables at.variable (declarations at.superstate (mine own around at) ++ (inside_of regions own around at).variables)
     → Each (IsState features.Core variables (AreRegions features.Core variables (suc levels)) n)
     (forked name own around (mine own around at) (inside_of regions own around at) to place begins at).states
-forked_keeps declared variables levels m n name regions own around to place begins at h some small scene within located =
+forked_keeps declared variables levels m n name regions own around to place begins at h some small outer within located =
     let s : ℕ = at.superstate in
     let flags : Flags = mine own around at in
     let inside : Regions = inside_of regions own around at in
@@ -192,12 +192,12 @@ forked_keeps declared variables levels m n name regions own around to place begi
     side_by_side variables levels all (one_more (has_aborts own) inside.regions watching few)
     (watched_apart (has_aborts own) s around flags own inside.regions (subst (Each IsText) (sym names) h.texts) (subst Apart (sym names) h.apart))
     (watched_keep variables levels (has_aborts own) inside.regions watching
-    (inside_keeps variables levels regions own around at h.inner small scene.flags here there)
-    (monitor_keeps variables levels m s around flags own scene.flags here taken)) in (
+    (inside_keeps variables levels regions own around at h.inner small outer.flags here there)
+    (monitor_keeps variables levels m s around flags own outer.flags here taken)) in (
       fork_keeps variables levels n name begins all (suc place) h.text sides
           (has_more inside.regions (watched (has_aborts own) watching) (still_some regions inside.regions names some)) (omega (arith, within)),
       (
-        continuation_keeps variables (suc levels) m n s around flags to own (added_is_named (98 ∷ decimal s)) scene.flags scene.left here scene.places taken,
+        continuation_keeps variables (suc levels) m n s around flags to own (added_is_named (98 ∷ decimal s)) outer.flags outer.left here outer.places taken,
         tt,
       ),
     )

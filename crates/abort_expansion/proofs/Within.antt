@@ -12,7 +12,7 @@ use Rattle.abort_expansion.specs.Flags.{one, aborts_around}
 use Rattle.abort_expansion.specs.Pieces.{RegionPiece, StatePiece}
 use Rattle.abort_expansion.specs.Expansion.{region_piece, state_piece, piece_of_state, places, widths, initial_place, region_places}
 use Rattle.abort_expansion.proofs.Taken.{IsFlagIfAny, AreFlags}
-use Rattle.abort_expansion.proofs.Joined.{AllKeep, IsScene, initial_of, initial_in}
+use Rattle.abort_expansion.proofs.Joined.{AllKeep, IsOuter, initial_of, initial_in}
 
 place_within : (variables : List Variable) (levels m : ℕ) (states : List State) (around : List Flags) (begin target : ℕ) → AllKeep variables levels m states
     → target < length states → unwrap_or (slice_get (places (map piece_of_state states) around begin) target) 0 < begin + widths
@@ -26,12 +26,12 @@ left_within : (b : Bool) (n : ℕ) → IsTrue b → n < n + one b
 left_within true n h = omega arith
 left_within false n h = absurd cc
 
--- a region of these states, where the first one has the place `begin`, is a scene
-pub region_scene : (variables : List Variable) (levels m n : ℕ) (states : List State) (around : List Flags) (counter : Option ℕ) (begin : ℕ)
+-- a region of these states, where the first one has the place `begin`, is a outer
+pub region_outer : (variables : List Variable) (levels m n : ℕ) (states : List State) (around : List Flags) (counter : Option ℕ) (begin : ℕ)
     → AllKeep variables levels m states → m ≡ length states → Each (AreFlags variables) around → IsFlagIfAny variables counter
     → n ≡ begin + widths (map piece_of_state states) around + one (aborts_around around)
-    → IsScene variables m n around (region_places (map piece_of_state states) around counter begin)
-region_scene variables levels m n states around counter begin h is_m flags counted is_n = record {
+    → IsOuter variables m n around (region_places (map piece_of_state states) around counter begin)
+region_outer variables levels m n states around counter begin h is_m flags counted is_n = record {
   flags = flags;
   left = λ there. omega (arith, left_within (aborts_around around) (begin + widths (map piece_of_state states) around) there, is_n);
   places = record {

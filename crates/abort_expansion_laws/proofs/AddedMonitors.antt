@@ -41,29 +41,29 @@ pub watched_numbers : (b : Bool) (m : Region) (n x : ℕ) → region_numbers (ma
 watched_numbers true m n x = refl
 watched_numbers false m n x = refl
 
-pub monitor_there : (b : Bool) (s : ℕ) (around : List Flags) (f : Flags) (all : List Transition) (core : Table) (spot : TablePosition) → b ≡ true →
-    Holds core spot (side_by_side (map table_of_region (watched b (monitor s around f all))) spot) → MonitorRows s around f all core spot
-monitor_there true s around f all core spot certain h =
-    monitor_rows s around f all core spot (side_head core (table_of_region (monitor s around f all)) [] spot h)
-monitor_there false s around f all core spot certain h = absurd cc
+pub monitor_there : (b : Bool) (s : ℕ) (around : List Flags) (f : Flags) (all : List Transition) (core : Table) (position : TablePosition) → b ≡ true →
+    Holds core position (side_by_side (map table_of_region (watched b (monitor s around f all))) position) → MonitorRows s around f all core position
+monitor_there true s around f all core position certain h =
+    monitor_rows s around f all core position (side_head core (table_of_region (monitor s around f all)) [] position h)
+monitor_there false s around f all core position certain h = absurd cc
 
 -- what is entered with it
-pub watched_entered : (b : Bool) (s : ℕ) (around : List Flags) (f : Flags) (all : List Transition) (spot : TablePosition) →
-    (side_by_side (map table_of_region (watched b (monitor s around f all))) spot).entered ≡
-    (if b then to spot.region (at.Trying spot.state (at_once (monitor_transitions around f all))) ∷ [] else [])
-watched_entered true s around f all spot =
-    append-nil ((table_of_region (monitor s around f all)).parts spot).entered ∙ monitor_entered s around f all spot
-watched_entered false s around f all spot = refl
+pub watched_entered : (b : Bool) (s : ℕ) (around : List Flags) (f : Flags) (all : List Transition) (position : TablePosition) →
+    (side_by_side (map table_of_region (watched b (monitor s around f all))) position).entered ≡
+    (if b then to position.region (at.Trying position.state (at_once (monitor_transitions around f all))) ∷ [] else [])
+watched_entered true s around f all position =
+    append-nil ((table_of_region (monitor s around f all)).parts position).entered ∙ monitor_entered s around f all position
+watched_entered false s around f all position = refl
 
 pub none_first : (b : Bool) (g : ℕ → Option ℕ) (n : ℕ) → b ≡ true → ValuesAt g n (no_entries b) → g n ≡ None
 none_first true g n certain h = h.0
 none_first false g n certain h = absurd cc
 
-pub first_around : (cs : List Region) (core : Table) (spot : TablePosition) (x : ℕ) (xs : List ℕ) →
-    region_numbers (map table_of_region cs) spot.region ≡ x ∷ xs → Holds core spot (side_by_side (map table_of_region cs) spot) →
-    around core spot.region ≡ spot.around
-first_around [] core spot x xs e h = absurd cc
-first_around (c ∷ cs) core spot x xs e h = region_around core c spot (side_head core (table_of_region c) (map table_of_region cs) spot h)
+pub first_around : (cs : List Region) (core : Table) (position : TablePosition) (x : ℕ) (xs : List ℕ) →
+    region_numbers (map table_of_region cs) position.region ≡ x ∷ xs → Holds core position (side_by_side (map table_of_region cs) position) →
+    around core position.region ≡ position.around
+first_around [] core position x xs e h = absurd cc
+first_around (c ∷ cs) core position x xs e h = region_around core c position (side_head core (table_of_region c) (map table_of_region cs) position h)
 
 pub numbers_many : (regions : List Region) (n : ℕ) → length (region_numbers (map table_of_region regions) n) ≡ length (map piece_of_region regions)
 numbers_many [] n = refl

@@ -17,13 +17,13 @@ use Rattle.core_charts.specs.Aborts.{has_aborts, has_strong, has_weak}
 use Rattle.core_charts.specs.Chart.{Chart}
 use Rattle.core_charts.specs.Rules.{IsChart}
 use Rattle.core_charts.specs.Tests.{is_weak, at_once, first_closing_tests}
-use Rattle.chart_machine.specs.declared.deed.Deed.{Deed}
+use Rattle.chart_machine.specs.declared.region_change.RegionChange.{RegionChange}
 use Rattle.chart_machine.specs.declared.standing.Standing.TheVariants as at
 use Rattle.chart_machine.specs.declared.standing.Configuration.{Configuration}
 use Rattle.chart_machine.specs.declared.table.Table.{Table}
 use Rattle.chart_machine.specs.Table.{table, state_at, region_at}
 use Rattle.chart_machine.specs.Turns.{standing_of, has_work, inside}
-use Rattle.chart_machine.specs.Steps.{to, after, verdict, taken, step, state_in, access_of_trigger, effected, deed_of}
+use Rattle.chart_machine.specs.Steps.{to, after, verdict, taken, step, state_in, access_of_trigger, effected, change_of}
 use Rattle.chart_machine.specs.Machine.{machine}
 use Rattle.abort_expansion.specs.Expansion.{expanded}
 use Rattle.abort_expansion.specs.Superstates.{is_prepared}
@@ -291,17 +291,17 @@ module _ (c : Chart) (rules : IsChart features.Extended c) (core_rules : IsChart
         moves : taken k r s t ≡ (state_at k (state_in k r t.target)).entered
         moves = rw (bare s back.simple, none) refl
 
-        deed : record { write = None; moves = (state_at k (state_in k r t.target)).entered } ≡ parts.deed
-        deed =
-            same_Some _ parts.deed
-            (sym (ap (deed_of k now r) stands ∙ (tested_is k now r s t (to r (at.Trying s tests) ∷ []) true holds ∙
+        change : record { write = None; moves = (state_at k (state_in k r t.target)).entered } ≡ parts.change
+        change =
+            same_Some _ parts.change
+            (sym (ap (change_of k now r) stands ∙ (tested_is k now r s t (to r (at.Trying s tests) ∷ []) true holds ∙
             ap (λ ms. Some (record { write = None; moves = ms })) moves)) ∙ parts.does)
 
         is : chart_enters k core i now r t.target ≡ next
-        is = ap (λ w. after w now) deed ∙ parts.is
+        is = ap (λ w. after w now) change ∙ parts.is
 
-    abbrev last_deed : ℕ → Effect → Value → Deed
-    last_deed p e v = record { write = Some (record { variable = e.variable; value = v }); moves = (state_at k (state_in k r p)).entered }
+    abbrev last_change : ℕ → Effect → Value → RegionChange
+    last_change p e v = record { write = Some (record { variable = e.variable; value = v }); moves = (state_at k (state_in k r p)).entered }
 
     pub last_made : (s p : ℕ) (e : Effect) → standing_of now r ≡ at.Acting s (e ∷ []) p → Followed now d r next
     last_made s p e stands = by_value (value_of e.value now.variables) refl
@@ -309,24 +309,24 @@ module _ (c : Chart) (rules : IsChart features.Extended c) (core_rules : IsChart
         back : IsActing k i r p (e ∷ []) (standing_of d (i.thread_of r))
         back = acting_back k core i now r (standing_of now r) (standing_of d (i.thread_of r)) (related.regions r there) s p (e ∷ []) stands
 
-        does : option_and_then (effected k r s e [] p) (value_of e.value now.variables) ≡ Some parts.deed
-        does = sym (ap (deed_of k now r) stands) ∙ parts.does
+        does : option_and_then (effected k r s e [] p) (value_of e.value now.variables) ≡ Some parts.change
+        does = sym (ap (change_of k now r) stands) ∙ parts.does
 
-        with_value : (v : Value) → value_of e.value now.variables ≡ Some v → effected k r s e [] p v ≡ Some parts.deed →
+        with_value : (v : Value) → value_of e.value now.variables ≡ Some v → effected k r s e [] p v ≡ Some parts.change →
             (b : Bool) → takes_kind (option_map (λ z. z.kind) (slice_get k.variables e.variable)) (kind_of v) ≡ b → Followed now d r next
         with_value v is one false fits =
-            let wrong : None ≡ Some parts.deed = sym (ap (λ b. only_if b (Some (last_deed p e v))) fits) ∙ one in absurd cc
+            let wrong : None ≡ Some parts.change = sym (ap (λ b. only_if b (Some (last_change p e v))) fits) ∙ one in absurd cc
         with_value v is one true fits =
-            let deed : last_deed p e v ≡ parts.deed =
-            same_Some (last_deed p e v) parts.deed (sym (ap (λ b. only_if b (Some (last_deed p e v))) fits) ∙ one) in
-            subst (Followed now d r) (ap (λ w. after w now) deed ∙ parts.is)
+            let change : last_change p e v ≡ parts.change =
+            same_Some (last_change p e v) parts.change (sym (ap (λ b. only_if b (Some (last_change p e v))) fits) ∙ one) in
+            subst (Followed now d r) (ap (λ w. after w now) change ∙ parts.is)
             (last_effect k core i rows (ticks.nested c rules core_rules) (ticks.counts c rules core_rules) (ticks.written_at c rules core_rules) Told
             (told_silent k core i) (counter_rows c rules core_rules) super_there law_of_entering now d related r s p e stands
             (chart_first p back.there) (core_first p back.there) parts.free v is fits
             (image_told (access_of_assignment e.variable (assignment_of e.variable e.value))))
 
         by_value : (o : Option Value) → value_of e.value now.variables ≡ o → Followed now d r next
-        by_value None is = let wrong : None ≡ Some parts.deed = sym (ap (option_and_then (effected k r s e [] p)) is) ∙ does in absurd cc
+        by_value None is = let wrong : None ≡ Some parts.change = sym (ap (option_and_then (effected k r s e [] p)) is) ∙ does in absurd cc
         by_value (Some v) is =
             with_value v is (sym (ap (option_and_then (effected k r s e [] p)) is) ∙ does)
             (takes_kind (option_map (λ z. z.kind) (slice_get k.variables e.variable)) (kind_of v)) refl

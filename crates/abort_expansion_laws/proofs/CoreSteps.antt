@@ -14,7 +14,7 @@ use Rattle.chart_machine.specs.declared.standing.Configuration.{Configuration}
 use Rattle.chart_machine.specs.declared.table.Table.{Table}
 use Rattle.chart_machine.specs.Table.{state_at}
 use Rattle.chart_machine.specs.Turns.{standing_of, is_guarded, inside, is_enabled}
-use Rattle.chart_machine.specs.Steps.{to, moved, acts, verdict, taken, effected, deed_of, step, state_in}
+use Rattle.chart_machine.specs.Steps.{to, moved, acts, verdict, taken, effected, change_of, step, state_in}
 use Rattle.chart_machine_laws.proofs.LyingIn.{around}
 use Rattle.abort_expansion_laws.proofs.TestFails.{tested_is}
 use Rattle.abort_expansion_laws.proofs.Leaving.{drops, moved_append}
@@ -28,8 +28,8 @@ module _ (core : Table) where
   takes d g s w rest e effects free stands true_there alone some =
       let on : is_enabled core d g ≡ true = rw (stands, free) refl in
       let moves : taken core g s w ≡ to g (at.Acting s (e ∷ effects) w.target) ∷ [] = rw (alone, some) refl in
-      let does : deed_of core d g (standing_of d g) ≡ Some (record { write = None; moves = to g (at.Acting s (e ∷ effects) w.target) ∷ [] }) =
-      ap (deed_of core d g) stands ∙ (tested_is core d g s w (to g (at.Trying s rest) ∷ []) true true_there ∙
+      let does : change_of core d g (standing_of d g) ≡ Some (record { write = None; moves = to g (at.Acting s (e ∷ effects) w.target) ∷ [] }) =
+      ap (change_of core d g) stands ∙ (tested_is core d g s w (to g (at.Trying s rest) ∷ []) true true_there ∙
       ap (λ ms. Some (record { write = None; moves = ms })) moves) in
       rw (on, does) refl
 
@@ -39,8 +39,8 @@ module _ (core : Table) where
       step core g d ≡ Some (record { variables = d.variables; regions = moved (acts core g s w.effects w.target) (moved (drops (inside core s)) d.regions) })
   takes_out d g s w rest free stands true_there =
       let on : is_enabled core d g ≡ true = rw (stands, free) refl in
-      let does : deed_of core d g (standing_of d g) ≡ Some (record { write = None; moves = taken core g s w }) =
-      ap (deed_of core d g) stands ∙ tested_is core d g s w (to g (at.Trying s rest) ∷ []) true true_there in
+      let does : change_of core d g (standing_of d g) ≡ Some (record { write = None; moves = taken core g s w }) =
+      ap (change_of core d g) stands ∙ tested_is core d g s w (to g (at.Trying s rest) ∷ []) true true_there in
       let all : step core g d ≡ Some (record { variables = d.variables; regions = moved (taken core g s w) d.regions }) = rw (on, does) refl in
       all ∙ ap (λ zs. Some (record { variables = d.variables; regions = zs })) (moved_append (drops (inside core s))
       (acts core g s w.effects w.target) d.regions)
@@ -62,9 +62,9 @@ module _ (core : Table) where
       let one : effected core g s e effects target v
       ≡ Some (record { write = Some (record { variable = e.variable; value = v }); moves = acts core g s effects target }) =
       rw (fits) refl in
-      let does : deed_of core d g (standing_of d g)
+      let does : change_of core d g (standing_of d g)
       ≡ Some (record { write = Some (record { variable = e.variable; value = v }); moves = acts core g s effects target }) =
-      ap (deed_of core d g) stands ∙ (ap (option_and_then (effected core g s e effects target)) is ∙ one) in
+      ap (change_of core d g) stands ∙ (ap (option_and_then (effected core g s e effects target)) is ∙ one) in
       rw (on, does) refl
 
   -- the last one

@@ -129,7 +129,7 @@ module _ (k : Table) (enters : (s : ℕ) → EnteredBy IsPrompt (state_at k s)) 
   late_step : (c next : Configuration) (r q : ℕ) → step k r c ≡ Some next → is_late (standing_of next q) ≡ true → is_late (standing_of c q) ≡ true
   late_step c next r q steps late =
       let made : StepMade k r c next = step_made k r c next steps in
-      after_moves c r q (standing_of c r) made.deed.moves refl made.makes (subst (λ z. is_late (standing_of z q) ≡ true) (sym made.is) late)
+      after_moves c r q (standing_of c r) made.change.moves refl made.makes (subst (λ z. is_late (standing_of z q) ≡ true) (sym made.is) late)
 
 enters_prompt : (f : Features) (h : Chart) → IsChart f h → (s : ℕ) → EnteredBy IsPrompt (state_at (table h) s)
 enters_prompt f h rules s =

@@ -11,7 +11,7 @@ use Rattle.chart_machine.specs.declared.standing.Configuration.{Configuration}
 use Rattle.chart_machine.specs.declared.table.Table.{Table}
 use Rattle.chart_machine.specs.Table.{region_at}
 use Rattle.chart_machine.specs.Turns.{standing_of, has_work, is_guarded, is_enabled}
-use Rattle.chart_machine.specs.Steps.{to, after, deed_of, step, access_of}
+use Rattle.chart_machine.specs.Steps.{to, after, change_of, step, access_of}
 use Rattle.chart_machine.specs.Machine.{machine}
 use Rattle.abort_expansion_laws.specs.Stages.{Entry, Image}
 use Rattle.abort_expansion_laws.proofs.Simulation.{Segment}
@@ -65,12 +65,12 @@ module _ (k : Table) where
         moves =
             to q (at.Acting s (f ∷ es) p) ∷ [];
       }) = rw (fits) refl in
-      let does : deed_of k c q (standing_of c q) ≡ Some (record {
+      let does : change_of k c q (standing_of c q) ≡ Some (record {
         write = Some (record { variable = e.variable; value = v });
         moves =
             to q (at.Acting s (f ∷ es) p) ∷ [];
       }) =
-      ap (deed_of k c q) stands ∙ (ap (option_and_then (effected k q s e (f ∷ es) p)) is ∙ one) in
+      ap (change_of k c q) stands ∙ (ap (option_and_then (effected k q s e (f ∷ es) p)) is ∙ one) in
       rw (on, does) refl
 
 -- ---- where a thread acts, taken apart
@@ -205,13 +205,13 @@ module _ (k core : Table) (i : Images) (rows : CoreRows k core i) (tree : IsNest
       (act_of (machine k) c q ∷ []) (Related k core i next)
   effect_followed Told told next steps =
       let parts : Stepped k q c next = stepped k q c next steps in
-      let got = and_then_some (effected k q s e (f ∷ es) p) (value_of e.value c.variables) parts.deed (sym (ap (deed_of k c q) stands) ∙ parts.does) in
+      let got = and_then_some (effected k q s e (f ∷ es) p) (value_of e.value c.variables) parts.change (sym (ap (change_of k c q) stands) ∙ parts.does) in
       let kinds = only_if_some (takes_kind (option_map (λ z. z.kind) (slice_get k.variables e.variable)) (kind_of got.0))
-      (Some (record { write = Some (record { variable = e.variable; value = got.0 }); moves = to q (at.Acting s (f ∷ es) p) ∷ [] })) parts.deed got.2 in
-      let deed : record { write = Some (record { variable = e.variable; value = got.0 }); moves = to q (at.Acting s (f ∷ es) p) ∷ [] } ≡ parts.deed =
-      same_Some _ parts.deed kinds.1 in
+      (Some (record { write = Some (record { variable = e.variable; value = got.0 }); moves = to q (at.Acting s (f ∷ es) p) ∷ [] })) parts.change got.2 in
+      let change : record { write = Some (record { variable = e.variable; value = got.0 }); moves = to q (at.Acting s (f ∷ es) p) ∷ [] } ≡ parts.change =
+      same_Some _ parts.change kinds.1 in
       let is : record { variables = slice_set c.variables e.variable got.0; regions = slice_set c.regions q (at.Acting s (f ∷ es) p) } ≡ next =
-      ap (λ w. after w c) deed ∙ parts.is in
+      ap (λ w. after w c) change ∙ parts.is in
       subst (λ c'. Segment (machine core) (pair k core i rows tree counts written_at) Told d (Stage k i.thread_of c d) (Stage k i.thread_of c')
       (act_of (machine k) c q ∷ []) (Related k core i c')) is
       (image_segment k core i rows tree counts written_at c d related q (at.Acting s (f ∷ es) p) core_goes

@@ -8,7 +8,7 @@ use Rattle.chart_machine.specs.declared.standing.Configuration.{Configuration}
 use Rattle.chart_machine.specs.declared.table.Table.{Table}
 use Rattle.chart_machine.specs.Table.{state_at}
 use Rattle.chart_machine.specs.Turns.{standing_of, inside, is_guarded}
-use Rattle.chart_machine.specs.Steps.{after, verdict, entering_on, deed_of, step, access_of, access_of_trigger}
+use Rattle.chart_machine.specs.Steps.{after, verdict, entering_on, change_of, step, access_of, access_of_trigger}
 use Rattle.chart_machine.specs.Machine.{machine}
 use Rattle.abort_expansion.specs.Flags.{has_join}
 use Rattle.abort_expansion.specs.Transitions.{go, led_by}
@@ -91,8 +91,8 @@ module _ (k core : Table) (i : Images) (more : EntryRows k core i) (holds_there 
       Segment (machine core) corr Told d (Stage k i.thread_of c d) (Stage k i.thread_of last) (act_of (machine k) c q ∷ []) (Related k core i last)
   entry_passed told last chart_steps =
       let parts : Stepped k q c last = stepped k q c last chart_steps in
-      let deed : record { write = None; moves = entering_on k q s [] } ≡ parts.deed =
-      same_Some _ parts.deed (sym (ap (deed_of k c q) stands ∙ tested_is k c q s t (entering_on k q s []) false false_there) ∙ parts.does) in
-      let is : opened ≡ last = ap (λ w. after w c) deed ∙ parts.is in
+      let change : record { write = None; moves = entering_on k q s [] } ≡ parts.change =
+      same_Some _ parts.change (sym (ap (change_of k c q) stands ∙ tested_is k c q s t (entering_on k q s []) false false_there) ∙ parts.does) in
+      let is : opened ≡ last = ap (λ w. after w c) change ∙ parts.is in
       subst (λ w. Segment (machine core) corr Told d (Stage k i.thread_of c d) (Stage k i.thread_of w) (act_of (machine k) c q ∷ []) (Related k core i w)) is
       (passed told)

@@ -9,7 +9,7 @@ use Rattle.chart_machine.specs.declared.standing.Configuration.{Configuration}
 use Rattle.chart_machine.specs.declared.table.Table.{Table}
 use Rattle.chart_machine.specs.Table.{state_at}
 use Rattle.chart_machine.specs.Turns.{standing_of, has_work, is_guarded}
-use Rattle.chart_machine.specs.Steps.{state_in, to, after, verdict, deed_of, step, access_of, access_of_trigger}
+use Rattle.chart_machine.specs.Steps.{state_in, to, after, verdict, change_of, step, access_of, access_of_trigger}
 use Rattle.chart_machine.specs.Machine.{machine}
 use Rattle.abort_expansion.specs.Transitions.{go, led_by}
 use Rattle.abort_expansion.specs.Superstates.{is_prepared, resets}
@@ -135,9 +135,10 @@ module _ (k core : Table) (i : Images) (rows : CoreRows k core i) (tree : IsNest
       (act_of (machine k) c q ∷ []) (Related k core i next)
   opening_on_followed Told told next steps false_there =
       let parts : Stepped k q c next = stepped k q c next steps in
-      let deed : record { write = None; moves = to q (at.Entering s (u ∷ tests)) ∷ [] } ≡ parts.deed =
-      same_Some _ parts.deed (sym (ap (deed_of k c q) stands ∙ tested_is k c q s t (to q (at.Entering s (u ∷ tests)) ∷ []) false false_there) ∙ parts.does) in
-      let is : record { variables = c.variables; regions = slice_set c.regions q (at.Entering s (u ∷ tests)) } ≡ next = ap (λ e. after e c) deed ∙ parts.is in
+      let change : record { write = None; moves = to q (at.Entering s (u ∷ tests)) ∷ [] } ≡ parts.change =
+      same_Some _ parts.change (sym (ap (change_of k c q) stands ∙ tested_is k c q s t (to q (at.Entering s (u ∷ tests)) ∷ []) false false_there) ∙
+      parts.does) in
+      let is : record { variables = c.variables; regions = slice_set c.regions q (at.Entering s (u ∷ tests)) } ≡ next = ap (λ e. after e c) change ∙ parts.is in
       subst (λ c'. Segment (machine core) (pair k core i rows tree counts written_at) Told d (Stage k i.thread_of c d) (Stage k i.thread_of c')
       (act_of (machine k) c q ∷ []) (Related k core i c')) is
       (image_segment k core i rows tree counts written_at c d related q (at.Entering s (u ∷ tests)) (at.Trying (i.entry_of s) rest)

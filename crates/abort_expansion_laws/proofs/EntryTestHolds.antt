@@ -12,7 +12,7 @@ use Rattle.chart_machine.specs.declared.standing.Move.{Move}
 use Rattle.chart_machine.specs.declared.table.Table.{Table}
 use Rattle.chart_machine.specs.Table.{state_at, region_at}
 use Rattle.chart_machine.specs.Turns.{standing_of, has_ended, is_guarded, inside}
-use Rattle.chart_machine.specs.Steps.{state_in, to, moved, after, verdict, taken, entering_on, deed_of, step, access_of, access_of_trigger}
+use Rattle.chart_machine.specs.Steps.{state_in, to, moved, after, verdict, taken, entering_on, change_of, step, access_of, access_of_trigger}
 use Rattle.chart_machine.specs.Machine.{machine}
 use Rattle.abort_expansion.specs.Transitions.{go, put, led_by, counting, place_of}
 use Rattle.abort_expansion.specs.Superstates.{resets}
@@ -141,13 +141,13 @@ module _ (k core : Table) (i : Images) (rows : CoreRows k core i) (tree : IsNest
       taken k q s t ≡ drops (inside k s) ++ moves → record { variables = c.variables; regions = moved moves c.regions } ≡ next
   chart_goes next moves steps true_there are =
       let parts : Stepped k q c next = stepped k q c next steps in
-      let deed : record { write = None; moves = drops (inside k s) ++ moves } ≡ parts.deed =
-      same_Some _ parts.deed
-      (sym (ap (deed_of k c q) stands ∙ (tested_is k c q s t (entering_on k q s tests) true true_there ∙
+      let change : record { write = None; moves = drops (inside k s) ++ moves } ≡ parts.change =
+      same_Some _ parts.change
+      (sym (ap (change_of k c q) stands ∙ (tested_is k c q s t (entering_on k q s tests) true true_there ∙
       ap (λ ms. Some (record { write = None; moves = ms })) are)) ∙ parts.does) in
       let all : moved (drops (inside k s) ++ moves) c.regions ≡ moved moves c.regions =
       moved_append (drops (inside k s)) moves c.regions ∙ ap (moved moves) (drops_nobody (inside k s) c.regions nobody_inside) in
-      ap (λ zs. record { variables = c.variables; regions = zs }) (sym all) ∙ (ap (λ w. after w c) deed ∙ parts.is)
+      ap (λ zs. record { variables = c.variables; regions = zs }) (sym all) ∙ (ap (λ w. after w c) change ∙ parts.is)
 
   core_holds : verdict c.variables t.trigger ≡ Some true → verdict d.variables t.trigger ≡ Some true
   core_holds true_there =

@@ -9,7 +9,7 @@ use Rattle.chart_machine.specs.declared.standing.Standing.TheVariants as at
 use Rattle.chart_machine.specs.declared.standing.Configuration.{Configuration}
 use Rattle.chart_machine.specs.declared.table.Table.{Table}
 use Rattle.chart_machine.specs.Turns.{standing_of, guards as has_to_guard, is_enabled}
-use Rattle.chart_machine.specs.Steps.{to, verdict, deed_of, step, access_of}
+use Rattle.chart_machine.specs.Steps.{to, verdict, change_of, step, access_of}
 use Rattle.chart_machine.specs.Machine.{machine}
 use Rattle.abort_expansion.specs.declared.flags.Flags.{Flags}
 use Rattle.abort_expansion.specs.Transitions.{go, is_raised, check, strong_checks}
@@ -48,8 +48,8 @@ module _ (core : Table) (corr : Correspondence) (Told : Configuration → Entry 
       verdict d.variables w.trigger ≡ Some false → step core g d ≡ Some (placed d rest)
   fails d w rest none stands false_there =
       let on : is_enabled core d g ≡ true = rw (stands, unguarded core d none (around core g)) refl in
-      let does : deed_of core d g (standing_of d g) ≡ Some (record { write = None; moves = to g (at.Trying u rest) ∷ [] }) =
-      ap (deed_of core d g) stands ∙ tested_is core d g u w (to g (at.Trying u rest) ∷ []) false false_there in
+      let does : change_of core d g (standing_of d g) ≡ Some (record { write = None; moves = to g (at.Trying u rest) ∷ [] }) =
+      ap (change_of core d g) stands ∙ tested_is core d g u w (to g (at.Trying u rest) ∷ []) false false_there in
       rw (on, does) refl
 
   -- stages are reached as before

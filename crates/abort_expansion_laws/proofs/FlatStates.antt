@@ -27,7 +27,7 @@ use Rattle.chart_machine_laws.proofs.ChartTables.{holds_whole}
 use Rattle.core_charts.specs.Aborts.{has_aborts}
 use Rattle.abort_expansion_laws.specs.Flat.{Nesting, region_nesting, state_nesting, nesting_of_region, nesting_of_state, IsFlat}
 use Rattle.abort_expansion_laws.specs.CoreRows.{own}
-use Rattle.abort_expansion_laws.proofs.InRegionRows.{InRegionAt, first_holds, rest_holds, spot_of}
+use Rattle.abort_expansion_laws.proofs.InRegionRows.{InRegionAt, first_holds, rest_holds, position_of}
 use Rattle.abort_expansion_laws.proofs.SideRows.{side_head, side_tail}
 use Rattle.abort_expansion_laws.proofs.Walked.{Range, range_none, range_both, range_to, range_more}
 use Rattle.abort_expansion_laws.proofs.RowsOfForks.{region_rows}
@@ -119,7 +119,7 @@ module _ (k : Table) where
       let flats = both (nesting_of_state s).is_flat (all_flat (nestings_inside states)) flat in
       range_to FlatState a.state ((a.state + p.states) + states_in ps) (a.state + states_in (p ∷ ps)) (omega arith)
       (range_both FlatState a.state (a.state + p.states) ((a.state + p.states) + states_in ps)
-      (each.0.flat (spot_of p.is_initial next a) (first_holds k p ps next a rows) around_it flats.0
+      (each.0.flat (position_of p.is_initial next a) (first_holds k p ps next a rows) around_it flats.0
       (λ o h has. (neither (nesting_of_state s).has_some (some_have (nestings_inside states)) (calm o h has)).0))
       (inner_flat states each.1 (past_states p.states a) (next_behind p next) (rest_holds k p ps next a each.0.sized once rows) once.1 around_it flats.1
       (λ o h has. (neither (nesting_of_state s).has_some (some_have (nestings_inside states)) (calm o h has)).1)))

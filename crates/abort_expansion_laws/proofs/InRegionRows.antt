@@ -14,8 +14,8 @@ next_past [] next = next
 next_past (p ∷ pieces) next = next_past pieces (next_behind p next)
 
 -- where what is inside a state stands, by whether it is initial
-abbrev pub spot_of : Bool → ℕ → TablePosition → TablePosition
-spot_of initial next at = record at { region = if initial then at.region else next }
+abbrev pub position_of : Bool → ℕ → TablePosition → TablePosition
+position_of initial next at = record at { region = if initial then at.region else next }
 
 module _ (k : Table) where
   pub record InRegionAt (pieces : List Piece) (next : ℕ) (at : TablePosition) : Type 0 where
@@ -26,7 +26,7 @@ module _ (k : Table) where
   module _ (p : Piece) (next : ℕ) (at : TablePosition) (rest : StatesRows) where
     one_there : (b : Bool) → StatesAt k at.state (followed_by (rows_of_state_at b p.parts next at) rest).states →
         RegionsAt k at.region (followed_by (rows_of_state_at b p.parts next at) rest).first →
-        RegionsAt k next (followed_by (rows_of_state_at b p.parts next at) rest).others → Holds k (spot_of b next at) (p.parts (spot_of b next at))
+        RegionsAt k next (followed_by (rows_of_state_at b p.parts next at) rest).others → Holds k (position_of b next at) (p.parts (position_of b next at))
     one_there true rows first others =
         record {
           states = states_first k at.state (p.parts at).states rest.states rows;
@@ -61,7 +61,7 @@ module _ (k : Table) where
 
   -- the first of them
   pub first_holds : (p : Piece) (pieces : List Piece) (next : ℕ) (at : TablePosition) → InRegionAt (p ∷ pieces) next at →
-      Holds k (spot_of p.is_initial next at) (p.parts (spot_of p.is_initial next at))
+      Holds k (position_of p.is_initial next at) (p.parts (position_of p.is_initial next at))
   first_holds p pieces next at h =
       one_there p next at (in_region pieces (next_behind p next) (past_states p.states at)) p.is_initial h.states h.first h.others
 

@@ -11,7 +11,7 @@ use Rattle.chart_machine.specs.Table.{Piece, state_at, states_in, rows_of_state_
 use Rattle.chart_machine.specs.Table.{region_piece, state_piece, piece_of_state}
 use Rattle.chart_machine_laws.proofs.RowsOfPieces.{Holds, AllSized}
 use Rattle.chart_machine_laws.proofs.TableTrees.{NoneInitial, OnceInitial}
-use Rattle.abort_expansion_laws.proofs.InRegionRows.{InRegionAt, first_holds, rest_holds, spot_of}
+use Rattle.abort_expansion_laws.proofs.InRegionRows.{InRegionAt, first_holds, rest_holds, position_of}
 use Rattle.abort_expansion_laws.proofs.Walks.{FirstInitial}
 
 -- the number of the first of these states that is initial
@@ -84,7 +84,7 @@ module _ (k : Table) where
       (rest_holds k (piece_of_state s) (map piece_of_state states) next a sized.0 once rows) once.1
       (⊎_elim (λ first. let wrong : false ≡ true = sym denied ∙ first in absurd cc) (λ later. later) has))
     where
-      by_first : (b : Bool) → (piece_of_state s).is_initial ≡ b → Holds k (spot_of b next a) ((piece_of_state s).parts (spot_of b next a)) →
+      by_first : (b : Bool) → (piece_of_state s).is_initial ≡ b → Holds k (position_of b next a) ((piece_of_state s).parts (position_of b next a)) →
           (b ≡ false → (in_region (map piece_of_state states) (next_behind (piece_of_state s) next) (past_states (piece_of_state s).states a)).entered ≡
           (state_at k (initial_at (map piece_of_state states) (a.state + (piece_of_state s).states))).entered) →
           (rows_of_state_at b (piece_of_state s).parts next a).entered

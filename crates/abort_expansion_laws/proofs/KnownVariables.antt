@@ -15,12 +15,12 @@ use Rattle.sc_values.specs.Expr.{value}
 use Rattle.sc_values.specs.Assignment.{reads}
 use Rattle.sc_values.proofs.Induction.{induct, value-load, value-unary, value-binary}
 use Rattle.sc_values.proofs.Loading.{loads-literal, loads-load, loads-unary, loads-binary}
-use Rattle.chart_machine.specs.declared.deed.Deed.{Deed}
+use Rattle.chart_machine.specs.declared.region_change.RegionChange.{RegionChange}
 use Rattle.chart_machine.specs.declared.standing.Standing.TheVariants as at
 use Rattle.chart_machine.specs.declared.standing.Configuration.{Configuration}
 use Rattle.chart_machine.specs.declared.table.Table.{Table}
 use Rattle.chart_machine.specs.Turns.{standing_of, has_work, is_guarded, inside_is_done, is_enabled}
-use Rattle.chart_machine.specs.Steps.{truth, verdict, after, deed_of, step, access_of_trigger}
+use Rattle.chart_machine.specs.Steps.{truth, verdict, after, change_of, step, access_of_trigger}
 use Rattle.tick_laws.proofs.Lists.{map_some}
 use Rattle.tick_laws.proofs.Views.{only_if_some}
 use Rattle.abort_expansion_laws.specs.Stages.{Touches}
@@ -89,17 +89,17 @@ pub record Stepped (k : Table) (r : ℕ) (c next : Configuration) : Type 0 where
   pub works : has_work k c (standing_of c r) ≡ true
   pub free : is_guarded k c (around k r) ≡ false
   pub done : inside_is_done k c (standing_of c r) ≡ true
-  pub deed : Deed
-  pub does : deed_of k c r (standing_of c r) ≡ Some deed
-  pub is : after deed c ≡ next
+  pub change : RegionChange
+  pub does : change_of k c r (standing_of c r) ≡ Some change
+  pub is : after change c ≡ next
 
 pub stepped : (k : Table) (r : ℕ) (c next : Configuration) → step k r c ≡ Some next → Stepped k r c next
 stepped k r c next h =
-    let parts = only_if_some (is_enabled k c r) (option_map (λ d. after d c) (deed_of k c r (standing_of c r))) next h in
-    let deed = map_some (λ d. after d c) (deed_of k c r (standing_of c r)) next parts.1 in
+    let parts = only_if_some (is_enabled k c r) (option_map (λ d. after d c) (change_of k c r (standing_of c r))) next h in
+    let change = map_some (λ d. after d c) (change_of k c r (standing_of c r)) next parts.1 in
     let on = both_true (has_work k c (standing_of c r)) (not (is_guarded k c (around k r)) && inside_is_done k c (standing_of c r)) parts.0 in
     let two = both_true (not (is_guarded k c (around k r))) (inside_is_done k c (standing_of c r)) on.1 in
-    record { works = on.0; free = not_so (is_guarded k c (around k r)) two.0; done = two.1; deed = deed.0; does = deed.1; is = deed.2 }
+    record { works = on.0; free = not_so (is_guarded k c (around k r)) two.0; done = two.1; change = change.0; does = change.1; is = change.2 }
 
 -- whoever stands somewhere is a region of the table
 pub present_there : (k core : Table) (i : Images) (c d : Configuration) → Related k core i c d → (r : ℕ) → standing_of c r ≢ at.Outside → IsThere k r

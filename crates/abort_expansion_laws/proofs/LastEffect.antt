@@ -10,7 +10,7 @@ use Rattle.chart_machine.specs.declared.standing.Configuration.{Configuration}
 use Rattle.chart_machine.specs.declared.table.Table.{Table}
 use Rattle.chart_machine.specs.Table.{state_at}
 use Rattle.chart_machine.specs.Turns.{standing_of, guards, is_guarded, is_enabled}
-use Rattle.chart_machine.specs.Steps.{to, state_in, acts, moved, deed_of, step, access_of}
+use Rattle.chart_machine.specs.Steps.{to, state_in, acts, moved, change_of, step, access_of}
 use Rattle.chart_machine.specs.Machine.{machine}
 use Rattle.abort_expansion_laws.specs.Stages.{Entry, Image, Silent}
 use Rattle.abort_expansion_laws.proofs.Simulation.{Segment}
@@ -157,9 +157,9 @@ module _ (k core : Table) (i : Images) (rows : CoreRows k core i) (tree : IsNest
       let one : effected core (i.thread_of q) thread.from e rest (place_of (i.places_of q) p) v
       ≡ Some (record { write = Some (record { variable = e.variable; value = v }); moves = moves }) =
       rw (core_fits) (ap (λ ms. Some (record { write = Some (record { variable = e.variable; value = v }); moves = ms })) goes_so) in
-      let does : deed_of core d (i.thread_of q) (standing_of d (i.thread_of q))
+      let does : change_of core d (i.thread_of q) (standing_of d (i.thread_of q))
       ≡ Some (record { write = Some (record { variable = e.variable; value = v }); moves = moves }) =
-      ap (deed_of core d (i.thread_of q)) (core_stands ∙ ap (λ zs. at.Acting thread.from (e ∷ zs) (place_of (i.places_of q) p)) are)
+      ap (change_of core d (i.thread_of q)) (core_stands ∙ ap (λ zs. at.Acting thread.from (e ∷ zs) (place_of (i.places_of q) p)) are)
       ∙ (ap (option_and_then (effected core (i.thread_of q) thread.from e rest (place_of (i.places_of q) p))) core_is ∙ one) in
       rw (on_turn, does) refl
 

@@ -13,7 +13,7 @@ use Rattle.chart_machine.specs.declared.standing.Configuration.{Configuration}
 use Rattle.chart_machine.specs.declared.table.Table.{Table}
 use Rattle.chart_machine.specs.Table.{state_at}
 use Rattle.chart_machine.specs.Turns.{standing_of, has_ended, guards as has_to_guard, is_guarded, has_work, may_close, inside}
-use Rattle.chart_machine.specs.Steps.{to, after, deed_of, step, verdict, access_of, access_of_trigger}
+use Rattle.chart_machine.specs.Steps.{to, after, change_of, step, verdict, access_of, access_of_trigger}
 use Rattle.chart_machine.specs.Machine.{machine}
 use Rattle.core_charts.specs.Aborts.{has_aborts}
 use Rattle.chart_machine_laws.specs.Tree.{IsNested, IsThere, LiesUnder, around, holder}
@@ -321,11 +321,11 @@ module _ (k core : Table) (i : Images) (rows : CoreRows k core i) (layered : Lay
       (act_of (machine k) c r ∷ []) (Related k core i next)
   last_strong_followed told_it next steps false_there =
       let parts : Stepped k r c next = stepped k r c next steps in
-      let deed : record { write = None; moves = to r (at.Within o (closing_tests (own k o))) ∷ [] } ≡ parts.deed =
-      same_Some _ parts.deed
-      (sym (ap (deed_of k c r) stands ∙ tested_is k c r o t (to r (at.Within o (closing_tests (own k o))) ∷ []) false false_there) ∙ parts.does) in
+      let change : record { write = None; moves = to r (at.Within o (closing_tests (own k o))) ∷ [] } ≡ parts.change =
+      same_Some _ parts.change
+      (sym (ap (change_of k c r) stands ∙ tested_is k c r o t (to r (at.Within o (closing_tests (own k o))) ∷ []) false false_there) ∙ parts.does) in
       let is : record { variables = c.variables; regions = slice_set c.regions r (at.Within o (closing_tests (own k o))) } ≡ next =
-      ap (λ e. after e c) deed ∙ parts.is in
+      ap (λ e. after e c) change ∙ parts.is in
       subst (λ z. Segment (machine core) (pair k core i rows tree counts written_at) Told d (Stage k i.thread_of c d) (Stage k i.thread_of z)
       (act_of (machine k) c r ∷ []) (Related k core i z)) is
       (followed k core i rows layered tree core_children children c d related r o x o_there super t stands monitor has flag counts written_at flag_of

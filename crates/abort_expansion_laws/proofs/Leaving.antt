@@ -10,7 +10,7 @@ use Rattle.chart_machine.specs.declared.standing.Configuration.{Configuration}
 use Rattle.chart_machine.specs.declared.table.Table.{Table}
 use Rattle.chart_machine.specs.Table.{state_at}
 use Rattle.chart_machine.specs.Turns.{standing_of, has_ended, has_work, is_guarded, inside, is_enabled}
-use Rattle.chart_machine.specs.Steps.{to, moved, acts, verdict, taken, deed_of, step, state_in}
+use Rattle.chart_machine.specs.Steps.{to, moved, acts, verdict, taken, change_of, step, state_in}
 use Rattle.core_charts.specs.Tests.{is_join}
 use Rattle.tick_laws.proofs.Lists.{same_or_not}
 use Rattle.chart_machine_laws.proofs.LyingIn.{around, none_in, head_or_tail, head_in, tail_in}
@@ -89,8 +89,8 @@ module _ (core : Table) where
   leaves d q s w rest free stands true_there none simple ends =
       let on : is_enabled core d q ≡ true = rw (stands, free) refl in
       let moves : taken core q s w ≡ to q at.Ended ∷ [] = rw (simple, none, ends) refl in
-      let does : deed_of core d q (standing_of d q) ≡ Some (record { write = None; moves = to q at.Ended ∷ [] }) =
-      ap (deed_of core d q) stands ∙ (tested_is core d q s w (to q (at.Trying s rest) ∷ []) true true_there ∙
+      let does : change_of core d q (standing_of d q) ≡ Some (record { write = None; moves = to q at.Ended ∷ [] }) =
+      ap (change_of core d q) stands ∙ (tested_is core d q s w (to q (at.Trying s rest) ∷ []) true true_there ∙
       ap (λ ms. Some (record { write = None; moves = ms })) moves) in
       rw (on, does) refl
 
@@ -102,8 +102,8 @@ module _ (core : Table) where
   joined d q s j x free stands ended idle enters =
       let on : is_enabled core d q ≡ true = rw (stands, ended, free, idle) refl in
       let moves : taken core q s (joins j) ≡ drops (inside core s) ++ to q x ∷ [] = rw (enters) refl in
-      let does : deed_of core d q (standing_of d q) ≡ Some (record { write = None; moves = drops (inside core s) ++ to q x ∷ [] }) =
-      ap (deed_of core d q) stands ∙ (tested_is core d q s (joins j) (to q (at.Within s []) ∷ []) true refl ∙
+      let does : change_of core d q (standing_of d q) ≡ Some (record { write = None; moves = drops (inside core s) ++ to q x ∷ [] }) =
+      ap (change_of core d q) stands ∙ (tested_is core d q s (joins j) (to q (at.Within s []) ∷ []) true refl ∙
       ap (λ ms. Some (record { write = None; moves = ms })) moves) in
       let all : step core q d ≡ Some (record { variables = d.variables; regions = moved (drops (inside core s) ++ to q x ∷ []) d.regions }) =
       rw (on, does) refl in
@@ -118,8 +118,8 @@ module _ (core : Table) where
   terminated d q s w rest free stands join none ended idle =
       let on : is_enabled core d q ≡ true = rw (stands, join, ended, free, idle) refl in
       let true_there : verdict d.variables w.trigger ≡ Some true = ap (verdict d.variables) none in
-      let does : deed_of core d q (standing_of d q) ≡ Some (record { write = None; moves = taken core q s w }) =
-      ap (deed_of core d q) stands ∙ tested_is core d q s w (to q (at.Within s rest) ∷ []) true true_there in
+      let does : change_of core d q (standing_of d q) ≡ Some (record { write = None; moves = taken core q s w }) =
+      ap (change_of core d q) stands ∙ tested_is core d q s w (to q (at.Within s rest) ∷ []) true true_there in
       let all : step core q d ≡ Some (record { variables = d.variables; regions = moved (taken core q s w) d.regions }) = rw (on, does) refl in
       all ∙ ap (λ zs. Some (record { variables = d.variables; regions = zs })) (moved_append (drops (inside core s))
       (acts core q s w.effects w.target) d.regions)

@@ -33,7 +33,7 @@ use Rattle.chart_machine_laws.proofs.RowsOfPieces.{Holds, IsSized, AllSized, sta
 use Rattle.chart_machine_laws.proofs.TableTrees.{OnceInitial}
 use Rattle.chart_machine_laws.proofs.ChartTables.{holds_whole}
 use Rattle.abort_expansion_laws.proofs.Leaving.{at_number, set_other}
-use Rattle.abort_expansion_laws.proofs.InRegionRows.{InRegionAt, first_holds, rest_holds, spot_of}
+use Rattle.abort_expansion_laws.proofs.InRegionRows.{InRegionAt, first_holds, rest_holds, position_of}
 use Rattle.abort_expansion_laws.proofs.SideRows.{side_head, side_tail}
 use Rattle.abort_expansion_laws.proofs.Walked.{Range, range_none, range_both, range_to, range_more}
 use Rattle.abort_expansion_laws.proofs.RowsOfForks.{region_rows}
@@ -122,7 +122,7 @@ module _ (k : Table) where
       by_first p.is_initial (first_holds k p ps next a rows)
       (inner_enters n states each.1 (past_states p.states a) (next_behind p next) (rest_holds k p ps next a each.0.sized once rows) once.1 around_it size)
     where
-      by_first : (b : Bool) → Holds k (spot_of b next a) ((piece_of_state s).parts (spot_of b next a)) →
+      by_first : (b : Bool) → Holds k (position_of b next a) ((piece_of_state s).parts (position_of b next a)) →
           MovesIn a.around (in_region (map piece_of_state states) (next_behind (piece_of_state s) next) (past_states (piece_of_state s).states a)).entered →
           MovesIn a.around ((rows_of_state_at b (piece_of_state s).parts next a).entered
           ++ (in_region (map piece_of_state states) (next_behind (piece_of_state s) next) (past_states (piece_of_state s).states a)).entered)
@@ -138,7 +138,7 @@ module _ (k : Table) where
       let ps : List Piece = map piece_of_state states in
       range_to OpensInside a.state ((a.state + p.states) + states_in ps) (a.state + states_in (p ∷ ps)) (omega arith)
       (range_both OpensInside a.state (a.state + p.states) ((a.state + p.states) + states_in ps)
-      (each.0.opens (spot_of p.is_initial next a) (first_holds k p ps next a rows) around_it size)
+      (each.0.opens (position_of p.is_initial next a) (first_holds k p ps next a rows) around_it size)
       (inner_opens n states each.1 (past_states p.states a) (next_behind p next) (rest_holds k p ps next a each.0.sized once rows) once.1 around_it size))
 
   module _ (name : List ℕ) (initial final : Bool) (regions : List Region) (all : List Transition) (each : Each RegionMoves regions) (n : ℕ)

@@ -254,4 +254,4 @@ module _ (k core : Table) (i : Images) (entries : (x : ℕ) → IsState k x → 
   owns_still c next r owns steps =
       let made : StepMade k r c next = step_made k r c next steps in
       subst (OwnTests k) made.is
-      (λ q. all_moved k made.deed.moves c.regions (moves_owned r (standing_of c r) made.deed.moves (owns r) made.makes) owns q)
+      (λ q. all_moved k made.change.moves c.regions (moves_owned r (standing_of c r) made.change.moves (owns r) made.makes) owns q)

@@ -14,7 +14,7 @@ use Rattle.chart_machine.specs.declared.standing.Configuration.{Configuration}
 use Rattle.chart_machine.specs.declared.table.Table.{Table}
 use Rattle.chart_machine.specs.Table.{state_at}
 use Rattle.chart_machine.specs.Turns.{standing_of, guards as has_to_guard, inside, is_enabled}
-use Rattle.chart_machine.specs.Steps.{moved, acts, effected, deed_of, step, state_in, access_of}
+use Rattle.chart_machine.specs.Steps.{moved, acts, effected, change_of, step, state_in, access_of}
 use Rattle.chart_machine.specs.Machine.{machine}
 use Rattle.abort_expansion.specs.Transitions.{go, put}
 use Rattle.abort_expansion.specs.Superstates.{resets}
@@ -69,12 +69,12 @@ module _ (core : Table) (corr : Correspondence) (Told : Configuration → Entry 
       let on : is_enabled core d g ≡ true = rw (stands, unguarded core d none (around core g)) refl in
       let one : effected core g u (put x n) (puts xs) fork (value_is.Int (pos n)) ≡
       Some (record { write = Some (record { variable = x; value = value_is.Int (pos n) }); moves = acts core g u (puts xs) fork }) = rw (own.kind) refl in
-      let does : deed_of core d g (standing_of d g) ≡ Some (record {
+      let does : change_of core d g (standing_of d g) ≡ Some (record {
         write = Some (record { variable = x; value = value_is.Int (pos n) });
         moves =
             acts core g u (puts xs) fork;
       }) =
-      ap (deed_of core d g) stands ∙ (ap (option_and_then (effected core g u (put x n) (puts xs) fork)) (number_value n d.variables) ∙ one) in
+      ap (change_of core d g) stands ∙ (ap (option_and_then (effected core g u (put x n) (puts xs) fork)) (number_value n d.variables) ∙ one) in
       rw (on, does) refl
 
   -- a step of this thread in front

@@ -60,20 +60,22 @@ some_regions (p ∷ pieces) n x xs e = refl
 
 module _ (core : Table) (name : List ℕ) (begins : Bool) (regions : List Region) (all : List Transition) (some : is_superstate
     (map table_of_region regions) ≡ true)
-    (no_strong : strong_aborts all ≡ []) (no_weak : weak_aborts all ≡ []) (spot : TablePosition) where
+    (no_strong : strong_aborts all ≡ []) (no_weak : weak_aborts all ≡ []) (position : TablePosition) where
   abbrev layer : Piece
   layer = state_piece (record { name = name; is_initial = begins; is_final = false; regions = map table_of_region regions; transitions = all })
 
   abbrev opened : List Move
-  opened = (side_by_side (map table_of_region regions) (within spot)).entered
+  opened = (side_by_side (map table_of_region regions) (within position)).entered
 
-  pub super_row : Holds core spot (layer.parts spot) →
-      state_at core spot.state ≡ fork_row spot.holder spot.state (region_numbers (map table_of_region regions) spot.region) all
-      (state_at core spot.state).opened
+  pub super_row : Holds core position (layer.parts position) →
+      state_at core position.state ≡ fork_row position.holder position.state (region_numbers (map table_of_region regions) position.region) all
+      (state_at core position.state).opened
   super_row h =
-      let row : state_at core spot.state ≡ fork_row spot.holder spot.state (region_numbers (map table_of_region regions) spot.region) all opened =
+      let row : state_at core position.state ≡ fork_row position.holder position.state
+      (region_numbers (map table_of_region regions) position.region) all opened =
       h.states.0 ∙ entered in
-      subst (λ moves. state_at core spot.state ≡ fork_row spot.holder spot.state (region_numbers (map table_of_region regions) spot.region) all moves)
+      subst (λ moves. state_at core position.state ≡ fork_row position.holder position.state
+      (region_numbers (map table_of_region regions) position.region) all moves)
       (sym (ap (λ z. z.opened) h.states.0)) row
     where
       entered : Rattle.chart_machine.specs.Table.state_row (record {
@@ -82,10 +84,10 @@ module _ (core : Table) (name : List ℕ) (begins : Bool) (regions : List Region
         is_final = false;
         regions = map table_of_region regions;
         transitions = all;
-      }) spot opened ≡ fork_row spot.holder spot.state (region_numbers (map table_of_region regions) spot.region) all opened
+      }) position opened ≡ fork_row position.holder position.state (region_numbers (map table_of_region regions) position.region) all opened
       entered = rw (some, no_strong, no_weak) refl
 
-  pub super_inside : Holds core spot (layer.parts spot) → Holds core (within spot) (side_by_side (map table_of_region regions) (within spot))
+  pub super_inside : Holds core position (layer.parts position) → Holds core (within position) (side_by_side (map table_of_region regions) (within position))
   super_inside h = record { states = h.states.1; regions = h.regions }
 
 -- ---- the monitor

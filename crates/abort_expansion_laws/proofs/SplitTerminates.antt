@@ -15,7 +15,7 @@ use Rattle.chart_machine.specs.declared.standing.Configuration.{Configuration}
 use Rattle.chart_machine.specs.declared.table.Table.{Table}
 use Rattle.chart_machine.specs.Table.{state_at, region_at}
 use Rattle.chart_machine.specs.Turns.{standing_of, has_ended, has_work, guards as has_to_guard, is_guarded, inside}
-use Rattle.chart_machine.specs.Steps.{to, state_in, moved, acts, verdict, deed_of, access_of, access_of_trigger, step}
+use Rattle.chart_machine.specs.Steps.{to, state_in, moved, acts, verdict, change_of, access_of, access_of_trigger, step}
 use Rattle.chart_machine.specs.Machine.{machine}
 use Rattle.abort_expansion.specs.Flags.{has_join, weak_around}
 use Rattle.abort_expansion.specs.Transitions.{put, counting, place_of, led_by, answers}
@@ -331,7 +331,7 @@ module _ (k core : Table) (i : Images) (rows : CoreRows k core i) (layered : Lay
     Follows = left_for.Followed k core i rows tree counts written_at Told c d r s t last (Related k core i last)
 
     last_is : last ≡ record { variables = c.variables; regions = moved (acts k r s t.effects t.target) (moved (drops (inside k s)) c.regions) }
-    last_is = left_for.chart_takes k c r s t (to r (at.Within s rest) ∷ []) (ap (verdict c.variables) no_trigger) (ap (deed_of k c r) stands) last steps_to
+    last_is = left_for.chart_takes k c r s t (to r (at.Within s rest) ∷ []) (ap (verdict c.variables) no_trigger) (ap (change_of k c r) stands) last steps_to
 
     -- with effects
     pub split_terminates : (e : Effect) (es : List Effect) → t.effects ≡ e ∷ es → Follows

@@ -13,7 +13,7 @@ use Rattle.chart_machine.specs.declared.standing.Configuration.{Configuration}
 use Rattle.chart_machine.specs.declared.table.Table.{Table}
 use Rattle.chart_machine.specs.Table.{state_at, region_at}
 use Rattle.chart_machine.specs.Turns.{standing_of, has_ended, has_work, is_guarded, inside}
-use Rattle.chart_machine.specs.Steps.{to, state_in, moved, acts, verdict, deed_of, access_of, access_of_trigger, step}
+use Rattle.chart_machine.specs.Steps.{to, state_in, moved, acts, verdict, change_of, access_of, access_of_trigger, step}
 use Rattle.chart_machine.specs.Machine.{machine}
 use Rattle.abort_expansion.specs.Flags.{aborts_around}
 use Rattle.abort_expansion.specs.Transitions.{put, counting, place_of, led}
@@ -202,7 +202,7 @@ module _ (k core : Table) (i : Images) (rows : CoreRows k core i) (tree : IsNest
     Follows = left_for.Followed k core i rows tree counts written_at Told c d r s t last (Related k core i last)
 
     leads : last ≡ record { variables = c.variables; regions = moved (acts k r s t.effects t.target) (moved (drops (inside k s)) c.regions) }
-    leads = left_for.chart_takes k c r s t (to r (at.Within s rest) ∷ []) (ap (verdict c.variables) no_trigger) (ap (deed_of k c r) stands) last steps_to
+    leads = left_for.chart_takes k c r s t (to r (at.Within s rest) ∷ []) (ap (verdict c.variables) no_trigger) (ap (change_of k c r) stands) last steps_to
 
     -- with effects
     pub staying_terminates : (e : Effect) (es : List Effect) → t.effects ≡ e ∷ es → Follows

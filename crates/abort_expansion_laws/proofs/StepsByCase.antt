@@ -15,7 +15,7 @@ use Rattle.chart_machine.specs.declared.standing.Configuration.{Configuration}
 use Rattle.chart_machine.specs.declared.table.Table.{Table}
 use Rattle.chart_machine.specs.Table.{table}
 use Rattle.chart_machine.specs.Turns.{standing_of, has_work}
-use Rattle.chart_machine.specs.Steps.{to, verdict, tested, taken, step, deed_of, entering_on, guarding_on}
+use Rattle.chart_machine.specs.Steps.{to, verdict, tested, taken, step, change_of, entering_on, guarding_on}
 use Rattle.abort_expansion.specs.Expansion.{expanded}
 use Rattle.abort_expansion_laws.specs.Layered.{IsWeaklyLayered}
 use Rattle.abort_expansion_laws.specs.Preemption.{chart_machine, SeenAlike, HasImage}
@@ -58,15 +58,15 @@ module _ (c : Chart) (rules : IsChart features.Extended c) (core_rules : IsChart
     none_tested : (s : ℕ) (t : Transition) (otherwise : List Move) → verdict now.variables t.trigger ≡ None → tested k now r s t otherwise ≡ None
     none_tested s t otherwise e = ap (option_map (λ holds. record { write = None; moves = if holds then taken k r s t else otherwise })) e
 
-    undone : deed_of k now r (standing_of now r) ≡ None → Followed now d r next
-    undone none = let wrong : None ≡ Some parts.deed = sym none ∙ parts.does in absurd cc
+    undone : change_of k now r (standing_of now r) ≡ None → Followed now d r next
+    undone none = let wrong : None ≡ Some parts.change = sym none ∙ parts.does in absurd cc
 
     idle : has_work k now (standing_of now r) ≡ false → Followed now d r next
     idle none = let wrong : true ≡ false = sym parts.works ∙ none in absurd cc
 
     by_trying : (s : ℕ) (t : Transition) (tests : List Transition) → standing_of now r ≡ at.Trying s (t ∷ tests) → (o : Option Bool) →
         verdict now.variables t.trigger ≡ o → Followed now d r next
-    by_trying s t tests stands None e = undone (ap (deed_of k now r) stands ∙ none_tested s t (to r (at.Trying s tests) ∷ []) e)
+    by_trying s t tests stands None e = undone (ap (change_of k now r) stands ∙ none_tested s t (to r (at.Trying s tests) ∷ []) e)
     by_trying s t tests stands (Some false) e = one.failing c rules core_rules layered now d related owns r next goes s t tests stands e
     by_trying s t tests stands (Some true) e = by_effects t.effects refl
       where
@@ -76,14 +76,14 @@ module _ (c : Chart) (rules : IsChart features.Extended c) (core_rules : IsChart
 
     by_entering : (s : ℕ) (t : Transition) (tests : List Transition) → standing_of now r ≡ at.Entering s (t ∷ tests) → (o : Option Bool) →
         verdict now.variables t.trigger ≡ o → Followed now d r next
-    by_entering s t tests stands None e = undone (ap (deed_of k now r) stands ∙ none_tested s t (entering_on k r s tests) e)
+    by_entering s t tests stands None e = undone (ap (change_of k now r) stands ∙ none_tested s t (entering_on k r s tests) e)
     by_entering s t tests stands (Some true) e = one.aborted c rules core_rules layered now d related owns r next goes s t tests stands e
     by_entering s t [] stands (Some false) e = one.passed c rules core_rules layered now d related owns r next goes s t stands e
     by_entering s t (u ∷ tests) stands (Some false) e = one.entry_test c rules core_rules layered now d related owns r next goes s t u tests stands e
 
     by_guarding : (s : ℕ) (t : Transition) (tests : List Transition) → standing_of now r ≡ at.Guarding s (t ∷ tests) → (o : Option Bool) →
         verdict now.variables t.trigger ≡ o → Followed now d r next
-    by_guarding s t tests stands None e = undone (ap (deed_of k now r) stands ∙ none_tested s t (guarding_on k r s tests) e)
+    by_guarding s t tests stands None e = undone (ap (change_of k now r) stands ∙ none_tested s t (guarding_on k r s tests) e)
     by_guarding s t tests stands (Some true) e =
         strong_ready c rules core_rules layered now d related owns r next goes s t tests stands
         (λ z at_test monitor. leave.strong_taken c rules core_rules layered now z at_test owns r next goes s t tests stands monitor e)
@@ -96,7 +96,7 @@ module _ (c : Chart) (rules : IsChart features.Extended c) (core_rules : IsChart
 
     by_within : (s : ℕ) (t : Transition) (tests : List Transition) → standing_of now r ≡ at.Within s (t ∷ tests) → (o : Option Bool) →
         verdict now.variables t.trigger ≡ o → Contains (own k s) t × ((is_weak t.kind ≡ true) ⊎ (is_join t.kind ≡ true)) → Followed now d r next
-    by_within s t tests stands None e its = undone (ap (deed_of k now r) stands ∙ none_tested s t (to r (at.Within s tests) ∷ []) e)
+    by_within s t tests stands None e its = undone (ap (change_of k now r) stands ∙ none_tested s t (to r (at.Within s tests) ∷ []) e)
     by_within s t tests stands (Some true) e (own_one, inl is) =
         when_ready c rules core_rules layered now d related owns r next goes s t tests stands own_one is
         (λ z at_test monitor. leave.weak_taken c rules core_rules layered now z at_test owns r next goes s t tests stands e own_one is monitor)
@@ -114,14 +114,14 @@ module _ (c : Chart) (rules : IsChart features.Extended c) (core_rules : IsChart
     by_standing at.Ended is = idle (ap (has_work k now) is)
     by_standing (at.Trying s []) is = idle (ap (has_work k now) is)
     by_standing (at.Trying s (t ∷ tests)) is = by_trying s t tests is (verdict now.variables t.trigger) refl
-    by_standing (at.Entering s []) is = undone (ap (deed_of k now r) is)
+    by_standing (at.Entering s []) is = undone (ap (change_of k now r) is)
     by_standing (at.Entering s (t ∷ tests)) is = by_entering s t tests is (verdict now.variables t.trigger) refl
-    by_standing (at.Guarding s []) is = undone (ap (deed_of k now r) is)
+    by_standing (at.Guarding s []) is = undone (ap (change_of k now r) is)
     by_standing (at.Guarding s (t ∷ tests)) is = by_guarding s t tests is (verdict now.variables t.trigger) refl
     by_standing (at.Within s []) is = idle (ap (has_work k now) is)
     by_standing (at.Within s (t ∷ tests)) is =
         by_within s t tests is (verdict now.variables t.trigger) refl (subst (IsOwn k) is (owns r)).0
-    by_standing (at.Acting s [] p) is = undone (ap (deed_of k now r) is)
+    by_standing (at.Acting s [] p) is = undone (ap (change_of k now r) is)
     by_standing (at.Acting s (e ∷ f ∷ es) p) is = one.effect c rules core_rules layered now d related owns r next goes s p e f es is
     by_standing (at.Acting s (e ∷ []) p) is = one.last_made c rules core_rules layered now d related owns r next goes s p e is
 

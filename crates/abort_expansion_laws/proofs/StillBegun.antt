@@ -13,7 +13,7 @@ use Rattle.core_charts.specs.Chart.{Chart}
 use Rattle.core_charts.specs.Rules.{IsChart}
 use Rattle.core_charts.specs.declared.region.Effect.{Effect}
 use Rattle.core_charts.specs.declared.region.Transition.{Transition}
-use Rattle.chart_machine.specs.declared.deed.Deed.{Deed}
+use Rattle.chart_machine.specs.declared.region_change.RegionChange.{RegionChange}
 use Rattle.chart_machine.specs.declared.standing.Standing.{Standing}
 use Rattle.chart_machine.specs.declared.standing.Standing.TheVariants as at
 use Rattle.chart_machine.specs.declared.standing.Move.{Move}
@@ -21,7 +21,7 @@ use Rattle.chart_machine.specs.declared.standing.Configuration.{Configuration}
 use Rattle.chart_machine.specs.declared.table.Table.{Table}
 use Rattle.chart_machine.specs.Table.{table, state_at}
 use Rattle.chart_machine.specs.Turns.{standing_of, inside, is_enabled}
-use Rattle.chart_machine.specs.Steps.{to, moved, after, verdict, state_in, dropped, acts, taken, entering_on, guarding_on, effected, deed_of, step}
+use Rattle.chart_machine.specs.Steps.{to, moved, after, verdict, state_in, dropped, acts, taken, entering_on, guarding_on, effected, change_of, step}
 use Rattle.chart_machine_laws.specs.Tree.{IsThere, around}
 use Rattle.chart_machine_laws.proofs.LyingIn.{none_in, head_in, tail_in}
 use Rattle.abort_expansion_laws.proofs.InsideAround.{inside_around}
@@ -91,52 +91,53 @@ module _ (k : Table) (enters : (s : ℕ) → Enters (state_at k s)) (q : ℕ) (r
   guarding_spare r s [] = ((λ same out. absurd cc), tt)
   guarding_spare r s (t ∷ tests) = ((λ same out. absurd cc), tt)
 
-  by_verdict : (ins outs : List Move) (d : Deed) (v : Option Bool) →
+  by_verdict : (ins outs : List Move) (d : RegionChange) (v : Option Bool) →
       option_map (λ holds. record { write = None; moves = if holds then ins else outs }) v ≡ Some d → AllSpare ins → AllSpare outs → AllSpare d.moves
   by_verdict ins outs d None e ones others = absurd cc
-  by_verdict ins outs d (Some true) e ones others = subst (λ (z : Deed). AllSpare z.moves) (same_Some (record { write = None; moves = ins }) d e) ones
-  by_verdict ins outs d (Some false) e ones others = subst (λ (z : Deed). AllSpare z.moves) (same_Some (record { write = None; moves = outs }) d e) others
+  by_verdict ins outs d (Some true) e ones others = subst (λ (z : RegionChange). AllSpare z.moves) (same_Some (record { write = None; moves = ins }) d e) ones
+  by_verdict ins outs d (Some false) e ones others = subst (λ (z : RegionChange). AllSpare z.moves)
+      (same_Some (record { write = None; moves = outs }) d e) others
 
-  by_kind : (b : Bool) (given d : Deed) → only_if b (Some given) ≡ Some d → AllSpare given.moves → AllSpare d.moves
-  by_kind true given d e spares = subst (λ (z : Deed). AllSpare z.moves) (same_Some given d e) spares
+  by_kind : (b : Bool) (given d : RegionChange) → only_if b (Some given) ≡ Some d → AllSpare given.moves → AllSpare d.moves
+  by_kind true given d e spares = subst (λ (z : RegionChange). AllSpare z.moves) (same_Some given d e) spares
   by_kind false given d e spares = absurd cc
 
-  by_value : (r s target : ℕ) (f : Effect) (effects : List Effect) (d : Deed) (v : Option Value) →
+  by_value : (r s target : ℕ) (f : Effect) (effects : List Effect) (d : RegionChange) (v : Option Value) →
       option_and_then (effected k r s f effects target) v ≡ Some d → AllSpare d.moves
   by_value r s target f effects d None e = absurd cc
   by_value r s target f effects d (Some v) e =
       by_kind (takes_kind (option_map (λ x. x.kind) (slice_get k.variables f.variable)) (kind_of v))
       (record { write = Some (record { variable = f.variable; value = v }); moves = acts k r s effects target }) d e (acts_spare r s effects target)
 
-  deed_spares : (c : Configuration) (r : ℕ) (x : Standing) (d : Deed) → deed_of k c r x ≡ Some d → AllSpare d.moves
-  deed_spares c r at.Outside d e = absurd cc
-  deed_spares c r at.Ended d e = absurd cc
-  deed_spares c r (at.Trying s []) d e = absurd cc
-  deed_spares c r (at.Trying s (t ∷ tests)) d e =
+  change_spares : (c : Configuration) (r : ℕ) (x : Standing) (d : RegionChange) → change_of k c r x ≡ Some d → AllSpare d.moves
+  change_spares c r at.Outside d e = absurd cc
+  change_spares c r at.Ended d e = absurd cc
+  change_spares c r (at.Trying s []) d e = absurd cc
+  change_spares c r (at.Trying s (t ∷ tests)) d e =
       by_verdict (taken k r s t) (to r (at.Trying s tests) ∷ []) d (verdict c.variables t.trigger) e (taken_spare r s t) ((λ same out. absurd cc), tt)
-  deed_spares c r (at.Entering s []) d e = absurd cc
-  deed_spares c r (at.Entering s (t ∷ tests)) d e =
+  change_spares c r (at.Entering s []) d e = absurd cc
+  change_spares c r (at.Entering s (t ∷ tests)) d e =
       by_verdict (taken k r s t) (entering_on k r s tests) d (verdict c.variables t.trigger) e (taken_spare r s t) (entering_spare r s tests)
-  deed_spares c r (at.Guarding s []) d e = absurd cc
-  deed_spares c r (at.Guarding s (t ∷ tests)) d e =
+  change_spares c r (at.Guarding s []) d e = absurd cc
+  change_spares c r (at.Guarding s (t ∷ tests)) d e =
       by_verdict (taken k r s t) (guarding_on k r s tests) d (verdict c.variables t.trigger) e (taken_spare r s t) (guarding_spare r s tests)
-  deed_spares c r (at.Within s []) d e = absurd cc
-  deed_spares c r (at.Within s (t ∷ tests)) d e =
+  change_spares c r (at.Within s []) d e = absurd cc
+  change_spares c r (at.Within s (t ∷ tests)) d e =
       by_verdict (taken k r s t) (to r (at.Within s tests) ∷ []) d (verdict c.variables t.trigger) e (taken_spare r s t) ((λ same out. absurd cc), tt)
-  deed_spares c r (at.Acting s [] target) d e = absurd cc
-  deed_spares c r (at.Acting s (f ∷ effects) target) d e = by_value r s target f effects d (value_of f.value c.variables) e
+  change_spares c r (at.Acting s [] target) d e = absurd cc
+  change_spares c r (at.Acting s (f ∷ effects) target) d e = by_value r s target f effects d (value_of f.value c.variables) e
 
   -- ---- a step
 
   pub still_begun : (c next : Configuration) (r : ℕ) → step k r c ≡ Some next → standing_of c q ≢ at.Outside → standing_of next q ≢ at.Outside
-  still_begun c next r steps before = by_enabled (is_enabled k c r) (deed_of k c r (standing_of c r)) refl steps
+  still_begun c next r steps before = by_enabled (is_enabled k c r) (change_of k c r (standing_of c r)) refl steps
     where
-      by_enabled : (b : Bool) (o : Option Deed) → deed_of k c r (standing_of c r) ≡ o → only_if b (option_map (λ d. after d c) o) ≡ Some next →
+      by_enabled : (b : Bool) (o : Option RegionChange) → change_of k c r (standing_of c r) ≡ o → only_if b (option_map (λ d. after d c) o) ≡ Some next →
           standing_of next q ≢ at.Outside
       by_enabled true None is e = absurd cc
       by_enabled true (Some d) is e =
           subst (λ z. standing_of z q ≢ at.Outside) (same_Some (after d c) next e)
-          (all_moved d.moves c.regions (deed_spares c r (standing_of c r) d is) before)
+          (all_moved d.moves c.regions (change_spares c r (standing_of c r) d is) before)
       by_enabled false o is e = absurd cc
 
 -- a region that lies in no superstate is entered

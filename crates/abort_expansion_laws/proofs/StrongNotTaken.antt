@@ -13,7 +13,7 @@ use Rattle.chart_machine.specs.declared.standing.Standing.TheVariants as at
 use Rattle.chart_machine.specs.declared.standing.Configuration.{Configuration}
 use Rattle.chart_machine.specs.declared.table.Table.{Table}
 use Rattle.chart_machine.specs.Turns.{standing_of, has_work, is_guarded}
-use Rattle.chart_machine.specs.Steps.{to, after, verdict, deed_of, step, access_of, access_of_trigger, state_in}
+use Rattle.chart_machine.specs.Steps.{to, after, verdict, change_of, step, access_of, access_of_trigger, state_in}
 use Rattle.chart_machine.specs.Machine.{machine}
 use Rattle.abort_expansion.specs.Transitions.{raising}
 use Rattle.abort_expansion_laws.specs.Stages.{Entry, Watched}
@@ -205,9 +205,10 @@ module _ (k core : Table) (i : Images) (rows : CoreRows k core i) (tree : IsNest
       (act_of (machine k) c r ∷ []) (Related k core i next)
   not_taken_followed Told told next steps false_there =
       let parts : Stepped k r c next = stepped k r c next steps in
-      let deed : record { write = None; moves = to r (at.Guarding o (u ∷ tests)) ∷ [] } ≡ parts.deed =
-      same_Some _ parts.deed (sym (ap (deed_of k c r) stands ∙ tested_is k c r o t (to r (at.Guarding o (u ∷ tests)) ∷ []) false false_there) ∙ parts.does) in
-      let is : record { variables = c.variables; regions = slice_set c.regions r (at.Guarding o (u ∷ tests)) } ≡ next = ap (λ e. after e c) deed ∙ parts.is in
+      let change : record { write = None; moves = to r (at.Guarding o (u ∷ tests)) ∷ [] } ≡ parts.change =
+      same_Some _ parts.change (sym (ap (change_of k c r) stands ∙ tested_is k c r o t (to r (at.Guarding o (u ∷ tests)) ∷ []) false false_there) ∙
+      parts.does) in
+      let is : record { variables = c.variables; regions = slice_set c.regions r (at.Guarding o (u ∷ tests)) } ≡ next = ap (λ e. after e c) change ∙ parts.is in
       subst (λ c'. Segment (machine core) (pair k core i rows tree counts written_at) Told d (Stage k i.thread_of c d) (Stage k i.thread_of c')
       (act_of (machine k) c r ∷ []) (Related k core i c')) is
       (watched_segment k core i rows tree counts written_at c d related r o 0 (at.Guarding o (u ∷ tests))

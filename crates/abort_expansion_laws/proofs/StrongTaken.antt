@@ -16,7 +16,7 @@ use Rattle.chart_machine.specs.declared.standing.Configuration.{Configuration}
 use Rattle.chart_machine.specs.declared.table.Table.{Table}
 use Rattle.chart_machine.specs.Table.{state_at, region_at}
 use Rattle.chart_machine.specs.Turns.{standing_of, has_work, guards, is_guarded, inside}
-use Rattle.chart_machine.specs.Steps.{state_in, deed_of, guarding_on, verdict, access_of, access_of_trigger, step}
+use Rattle.chart_machine.specs.Steps.{state_in, change_of, guarding_on, verdict, access_of, access_of_trigger, step}
 use Rattle.chart_machine.specs.Machine.{machine}
 use Rattle.abort_expansion.specs.Transitions.{is_raised, raising, answers, strong_checks}
 use Rattle.abort_expansion.specs.Superstates.{closing}
@@ -199,7 +199,7 @@ module _ (k core : Table) (i : Images) (rows : CoreRows k core i) (more : Layere
     strong_followed last steps =
         with_effects k core i rows more tree core_tree deep core_children children counts written_at Told told c d related r o 0 x t
         (strong_next super flags_differ free) told_test target_there last
-        (chart_takes k c r o t (guarding_on k r o others) true_there (ap (deed_of k c r) stands) last steps) e es has_effects
+        (chart_takes k c r o t (guarding_on k r o others) true_there (ap (change_of k c r) stands) last steps) e es has_effects
 
   -- without effects, from the law of entering
   module _ (no_effects : t.effects ≡ []) (target_there : t.target < length (region_at k r).states) (super : IsSuper k o)
@@ -213,5 +213,6 @@ module _ (k core : Table) (i : Images) (rows : CoreRows k core i) (more : Layere
     strong_entered last steps =
         without_effects k core i rows more tree core_tree deep core_children children counts written_at Told told c d related r o 0 x t
         (strong_next super flags_differ free) told_test target_there last
-        (chart_takes k c r o t (guarding_on k r o others) true_there (ap (deed_of k c r) stands) last steps) enters counters super_there chart_first core_first
+        (chart_takes k c r o t (guarding_on k r o others) true_there
+        (ap (change_of k c r) stands) last steps) enters counters super_there chart_first core_first
         no_effects

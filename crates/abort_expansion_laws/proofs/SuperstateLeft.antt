@@ -14,7 +14,7 @@ use Rattle.chart_machine.specs.declared.standing.Configuration.{Configuration}
 use Rattle.chart_machine.specs.declared.table.Table.{Table}
 use Rattle.chart_machine.specs.Table.{state_at, region_at}
 use Rattle.chart_machine.specs.Turns.{standing_of, is_guarded, inside}
-use Rattle.chart_machine.specs.Steps.{state_in, moved, acts, taken, tested, after, deed_of, verdict, step}
+use Rattle.chart_machine.specs.Steps.{state_in, moved, acts, taken, tested, after, change_of, verdict, step}
 use Rattle.chart_machine.specs.Machine.{machine}
 use Rattle.abort_expansion.specs.Transitions.{put, counting, place_of}
 use Rattle.abort_expansion_laws.specs.Stages.{Entry, Silent}
@@ -34,12 +34,12 @@ use Rattle.abort_expansion_laws.proofs.Arriving.{arrives}
 
 -- where the chart's step leads by which a transition out of a superstate is taken
 pub chart_takes : (k : Table) (c : Configuration) (r o : ℕ) (t : Transition) (otherwise : List Move) → verdict c.variables t.trigger ≡ Some true →
-    deed_of k c r (standing_of c r) ≡ tested k c r o t otherwise → (last : Configuration) → step k r c ≡ Some last →
+    change_of k c r (standing_of c r) ≡ tested k c r o t otherwise → (last : Configuration) → step k r c ≡ Some last →
     last ≡ record { variables = c.variables; regions = moved (acts k r o t.effects t.target) (moved (drops (inside k o)) c.regions) }
-chart_takes k c r o t otherwise true_there deed last steps =
+chart_takes k c r o t otherwise true_there change last steps =
     let parts : Stepped k r c last = stepped k r c last steps in
-    let same : record { write = None; moves = taken k r o t } ≡ parts.deed =
-    same_Some _ parts.deed (sym (deed ∙ tested_is k c r o t otherwise true true_there) ∙ parts.does) in
+    let same : record { write = None; moves = taken k r o t } ≡ parts.change =
+    same_Some _ parts.change (sym (change ∙ tested_is k c r o t otherwise true true_there) ∙ parts.does) in
     sym (ap (λ zs. record { variables = c.variables; regions = zs }) (sym (moved_append (drops (inside k o)) (acts k r o t.effects t.target) c.regions))
     ∙ (ap (λ w. after w c) same ∙ parts.is))
 

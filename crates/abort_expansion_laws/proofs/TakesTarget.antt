@@ -13,7 +13,7 @@ use Rattle.chart_machine.specs.declared.standing.Configuration.{Configuration}
 use Rattle.chart_machine.specs.declared.table.Table.{Table}
 use Rattle.chart_machine.specs.Table.{state_at, region_at}
 use Rattle.chart_machine.specs.Turns.{standing_of, is_guarded, is_enabled, inside}
-use Rattle.chart_machine.specs.Steps.{to, state_in, verdict, taken, deed_of, step}
+use Rattle.chart_machine.specs.Steps.{to, state_in, verdict, taken, change_of, step}
 use Rattle.chart_machine.specs.Machine.{machine}
 use Rattle.abort_expansion.specs.Transitions.{count_down, counting, place_of}
 use Rattle.chart_machine_laws.proofs.LyingIn.{IsNested, around, head_in}
@@ -188,12 +188,12 @@ module _ (k core : Table) (i : Images) (rows : CoreRows k core i) (tree : IsNest
     pub test_enters : counting (i.places_of q) p [] ≡ [] → step core (i.thread_of q) d ≡ Some (core_enters k core i d d.variables q p)
     test_enters none =
         let on_turn : is_enabled core d (i.thread_of q) ≡ true = rw (core_stands, unguarded_here) refl in
-        let deed : deed_of core d (i.thread_of q) (standing_of d (i.thread_of q)) ≡
+        let change : change_of core d (i.thread_of q) (standing_of d (i.thread_of q)) ≡
         Some (record { write = None; moves = (state_at core (i.entry_of (state_in k q p))).entered }) =
-        ap (deed_of core d (i.thread_of q)) core_stands
+        ap (change_of core d (i.thread_of q)) core_stands
         ∙ (tested_is core d (i.thread_of q) v w (to (i.thread_of q) (at.Trying v rest) ∷ []) true holds ∙
         ap (λ ms. Some (record { write = None; moves = ms })) (core_moves none)) in
-        rw (on_turn, deed) refl
+        rw (on_turn, change) refl
 
     pub test_counts : (x : ℕ) → counting (i.places_of q) p [] ≡ count_down x ∷ [] → step core (i.thread_of q) d ≡ Some (record {
       variables = d.variables;

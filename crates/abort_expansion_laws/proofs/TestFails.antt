@@ -10,7 +10,7 @@ use Rattle.chart_machine.specs.declared.standing.Move.{Move}
 use Rattle.chart_machine.specs.declared.standing.Configuration.{Configuration}
 use Rattle.chart_machine.specs.declared.table.Table.{Table}
 use Rattle.chart_machine.specs.Turns.{standing_of, has_work, is_guarded, is_enabled}
-use Rattle.chart_machine.specs.Steps.{to, after, verdict, tested, taken, deed_of, step, access_of, access_of_trigger}
+use Rattle.chart_machine.specs.Steps.{to, after, verdict, tested, taken, change_of, step, access_of, access_of_trigger}
 use Rattle.chart_machine.specs.Machine.{machine}
 use Rattle.abort_expansion.specs.Transitions.{led}
 use Rattle.abort_expansion_laws.specs.Stages.{Entry, Image}
@@ -40,8 +40,8 @@ module _ (k : Table) where
       verdict d.variables w.trigger ≡ Some false → step k g d ≡ Some (record { variables = d.variables; regions = slice_set d.regions g (at.Trying v rest) })
   fails d g v w rest free stands false_there =
       let on : is_enabled k d g ≡ true = rw (stands, free) refl in
-      let does : deed_of k d g (standing_of d g) ≡ Some (record { write = None; moves = to g (at.Trying v rest) ∷ [] }) =
-      ap (deed_of k d g) stands ∙ tested_is d g v w (to g (at.Trying v rest) ∷ []) false false_there in
+      let does : change_of k d g (standing_of d g) ≡ Some (record { write = None; moves = to g (at.Trying v rest) ∷ [] }) =
+      ap (change_of k d g) stands ∙ tested_is d g v w (to g (at.Trying v rest) ∷ []) false false_there in
       rw (on, does) refl
 
 -- ---- where a thread stands, taken apart
@@ -162,9 +162,9 @@ module _ (k core : Table) (i : Images) (rows : CoreRows k core i) (tree : IsNest
       (act_of (machine k) c q ∷ []) (Related k core i next)
   failing_followed Told told next steps false_there =
       let parts : Stepped k q c next = stepped k q c next steps in
-      let deed : record { write = None; moves = to q (at.Trying s tests) ∷ [] } ≡ parts.deed =
-      same_Some _ parts.deed (sym (ap (deed_of k c q) stands ∙ tested_is k c q s t (to q (at.Trying s tests) ∷ []) false false_there) ∙ parts.does) in
-      let is : record { variables = c.variables; regions = slice_set c.regions q (at.Trying s tests) } ≡ next = ap (λ e. after e c) deed ∙ parts.is in
+      let change : record { write = None; moves = to q (at.Trying s tests) ∷ [] } ≡ parts.change =
+      same_Some _ parts.change (sym (ap (change_of k c q) stands ∙ tested_is k c q s t (to q (at.Trying s tests) ∷ []) false false_there) ∙ parts.does) in
+      let is : record { variables = c.variables; regions = slice_set c.regions q (at.Trying s tests) } ≡ next = ap (λ e. after e c) change ∙ parts.is in
       subst (λ c'. Segment (machine core) (pair k core i rows tree counts written_at) Told d (Stage k i.thread_of c d) (Stage k i.thread_of c')
       (act_of (machine k) c q ∷ []) (Related k core i c')) is
       (image_segment k core i rows tree counts written_at c d related q (at.Trying s tests) (at.Trying (i.main_of s) (tests_of k core i c q tests))

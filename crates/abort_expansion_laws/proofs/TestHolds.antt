@@ -11,7 +11,7 @@ use Rattle.chart_machine.specs.declared.standing.Configuration.{Configuration}
 use Rattle.chart_machine.specs.declared.table.Table.{Table}
 use Rattle.chart_machine.specs.Table.{region_at}
 use Rattle.chart_machine.specs.Turns.{standing_of, has_work, is_guarded}
-use Rattle.chart_machine.specs.Steps.{to, after, verdict, taken, deed_of, step, access_of, access_of_trigger}
+use Rattle.chart_machine.specs.Steps.{to, after, verdict, taken, change_of, step, access_of, access_of_trigger}
 use Rattle.chart_machine.specs.Machine.{machine}
 use Rattle.abort_expansion.specs.Transitions.{led}
 use Rattle.abort_expansion_laws.specs.Stages.{Entry, Image}
@@ -125,10 +125,10 @@ module _ (k core : Table) (i : Images) (rows : CoreRows k core i) (tree : IsNest
   holding_followed Told told next steps true_there =
       let parts : Stepped k q c next = stepped k q c next steps in
       let moves : taken k q s t ≡ to q (at.Acting s (e ∷ es) t.target) ∷ [] = rw (alone, has_effects) refl in
-      let deed : record { write = None; moves = to q (at.Acting s (e ∷ es) t.target) ∷ [] } ≡ parts.deed =
-      same_Some _ parts.deed (sym (ap (deed_of k c q) stands ∙ (tested_is k c q s t (to q (at.Trying s tests) ∷ []) true true_there ∙
+      let change : record { write = None; moves = to q (at.Acting s (e ∷ es) t.target) ∷ [] } ≡ parts.change =
+      same_Some _ parts.change (sym (ap (change_of k c q) stands ∙ (tested_is k c q s t (to q (at.Trying s tests) ∷ []) true true_there ∙
       ap (λ ms. Some (record { write = None; moves = ms })) moves)) ∙ parts.does) in
-      let is : record { variables = c.variables; regions = slice_set c.regions q (at.Acting s (e ∷ es) t.target) } ≡ next = ap (λ w. after w c) deed ∙
+      let is : record { variables = c.variables; regions = slice_set c.regions q (at.Acting s (e ∷ es) t.target) } ≡ next = ap (λ w. after w c) change ∙
       parts.is in
       subst (λ c'. Segment (machine core) (pair k core i rows tree counts written_at) Told d (Stage k i.thread_of c d) (Stage k i.thread_of c')
       (act_of (machine k) c q ∷ []) (Related k core i c')) is

@@ -25,7 +25,7 @@ use Rattle.chart_machine_laws.proofs.RowsOfPieces.{Holds, IsSized, AllSized, sta
 use Rattle.chart_machine_laws.proofs.TableTrees.{OnceInitial}
 use Rattle.chart_machine_laws.proofs.ChartTables.{holds_whole, within_or_past}
 use Rattle.abort_expansion_laws.specs.CoreRows.{own}
-use Rattle.abort_expansion_laws.proofs.InRegionRows.{InRegionAt, first_holds, rest_holds, spot_of}
+use Rattle.abort_expansion_laws.proofs.InRegionRows.{InRegionAt, first_holds, rest_holds, position_of}
 use Rattle.abort_expansion_laws.proofs.SideRows.{side_head, side_tail}
 use Rattle.abort_expansion_laws.proofs.Walked.{Range, range_none, range_both, range_to, range_more}
 use Rattle.abort_expansion_laws.proofs.RowsOfForks.{region_rows}
@@ -84,7 +84,7 @@ module _ (k : Table) where
       let ps : List Piece = map piece_of_state states in
       range_to TargetsThere a.state ((a.state + p.states) + states_in ps) (a.state + states_in (p ∷ ps)) (omega arith)
       (range_both TargetsThere a.state (a.state + p.states) ((a.state + p.states) + states_in ps)
-      (each.0.leads (spot_of p.is_initial next a) (first_holds k p ps next a rows) many)
+      (each.0.leads (position_of p.is_initial next a) (first_holds k p ps next a rows) many)
       (inner_leads count states each.1 (past_states p.states a) (next_behind p next) (rest_holds k p ps next a each.0.sized once rows) once.1 many))
 
   module _ (name : List ℕ) (initial final : Bool) (regions : List Region) (all : List Transition) (each : Each RegionLeads regions)

@@ -24,7 +24,7 @@ use Rattle.chart_machine.specs.declared.standing.Configuration.{Configuration}
 use Rattle.chart_machine.specs.declared.table.Table.{Table}
 use Rattle.chart_machine.specs.Table.{table}
 use Rattle.chart_machine.specs.Turns.{standing_of, is_enabled}
-use Rattle.chart_machine.specs.Steps.{step, after, deed_of}
+use Rattle.chart_machine.specs.Steps.{step, after, change_of}
 use Rattle.chart_machine.specs.Machine.{machine, start, woken, guarded_first}
 use Rattle.scl.specs.declared.program.Scl.{Scl}
 use Rattle.scl.specs.Numbering.{numbered}
@@ -154,7 +154,7 @@ module _ (c : Chart) (rules : IsChart features.Extended c) (core_rules : IsChart
       record {
         enabled =
             (only_if_some (is_enabled core d (i.thread_of u))
-            (option_map (λ e. after e d) (deed_of core d (i.thread_of u) (standing_of d (i.thread_of u)))) next goes).0;
+            (option_map (λ e. after e d) (change_of core d (i.thread_of u) (standing_of d (i.thread_of u)))) next goes).0;
         enclosed = fork_around k core i rows d u told;
       }
 

@@ -33,7 +33,7 @@ use Rattle.chart_machine_laws.proofs.TableTrees.{NoneInitial, OnceInitial}
 use Rattle.scl_graph_laws.proofs.Segments.{stand_from, stand_first, stand_second}
 use Rattle.abort_expansion_laws.specs.CoreRows.{own, IsState, is_final, ends, IsSuper, joins, simple_row, fork_row, watchers}
 use Rattle.abort_expansion_laws.proofs.SimpleRows.{rolled_piece}
-use Rattle.abort_expansion_laws.proofs.InRegionRows.{InRegionAt, first_holds, rest_holds, spot_of}
+use Rattle.abort_expansion_laws.proofs.InRegionRows.{InRegionAt, first_holds, rest_holds, position_of}
 use Rattle.abort_expansion_laws.proofs.SideRows.{past_side, side_first, side_second, side_entered, states_append, sized_append, numbers_append}
 use Rattle.abort_expansion_laws.proofs.Walked.{World, StateImage, ValuesAt, values_from, values_first, values_second, images_of, i, RegionFits, StateFits}
 use Rattle.abort_expansion_laws.proofs.Walked.{CoreStateFits, Origin, thread, watcher, OwnerFits, InRegion, Range, range_none, range_one, range_both, range_to}
@@ -65,16 +65,16 @@ module _ (name : List ℕ) (initial : Bool) (r : Region) (others : List Region) 
   abbrev pub inside : Regions
   inside = expanded_regions (map piece_of_region regions) (flags ++ f ∷ []) f.counter inside_at
 
-  abbrev pub spot : TablePosition
-  spot = spot_of begins next b
+  abbrev pub position : TablePosition
+  position = position_of begins next b
 
   abbrev pub chart_piece : Piece
   chart_piece = state_piece (record { name = name; is_initial = initial; is_final = false; regions = map table_of_region regions; transitions = all })
 
   pub inner : RegionsWalk (side_by_side (map table_of_region regions) (table_within a)) (states_in (map table_of_region regions))
       (region_numbers (map table_of_region regions) a.region) inside (variables_in (weak_around (flags ++ f ∷ [])) (map piece_of_region regions))
-      (flags ++ f ∷ []) f.counter inside_at (table_within a) (table_within spot)
-  inner = walk_side regions walks (flags ++ f ∷ []) f.counter inside_at (table_within a) (table_within spot)
+      (flags ++ f ∷ []) f.counter inside_at (table_within a) (table_within position)
+  inner = walk_side regions walks (flags ++ f ∷ []) f.counter inside_at (table_within a) (table_within position)
 
   abbrev pub ps : List Piece
   ps = map table_of_region inside.regions
@@ -114,7 +114,7 @@ module _ (name : List ℕ) (initial : Bool) (r : Region) (others : List Region) 
 
   -- the monitor and its states
   abbrev pub g : ℕ
-  g = spot.region + regions_in ps
+  g = position.region + regions_in ps
 
   abbrev pub v : ℕ
   v = suc b.state + states_in ps
@@ -151,7 +151,7 @@ module _ (name : List ℕ) (initial : Bool) (r : Region) (others : List Region) 
   after_begins = one_begins (continuation_name numbers.superstate) false false (continuing flags places f all)
 
   abbrev pub watcher_number : ℕ
-  watcher_number = if has_aborts all then g else spot.region
+  watcher_number = if has_aborts all then g else position.region
 
   abbrev pub image : StateImage
   image = record {
@@ -273,27 +273,27 @@ module _ (name : List ℕ) (initial : Bool) (r : Region) (others : List Region) 
 
     -- ---- the rows of what is inside
 
-    fork_rows : Holds w.core spot (fork_layer.parts spot)
+    fork_rows : Holds w.core position (fork_layer.parts position)
     fork_rows = first_holds w.core fork_layer (table_of_state after ∷ more) next b
         (subst (λ p. InRegionAt w.core (p ∷ table_of_state after ∷ more) next b) fork_piece stands.core)
 
-    inside_rows : Holds w.core (table_within spot) (side_by_side (ps ++ ms) (table_within spot))
-    inside_rows = subst (λ zs. Holds w.core (table_within spot) (side_by_side zs (table_within spot))) regions_are
+    inside_rows : Holds w.core (table_within position) (side_by_side (ps ++ ms) (table_within position))
+    inside_rows = subst (λ zs. Holds w.core (table_within position) (side_by_side zs (table_within position))) regions_are
         (record { states = fork_rows.states.1; regions = fork_rows.regions })
 
     abbrev monitor_at : TablePosition
-    monitor_at = past_side ps (table_within spot)
+    monitor_at = past_side ps (table_within position)
 
     own_mapped : ValuesAt w.m (suc b.state) (inside.stands_for ++ no_entries (has_aborts all))
     own_mapped = (values_first w.m b.state (Some numbers.state ∷ (inside.stands_for ++ no_entries (has_aborts all))) (Some numbers.state ∷ [])
         stands.entries.mapped).1
 
     inner_stands : RegionsStand w (side_by_side (map table_of_region regions) (table_within a)) inside (flags ++ f ∷ []) f.counter inside_at (table_within a)
-        (table_within spot) inner.part
+        (table_within position) inner.part
     inner_stands =
         record {
           chart_rows = record { states = stands.chart.states.1; regions = stands.chart.regions };
-          core = side_first w.core ps ms (table_within spot) inner.core_sized inside_rows;
+          core = side_first w.core ps ms (table_within position) inner.core_sized inside_rows;
           declared =
               stand_from w.core.variables (numbers.variable + length (declarations numbers.superstate f)) inside_at.variable inside.variables
               (omega (arith, declarations_long weak all numbers.variable numbers.superstate))
@@ -318,29 +318,29 @@ module _ (name : List ℕ) (initial : Bool) (r : Region) (others : List Region) 
           counter_is = ap (λ z. z.flags.counter) (sym img);
         }
 
-    threads : map (i w).thread_of (region_numbers (map table_of_region regions) a.region) ≡ region_numbers ps spot.region
+    threads : map (i w).thread_of (region_numbers (map table_of_region regions) a.region) ≡ region_numbers ps position.region
     threads = inner.threads w inner_stands
 
     watchers_are : watchers w.k w.core (images_of w) a.state ≡ region_numbers ms g
-    watchers_are = rw (loc.own_is, img) (sym (watched_numbers (has_aborts all) (monitor numbers.superstate flags f all) g spot.region))
+    watchers_are = rw (loc.own_is, img) (sym (watched_numbers (has_aborts all) (monitor numbers.superstate flags f all) g position.region))
 
     all_numbers : map (i w).thread_of (state_at w.k a.state).regions ++ watchers w.k w.core (images_of w) a.state ≡
-        region_numbers (map table_of_region core_regions) spot.region
+        region_numbers (map table_of_region core_regions) position.region
     all_numbers =
         ap (λ zs. map (i w).thread_of zs ++ watchers w.k w.core (images_of w) a.state) regions_row ∙
         (ap (λ zs. zs ++ watchers w.k w.core (images_of w) a.state) threads ∙
-        (ap (λ zs. region_numbers ps spot.region ++ zs) watchers_are ∙
-        (sym (numbers_append ps ms spot.region) ∙ ap (λ zs. region_numbers zs spot.region) (sym regions_are))))
+        (ap (λ zs. region_numbers ps position.region ++ zs) watchers_are ∙
+        (sym (numbers_append ps ms position.region) ∙ ap (λ zs. region_numbers zs position.region) (sym regions_are))))
 
     some : Rattle.chart_machine.specs.Table.is_superstate (map table_of_region core_regions) ≡ true
-    some = some_regions (map table_of_region core_regions) spot.region ((i w).thread_of a.region) _
+    some = some_regions (map table_of_region core_regions) position.region ((i w).thread_of a.region) _
         (sym all_numbers ∙ ap (λ zs. map (i w).thread_of zs ++ watchers w.k w.core (images_of w) a.state) regions_row)
 
     fork_row_is : state_at w.core b.state ≡ fork_row b.holder b.state
         (map (i w).thread_of (state_at w.k a.state).regions ++ watchers w.k w.core (images_of w) a.state) (joins (suc place) ∷ [])
         (state_at w.core b.state).opened
     fork_row_is = subst (λ zs. state_at w.core b.state ≡ fork_row b.holder b.state zs (joins (suc place) ∷ []) (state_at w.core b.state).opened)
-        (sym all_numbers) (super_row w.core name begins core_regions (joins (suc place) ∷ []) some refl refl spot fork_rows)
+        (sym all_numbers) (super_row w.core name begins core_regions (joins (suc place) ∷ []) some refl refl position fork_rows)
 
     after_rows : InRegionAt w.core (table_of_state after ∷ more) (next_behind (table_of_state fork_state) next)
         (past_states (table_of_state fork_state).states b)
@@ -355,12 +355,12 @@ module _ (name : List ℕ) (initial : Bool) (r : Region) (others : List Region) 
     module _ (has : has_aborts all ≡ true) where
       monitor_is : MonitorRows numbers.superstate flags f all w.core monitor_at
       monitor_is = monitor_there (has_aborts all) numbers.superstate flags f all w.core monitor_at has
-          (side_second w.core ps ms (table_within spot) inner.core_sized inside_rows)
+          (side_second w.core ps ms (table_within position) inner.core_sized inside_rows)
 
       watcher_is : (i w).watcher_of a.state ≡ g
       watcher_is = ap (λ z. z.watcher) img ∙ certain (has_aborts all) has
         where
-          certain : (h : Bool) → h ≡ true → (if h then g else spot.region) ≡ g
+          certain : (h : Bool) → h ≡ true → (if h then g else position.region) ≡ g
           certain true e = refl
           certain false e = absurd cc
 
@@ -378,9 +378,9 @@ module _ (name : List ℕ) (initial : Bool) (r : Region) (others : List Region) 
                 (values_second w.m (suc b.state) inside.stands_for (no_entries (has_aborts all)) own_mapped));
           }
 
-    watches_is : (h : Bool) → has_aborts all ≡ h → around w.core (if h then g else spot.region) ≡ b.state ∷ b.around
+    watches_is : (h : Bool) → has_aborts all ≡ h → around w.core (if h then g else position.region) ≡ b.state ∷ b.around
     watches_is true has = (monitor_is has).around_it
-    watches_is false none = first_around inside.regions w.core (table_within spot) _ _ (sym threads) inner_stands.core
+    watches_is false none = first_around inside.regions w.core (table_within position) _ _ (sym threads) inner_stands.core
 
     -- ---- all of it
 
@@ -401,7 +401,7 @@ module _ (name : List ℕ) (initial : Bool) (r : Region) (others : List Region) 
     -- ---- what is entered with the fork
 
     abbrev entered_inside : List Move
-    entered_inside = (side_by_side ps (table_within spot)).entered
+    entered_inside = (side_by_side ps (table_within position)).entered
 
     abbrev monitor_stands : Standing
     monitor_stands = at.Trying v (at_once (monitor_transitions flags f all))
@@ -411,7 +411,7 @@ module _ (name : List ℕ) (initial : Bool) (r : Region) (others : List Region) 
         rw (loc.own_is, img, loc.flags_are)
         (watched_entered (has_aborts all) numbers.superstate flags f all monitor_at ∙ by_aborts (has_aborts all))
       where
-        by_aborts : (h : Bool) → (if h then to g monitor_stands ∷ [] else []) ≡ (if h then to (if h then g else spot.region) monitor_stands ∷ [] else [])
+        by_aborts : (h : Bool) → (if h then to g monitor_stands ∷ [] else []) ≡ (if h then to (if h then g else position.region) monitor_stands ∷ [] else [])
         by_aborts true = refl
         by_aborts false = refl
 
@@ -426,8 +426,8 @@ module _ (name : List ℕ) (initial : Bool) (r : Region) (others : List Region) 
           fork =
               ap (λ n. (state_at w.core n).opened) main_is ∙
               (ap (λ z. z.opened) fork_rows.states.0 ∙
-              (ap (λ zs. (side_by_side zs (table_within spot)).entered) regions_are ∙
-              (side_entered ps ms (table_within spot) ∙ ap (λ zs. entered_inside ++ zs) monitor_enters)));
+              (ap (λ zs. (side_by_side zs (table_within position)).entered) regions_are ∙
+              (side_entered ps ms (table_within position) ∙ ap (λ zs. entered_inside ++ zs) monitor_enters)));
         }
 
     pub state_fits : length (map piece_of_region regions) < 2147483648 → stays flags all ≡ false → w.m entry ≡ Some a.state →

@@ -72,8 +72,8 @@ module _ (name : List ℕ) (s : State) (others : List State) (walks : Each State
   abbrev begin : ℕ
   begin = one anew
 
-  abbrev spots : RegionPlaces
-  spots = region_places xs flags counter begin
+  abbrev positions : RegionPlaces
+  positions = region_places xs flags counter begin
 
   abbrev target : ℕ
   target = initial_place xs flags begin
@@ -85,7 +85,7 @@ module _ (name : List ℕ) (s : State) (others : List State) (walks : Each State
   news = new_initial anew counter target number
 
   abbrev text : StatePieces
-  text = expanded_states anew xs flags spots begin numbers
+  text = expanded_states anew xs flags positions begin numbers
 
   abbrev lefts : StatePieces
   lefts = left_behind (aborts_around flags)
@@ -129,8 +129,8 @@ module _ (name : List ℕ) (s : State) (others : List State) (walks : Each State
   abbrev core_next : ℕ
   core_next = next_past ns region_next
 
-  middle : StatesWalk states anew text flags spots begin numbers (inside_region a) core_at chart_next core_next
-  middle = walk_states anew states walks flags spots begin numbers (inside_region a) core_at chart_next core_next
+  middle : StatesWalk states anew text flags positions begin numbers (inside_region a) core_at chart_next core_next
+  middle = walk_states anew states walks flags positions begin numbers (inside_region a) core_at chart_next core_next
 
   sized : AllSized (ns ++ (ts ++ ls))
   sized = sized_append ns (ts ++ ls) (new_sized counter target number anew) (sized_append ts ls middle.core_sized (left_sized (aborts_around flags)))
@@ -245,7 +245,7 @@ module _ (name : List ℕ) (s : State) (others : List State) (walks : Each State
               later_placed;
         }
 
-    firsts : FirstFits w b.region spots (state_numbers cps a.state)
+    firsts : FirstFits w b.region positions (state_numbers cps a.state)
     firsts = middle.first w ls middle_stands
 
     each : EachPlace w a.region (region_at w.core b.region).states (state_numbers cps a.state) (places xs flags begin) (map (λ s. s.is_final) xs)
@@ -257,7 +257,7 @@ module _ (name : List ℕ) (s : State) (others : List State) (walks : Each State
     thread_is : (i w).thread_of a.region ≡ b.region
     thread_is = ap (λ zs. thread_by w zs a.region) region_row ∙ firsts.0
 
-    places_are : (i w).places_of a.region ≡ spots
+    places_are : (i w).places_of a.region ≡ positions
     places_are = ap (λ zs. places_by w zs) region_row ∙ firsts.1
 
     around_is : around w.k a.region ≡ a.around
@@ -288,8 +288,8 @@ module _ (name : List ℕ) (s : State) (others : List State) (walks : Each State
           holds = λ p lt. let one = placed p lt in rw (region_row) one.2;
           left = λ some.
               let there = left_there (aborts_around flags) w.core (next_past ts core_next) (past_states (states_in ts) core_at)
-              (region_at w.core b.region).states spots.left (sym (ap aborts_around flags_there) ∙ some) left_rows
-              (stand_from (region_at w.core b.region).states (begin + length (state_numbers ts core_at.state)) spots.left
+              (region_at w.core b.region).states positions.left (sym (ap aborts_around flags_there) ∙ some) left_rows
+              (stand_from (region_at w.core b.region).states (begin + length (state_numbers ts core_at.state)) positions.left
               (state_numbers ls (core_at.state + states_in ts))
               (omega (arith, numbers_long ts core_at.state, pieces_long text.states, middle.wide))
               (stand_second (region_at w.core b.region).states begin (state_numbers ts core_at.state) (state_numbers ls (core_at.state + states_in ts))
@@ -345,7 +345,7 @@ module _ (name : List ℕ) (s : State) (others : List State) (walks : Each State
           back = (back_is.0, ap (λ t. w.m (state_in w.core t 0)) thread_is ∙ (ap w.m first_state ∙ back_is.1), back_is.2);
         }
 
-    in_region_fits : InRegion w (inside_region a) core_at flags spots
+    in_region_fits : InRegion w (inside_region a) core_at flags positions
     in_region_fits =
         record {
           region = region_fits;

@@ -23,7 +23,7 @@ use Rattle.chart_machine_laws.proofs.ChartTables.{within_or_past}
 use Rattle.abort_expansion_laws.specs.CoreRows.{own, IsState, is_final, IsSuper, IsSimple, simple_row, Images, flags_around}
 use Rattle.abort_expansion_laws.specs.CoreRows.{SimpleImage, FinalImage, StayingImage, SplitImage}
 use Rattle.abort_expansion_laws.proofs.SimpleRows.{rolled, rolled_piece}
-use Rattle.abort_expansion_laws.proofs.InRegionRows.{InRegionAt, first_holds, spot_of}
+use Rattle.abort_expansion_laws.proofs.InRegionRows.{InRegionAt, first_holds, position_of}
 use Rattle.abort_expansion_laws.proofs.Walked.{World, StateImage, no_flags, images_of, i, RegionFits, StateFits, CoreStateFits, thread, OwnerFits}
 use Rattle.abort_expansion_laws.proofs.Walked.{behind_by, InRegion, range_none, range_one}
 use Rattle.abort_expansion_laws.proofs.Walks.{Fits, StateStands, StateWalk, pieces_of}
@@ -85,7 +85,7 @@ module _ (name : List ℕ) (begins ends : Bool) (all : List Transition) where
 
   -- its row
   pub one_row : (core : Table) (more : List Piece) (next : ℕ) (b : TablePosition) → InRegionAt core (table_of_state one ∷ more) next b →
-      Holds core (spot_of begins next b) (layer.parts (spot_of begins next b))
+      Holds core (position_of begins next b) (layer.parts (position_of begins next b))
   one_row core more next b h = first_holds core layer more next b (subst (λ p. InRegionAt core (p ∷ more) next b) one_piece h)
 
 -- ---- the walk

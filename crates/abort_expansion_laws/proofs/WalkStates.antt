@@ -18,7 +18,8 @@ use Rattle.abort_expansion.specs.Flags.{weak_around}
 use Rattle.abort_expansion.specs.Pieces.{StatePiece, beside}
 use Rattle.abort_expansion.specs.Expansion.{piece_of_state, expanded_states, past_state, places, widths, variables_among}
 use Rattle.abort_expansion_laws.specs.CoreRows.{is_final}
-use Rattle.abort_expansion_laws.proofs.InRegionRows.{InRegionAt, first_holds, rest_holds, more_hold, spot_of, next_past, none_append, once_append, none_once}
+use Rattle.abort_expansion_laws.proofs.InRegionRows.{InRegionAt, first_holds, rest_holds, more_hold, position_of, next_past}
+use Rattle.abort_expansion_laws.proofs.InRegionRows.{none_append, once_append, none_once}
 use Rattle.abort_expansion_laws.proofs.SideRows.{states_append, sized_append}
 use Rattle.abort_expansion_laws.proofs.Walked.{World, InRegion}
 use Rattle.abort_expansion_laws.proofs.Walks.{Part, Fits, Entries, StateStands, StateWalk, StateWalks, pieces_of, FirstInitial}
@@ -173,7 +174,7 @@ module _ (anew : Bool) (s : State) (states : List State) (walks : StateWalks s) 
   one = x.made flags to place begins numbers
 
   abbrev own_at : TablePosition
-  own_at = spot_of p.is_initial next a
+  own_at = position_of p.is_initial next a
 
   own : StateWalk p one (x.variables (weak_around flags)) x.is_final (x.width flags) flags to place begins numbers own_at b core_next
   own = walks.walks flags to place begins numbers own_at b core_next

@@ -31,7 +31,7 @@ use Rattle.chart_machine_laws.specs.Tree.{holder}
 use Rattle.chart_machine_laws.proofs.RowsOfPieces.{Holds, IsSized, state_sized}
 use Rattle.abort_expansion_laws.specs.CoreRows.{own, IsState, is_final, ends, IsSuper, fork_row}
 use Rattle.abort_expansion_laws.proofs.SimpleRows.{rolled, rolled_piece}
-use Rattle.abort_expansion_laws.proofs.InRegionRows.{InRegionAt, first_holds, spot_of}
+use Rattle.abort_expansion_laws.proofs.InRegionRows.{InRegionAt, first_holds, position_of}
 use Rattle.abort_expansion_laws.proofs.Walked.{World, StateImage, no_flags, ValuesAt, values_from, images_of, i, RegionFits, StateFits, CoreStateFits, thread}
 use Rattle.abort_expansion_laws.proofs.Walked.{behind_by, OwnerFits, Range, range_to, range_more, FlagsFit, IsFlag}
 use Rattle.abort_expansion_laws.proofs.Walks.{Part, Fits, StateStands, RegionsStand, StateWalk, RegionsWalk, RegionWalks, pieces_of}
@@ -103,16 +103,16 @@ module _ (name : List ℕ) (initial : Bool) (r : Region) (others : List Region) 
   abbrev inside : Regions
   inside = expanded_regions (map piece_of_region regions) (flags ++ f ∷ []) f.counter inside_at
 
-  abbrev spot : TablePosition
-  spot = spot_of begins next b
+  abbrev position : TablePosition
+  position = position_of begins next b
 
   abbrev chart_piece : Piece
   chart_piece = state_piece (record { name = name; is_initial = initial; is_final = false; regions = map table_of_region regions; transitions = all })
 
   inner : RegionsWalk (side_by_side (map table_of_region regions) (table_within a)) (states_in (map table_of_region regions))
       (region_numbers (map table_of_region regions) a.region) inside (variables_in (weak_around (flags ++ f ∷ [])) (map piece_of_region regions))
-      (flags ++ f ∷ []) f.counter inside_at (table_within a) (table_within spot)
-  inner = walk_side regions walks (flags ++ f ∷ []) f.counter inside_at (table_within a) (table_within spot)
+      (flags ++ f ∷ []) f.counter inside_at (table_within a) (table_within position)
+  inner = walk_side regions walks (flags ++ f ∷ []) f.counter inside_at (table_within a) (table_within position)
 
   abbrev ps : List Piece
   ps = map table_of_region inside.regions
@@ -156,7 +156,7 @@ module _ (name : List ℕ) (initial : Bool) (r : Region) (others : List Region) 
     entry = b.state;
     behind = b.state;
     flags = f;
-    watcher = spot.region;
+    watcher = position.region;
     watching = b.state;
     watched = b.state;
     places = places;
@@ -183,7 +183,7 @@ module _ (name : List ℕ) (initial : Bool) (r : Region) (others : List Region) 
   core_sized = subst IsSized (sym piece)
       (state_sized (record { name = name; is_initial = begins; is_final = false; regions = ps; transitions = core_all }) inner.core_sized)
 
-  core_rows : (core : Table) (more : List Piece) → InRegionAt core (table_of_state core_state ∷ more) next b → Holds core spot (layer.parts spot)
+  core_rows : (core : Table) (more : List Piece) → InRegionAt core (table_of_state core_state ∷ more) next b → Holds core position (layer.parts position)
   core_rows core more rows = first_holds core layer more next b (subst (λ p. InRegionAt core (p ∷ more) next b) piece rows)
 
   not_ends : (w : World) → Holds w.k a (chart_piece.parts a) → is_final w.k a.state ≡ false
@@ -226,11 +226,11 @@ module _ (name : List ℕ) (initial : Bool) (r : Region) (others : List Region) 
         come [] empty = absurd cc
         come (t ∷ strong) empty = absurd cc
 
-    fork_rows : Holds w.core spot (layer.parts spot)
+    fork_rows : Holds w.core position (layer.parts position)
     fork_rows = core_rows w.core more stands.core
 
     inner_stands : RegionsStand w (side_by_side (map table_of_region regions) (table_within a)) inside (flags ++ f ∷ []) f.counter inside_at (table_within a)
-        (table_within spot) inner.part
+        (table_within position) inner.part
     inner_stands =
         record {
           chart_rows = record { states = stands.chart.states.1; regions = stands.chart.regions };
@@ -254,14 +254,15 @@ module _ (name : List ℕ) (initial : Bool) (r : Region) (others : List Region) 
           counter_is = ap (λ z. z.flags.counter) (sym img);
         }
 
-    threads : map (i w).thread_of (region_numbers (map table_of_region regions) a.region) ≡ region_numbers ps spot.region
+    threads : map (i w).thread_of (region_numbers (map table_of_region regions) a.region) ≡ region_numbers ps position.region
     threads = inner.threads w inner_stands
 
     row : state_at w.core b.state ≡ fork_row b.holder b.state (map (i w).thread_of (state_at w.k a.state).regions) core_all (state_at w.core b.state).opened
     row = subst (λ zs. state_at w.core b.state ≡ fork_row b.holder b.state zs core_all (state_at w.core b.state).opened)
         (sym (ap (map (i w).thread_of) regions_row ∙ threads))
-        (super_row w.core name begins inside.regions core_all (some_regions ps spot.region _ _ (sym threads))
-        (led_none (λ t. is_strong t.kind) places (λ t. refl) all none.strong) (led_none (λ t. is_weak t.kind) places (λ t. refl) all none.weak) spot fork_rows)
+        (super_row w.core name begins inside.regions core_all (some_regions ps position.region _ _ (sym threads))
+        (led_none (λ t. is_strong t.kind) places (λ t. refl) all none.strong)
+        (led_none (λ t. is_weak t.kind) places (λ t. refl) all none.weak) position fork_rows)
 
     flags_fit : FlagsFit w a.state
     flags_fit =
@@ -277,7 +278,7 @@ module _ (name : List ℕ) (initial : Bool) (r : Region) (others : List Region) 
     no_aborts = rw (loc.own_is, none.strong, none.weak) refl
 
     abbrev entered_inside : List Move
-    entered_inside = (side_by_side ps (table_within spot)).entered
+    entered_inside = (side_by_side ps (table_within position)).entered
 
     opens_alike : OpensAlike w.k w.core (images_of w) a.state
     opens_alike =
@@ -311,7 +312,7 @@ module _ (name : List ℕ) (initial : Bool) (r : Region) (others : List Region) 
           watcher = λ is has.
               let wrong : true ≡ false = sym has ∙ no_aborts in absurd cc;
           watches = λ is. rw (img, loc.thread_is, stands.region.around_core)
-              (first_around inside.regions w.core (table_within spot) _ _ (sym threads) inner_stands.core);
+              (first_around inside.regions w.core (table_within position) _ _ (sym threads) inner_stands.core);
           flags = λ is. flags_fit;
           flagless = λ empty. absurd (super empty);
           bare = λ empty. absurd (super empty);

@@ -15,7 +15,7 @@ use Rattle.chart_machine.specs.declared.standing.Standing.TheVariants as at
 use Rattle.chart_machine.specs.declared.standing.Configuration.{Configuration}
 use Rattle.chart_machine.specs.declared.table.Table.{Table}
 use Rattle.chart_machine.specs.Turns.{standing_of, has_ended, guards, has_work, is_guarded, inside, inside_is_done}
-use Rattle.chart_machine.specs.Steps.{to, after, verdict, deed_of, step, access_of, access_of_trigger, state_in}
+use Rattle.chart_machine.specs.Steps.{to, after, verdict, change_of, step, access_of, access_of_trigger, state_in}
 use Rattle.chart_machine.specs.Machine.{machine}
 use Rattle.abort_expansion.specs.Flags.{aborts_around}
 use Rattle.abort_expansion.specs.Superstates.{stays}
@@ -302,9 +302,9 @@ module _ (k core : Table) (i : Images) (rows : CoreRows k core i) (tree : IsNest
       (act_of (machine k) c r ∷ []) (Related k core i next)
   not_taken_followed Told told next steps false_there =
       let parts : Stepped k r c next = stepped k r c next steps in
-      let deed : record { write = None; moves = to r (at.Within o tests) ∷ [] } ≡ parts.deed =
-      same_Some _ parts.deed (sym (ap (deed_of k c r) stands ∙ tested_is k c r o t (to r (at.Within o tests) ∷ []) false false_there) ∙ parts.does) in
-      let is : record { variables = c.variables; regions = slice_set c.regions r (at.Within o tests) } ≡ next = ap (λ e. after e c) deed ∙ parts.is in
+      let change : record { write = None; moves = to r (at.Within o tests) ∷ [] } ≡ parts.change =
+      same_Some _ parts.change (sym (ap (change_of k c r) stands ∙ tested_is k c r o t (to r (at.Within o tests) ∷ []) false false_there) ∙ parts.does) in
+      let is : record { variables = c.variables; regions = slice_set c.regions r (at.Within o tests) } ≡ next = ap (λ e. after e c) change ∙ parts.is in
       subst (λ c'. Segment (machine core) (pair k core i rows tree counts written_at) Told d (Stage k i.thread_of c d) (Stage k i.thread_of c')
       (act_of (machine k) c r ∷ []) (Related k core i c')) is
       (watched_segment k core i rows tree counts written_at c d related r o 2 (at.Within o tests)

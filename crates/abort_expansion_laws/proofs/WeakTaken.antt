@@ -16,7 +16,7 @@ use Rattle.chart_machine.specs.declared.standing.Configuration.{Configuration}
 use Rattle.chart_machine.specs.declared.table.Table.{Table}
 use Rattle.chart_machine.specs.Table.{state_at, region_at}
 use Rattle.chart_machine.specs.Turns.{standing_of, has_work, is_guarded, inside, inside_is_done}
-use Rattle.chart_machine.specs.Steps.{to, state_in, deed_of, verdict, access_of, access_of_trigger, step}
+use Rattle.chart_machine.specs.Steps.{to, state_in, change_of, verdict, access_of, access_of_trigger, step}
 use Rattle.chart_machine.specs.Machine.{machine}
 use Rattle.abort_expansion.specs.Transitions.{answers, strong_checks}
 use Rattle.abort_expansion.specs.Superstates.{closing}
@@ -240,7 +240,7 @@ module _ (k core : Table) (i : Images) (rows : CoreRows k core i) (more : Layere
       Segment (machine core) corr Told d (Stage k i.thread_of c d) (Stage k i.thread_of last) (act_of (machine k) c r ∷ []) (Related k core i last)
   weak_followed Told told told_test e es some target_there last steps =
       with_effects k core i rows more tree core_tree deep core_children children counts written_at Told told c d related r o 2 flag.0 t weak_next told_test
-      target_there last (chart_takes k c r o t (to r (at.Within o others) ∷ []) true_there (ap (deed_of k c r) stands) last steps) e es some
+      target_there last (chart_takes k c r o t (to r (at.Within o others) ∷ []) true_there (ap (change_of k c r) stands) last steps) e es some
 
   -- without effects, from the law of entering
   pub weak_entered : (Told : Configuration → Entry → Type 0)
@@ -251,5 +251,5 @@ module _ (k core : Table) (i : Images) (rows : CoreRows k core i) (more : Layere
       Segment (machine core) corr Told d (Stage k i.thread_of c d) (Stage k i.thread_of last) (act_of (machine k) c r ∷ []) (Related k core i last)
   weak_entered Told told told_test none target_there last steps enters chart_first core_first =
       without_effects k core i rows more tree core_tree deep core_children children counts written_at Told told c d related r o 2 flag.0 t weak_next told_test
-      target_there last (chart_takes k c r o t (to r (at.Within o others) ∷ []) true_there (ap (deed_of k c r) stands) last steps) enters counters
+      target_there last (chart_takes k c r o t (to r (at.Within o others) ∷ []) true_there (ap (change_of k c r) stands) last steps) enters counters
       start_rows.super_there chart_first core_first none

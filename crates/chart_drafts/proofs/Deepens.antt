@@ -14,7 +14,8 @@ use Rattle.chart_drafts.specs.declared.draft.DraftRegion.{DraftRegion}
 use Rattle.chart_drafts.specs.declared.draft.DraftState.{DraftState}
 use Rattle.chart_drafts.specs.declared.draft.DraftChart.{DraftChart}
 use Rattle.drafts.specs.declared.parts.Declaration.{Declaration}
-use Rattle.chart_drafts.specs.ChartText.{Grows, name, last_name, declaration, flag, placed, effect, next_effect, some_effects, effects, target, trigger, deed}
+use Rattle.chart_drafts.specs.ChartText.{Grows, name, last_name, declaration, flag, placed, effect, next_effect}
+use Rattle.chart_drafts.specs.ChartText.{some_effects, effects, target, trigger, outcome}
 use Rattle.chart_drafts.specs.ChartText.{termination, tested, transition, leaving, Inner, NoMore, Nested, bare, inside, body, state, states, region, within}
 use Rattle.chart_drafts.specs.ChartText.{chart, chart_text}
 use Rattle.chart_drafts.proofs.Shapes.{chart_text_is}
@@ -68,7 +69,7 @@ module _ (e e' : Grows Phrase) (w : Deeper Phrase e e') where
       (deeper_many _ _ _ (deeper_made _ _ _ _ _ (deeper_seq _ _ _ _ _ _ (same_one _) effect_wider))))))))
 
   transition_wider : Deeper DraftTransition (transition e) (transition e')
-  unfolding transition termination tested trigger deed
+  unfolding transition termination tested trigger outcome
   transition_wider =
       let done = deeper_seq _ _ _ _ _ _ effects_wider target_same in
       deeper_either _ _ _ _ _

@@ -27,7 +27,7 @@ use Rattle.chart_drafts.specs.declared.draft.DraftTransition.{DraftTransition}
 use Rattle.chart_drafts.specs.Draft.{is_there, effect_of, transition_of}
 use Rattle.drafts.specs.Parts.{or_none, expressed, declared_as}
 use Rattle.chart_drafts.specs.ChartText.{Grows, the_word, the_sign, roles, declared_role, declared_kind, last_name, name, declaration, flag, placed, effect}
-use Rattle.chart_drafts.specs.ChartText.{next_effect, some_effects, effects, trigger, deed, moment, termination, tested_words, tested, transition_first}
+use Rattle.chart_drafts.specs.ChartText.{next_effect, some_effects, effects, trigger, outcome, moment, termination, tested_words, tested, transition_first}
 use Rattle.chart_drafts.specs.ChartText.{transition}
 use Rattle.chart_drafts.specs.PartsRead.{IsGoing}
 use Rattle.chart_drafts.specs.Phrase.{Gives}
@@ -170,21 +170,23 @@ trigger_stops text more end f e d s = behind_stops (the_word word.If) (placed e0
 -- ---- transitions
 
 pub termination_made : (text a rest : List Token) (m : TransitionKind × ℕ) (d : List DraftEffect × Named) → Gives (read (moment (the_word word.Join)) text) m a
-    → Gives (read (deed e0) a) d rest → Gives (read (termination e0) text) (transition_of m false None d.0 d.1) rest
+    → Gives (read (outcome e0) a) d rest → Gives (read (termination e0) text) (transition_of m false None d.0 d.1) rest
 unfolding termination
 termination_made text a rest m d x y =
-    made_gives (λ x. transition_of x.0 false None x.1.0 x.1.1) (seq (moment (the_word word.Join)) (deed e0)) text (m, d) rest
-    (seq_gives (moment (the_word word.Join)) (deed e0) text a rest m d x y)
+    made_gives (λ x. transition_of x.0 false None x.1.0 x.1.1) (seq (moment (the_word word.Join)) (outcome e0)) text (m, d) rest
+    (seq_gives (moment (the_word word.Join)) (outcome e0) text a rest m d x y)
 
 pub tested_made : (text a b c rest : List Token) (m : TransitionKind × ℕ) (i : Bool) (t : Option TextExpression) (d : List DraftEffect × Named)
-    → Gives (read (moment tested_words) text) m a → Gives (read (flag word.Immediate) a) i b → Gives (read (trigger e0) b) t c → Gives (read (deed e0) c) d rest
+    → Gives (read (moment tested_words) text) m a → Gives (read (flag word.Immediate) a) i b → Gives (read (trigger e0) b) t c →
+    Gives (read (outcome e0) c) d rest
     → Gives (read (tested e0) text) (transition_of m i t d.0 d.1) rest
 unfolding tested
 tested_made text a b c rest m i t d w x y z =
-    made_gives (λ x. transition_of x.0 x.1.0 x.1.1.0 x.1.1.1.0 x.1.1.1.1) (seq (moment tested_words) (seq (flag word.Immediate) (seq (trigger e0) (deed e0))))
+    made_gives (λ x. transition_of x.0 x.1.0 x.1.1.0 x.1.1.1.0 x.1.1.1.1)
+    (seq (moment tested_words) (seq (flag word.Immediate) (seq (trigger e0) (outcome e0))))
     text (m, (i, (t, d))) rest
-    (seq_gives (moment tested_words) (seq (flag word.Immediate) (seq (trigger e0) (deed e0))) text a rest m (i, (t, d)) w
-    (seq_gives (flag word.Immediate) (seq (trigger e0) (deed e0)) a b rest i (t, d) x (seq_gives (trigger e0) (deed e0) b c rest t d y z)))
+    (seq_gives (moment tested_words) (seq (flag word.Immediate) (seq (trigger e0) (outcome e0))) text a rest m (i, (t, d)) w
+    (seq_gives (flag word.Immediate) (seq (trigger e0) (outcome e0)) a b rest i (t, d) x (seq_gives (trigger e0) (outcome e0) b c rest t d y z)))
 
 module _ (text : List Token) where
   is_termination : starts text_tokens (the_word word.Join) text ≡ true → read (transition e0) text ≡ read (termination e0) text

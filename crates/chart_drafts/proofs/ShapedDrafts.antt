@@ -26,7 +26,8 @@ use Rattle.chart_drafts.specs.declared.draft.DraftRegion.TheViews.{out-roll-Draf
 use Rattle.chart_drafts.specs.declared.draft.DraftState.{DraftState}
 use Rattle.chart_drafts.specs.declared.draft.DraftChart.{DraftChart}
 use Rattle.chart_drafts.specs.Draft.{tested_by, state_of, region_of, chart_of}
-use Rattle.chart_drafts.specs.ChartText.{Grows, name, last_name, declaration, placed, effect, next_effect, listed, some_effects, effects, trigger, deed, moment}
+use Rattle.chart_drafts.specs.ChartText.{Grows, name, last_name, declaration, placed, effect, next_effect, listed}
+use Rattle.chart_drafts.specs.ChartText.{some_effects, effects, trigger, outcome, moment}
 use Rattle.chart_drafts.specs.ChartText.{termination, tested_words, tested, transition, leaving, Inner, NoMore, Nested, bare, inside, body, state, states}
 use Rattle.chart_drafts.specs.ChartText.{region, within, chart, chart_text}
 use Rattle.chart_drafts.specs.Reading.{IsDraft}
@@ -86,9 +87,9 @@ module _ (e : Grows Phrase) (w : EachChart e CanWrite) where
       each_made _ _ _ _ _ (Every (λ x. IsWritable x.value))
       (each_maybe _ _ _ (each_after _ _ _ (listed_kept _ _ _ effect_kept (each_after _ _ _ effect_kept)))) (λ xs h. none_or_all _ xs h)
 
-  pub deed_kept : EachChart (deed e) (λ x. Every (λ f. IsWritable f.value) x.0)
-  unfolding deed
-  deed_kept = each_as _ _ _ (λ x. Every (λ f. IsWritable f.value) x.0) (each_seq _ _ _ _ _ _ effects_kept (each_any _)) (λ x h. h.0)
+  pub outcome_kept : EachChart (outcome e) (λ x. Every (λ f. IsWritable f.value) x.0)
+  unfolding outcome
+  outcome_kept = each_as _ _ _ (λ x. Every (λ f. IsWritable f.value) x.0) (each_seq _ _ _ _ _ _ effects_kept (each_any _)) (λ x h. h.0)
 
   pub trigger_kept : EachChart (trigger e) (OfIt IsWritable)
   unfolding trigger
@@ -103,7 +104,7 @@ module _ (e : Grows Phrase) (w : EachChart e CanWrite) where
   pub termination_kept : EachChart (termination e) IsTransitionShaped
   unfolding termination
   termination_kept =
-      each_made _ _ _ _ _ IsTransitionShaped (each_seq _ _ _ _ _ _ (each_any _) deed_kept)
+      each_made _ _ _ _ _ IsTransitionShaped (each_seq _ _ _ _ _ _ (each_any _) outcome_kept)
       (λ x h. record { plain_join = λ j. (refl, refl); trigger = of_it None tt; effects = every_at (λ f. IsWritable f.value) x.1.0 h.1 })
 
   pub moment_kept : EachChart (moment tested_words) (λ m. m.0 ≢ kind.Join)
@@ -114,7 +115,7 @@ module _ (e : Grows Phrase) (w : EachChart e CanWrite) where
   unfolding tested
   tested_kept =
       each_made _ _ _ _ _ IsTransitionShaped
-      (each_seq _ _ _ _ _ _ moment_kept (each_seq _ _ _ _ _ _ (each_any _) (each_seq _ _ _ _ _ _ trigger_kept deed_kept)))
+      (each_seq _ _ _ _ _ _ moment_kept (each_seq _ _ _ _ _ _ (each_any _) (each_seq _ _ _ _ _ _ trigger_kept outcome_kept)))
       (λ x h. record {
         plain_join = λ j. absurd (h.0 j);
         trigger = of_it x.1.1.0 h.1.1.0;

@@ -11,7 +11,7 @@ use Rattle.sc_text.specs.Expression.{expression}
 use Rattle.sc_text.proofs.Shapes.{Is, expression_first, expression_tails, expression_is}
 use Rattle.chart_drafts.specs.declared.draft.DraftRegion.{DraftRegion}
 use Rattle.chart_drafts.specs.ChartText.{Grows, the_word, the_sign, name, last_name, roles, declaration, flag, placed, effect, next_effect, some_effects}
-use Rattle.chart_drafts.specs.ChartText.{effects, target, trigger, deed, termination, tested_words, tested, transition, transition_first, leaving, listed}
+use Rattle.chart_drafts.specs.ChartText.{effects, target, trigger, outcome, termination, tested_words, tested, transition, transition_first, leaving, listed}
 use Rattle.chart_drafts.specs.ChartText.{Inner, NoMore, Nested, bare, inside, simple, body, state_first, state, states, region, within, chart, chart_text}
 
 abbrev pub IsExpression : Grows Phrase → Type 0
@@ -87,15 +87,15 @@ module _ (e : Grows Phrase) (h : IsExpression e) where
   trigger_is =
       shaped_maybe _ _ _ _ (shaped_made _ _ _ _ _ _ _ (shaped_seq _ _ _ _ _ _ _ _ _ _ (shaped_one _ refl) placed_is refl))
 
-  pub deed_is : Shaped (deed e) false (TheWord word.Do ∷ TheSign sign.Arrow ∷ []) []
-  unfolding deed
-  deed_is = shaped_seq _ _ _ _ _ _ _ _ _ _ effects_is target_is refl
+  pub outcome_is : Shaped (outcome e) false (TheWord word.Do ∷ TheSign sign.Arrow ∷ []) []
+  unfolding outcome
+  outcome_is = shaped_seq _ _ _ _ _ _ _ _ _ _ effects_is target_is refl
 
   pub termination_is : Shaped (termination e) false (the_word word.Join) []
   unfolding termination
   termination_is =
       shaped_made _ _ _ _ _ _ _
-      (shaped_seq _ _ _ _ _ _ _ _ _ _ (shaped_made _ _ _ _ _ _ _ (shaped_one _ refl)) deed_is refl)
+      (shaped_seq _ _ _ _ _ _ _ _ _ _ (shaped_made _ _ _ _ _ _ _ (shaped_one _ refl)) outcome_is refl)
 
   tested_is : Shaped (tested e) false tested_words []
   unfolding tested
@@ -103,7 +103,7 @@ module _ (e : Grows Phrase) (h : IsExpression e) where
       shaped_made _ _ _ _ _ _ _
       (shaped_seq _ _ _ _ _ _ _ _ _ _ (shaped_made _ _ _ _ _ _ _ (shaped_one _ refl))
       (shaped_seq _ _ _ _ _ _ _ _ _ _ (flag_is word.Immediate)
-      (shaped_seq _ _ _ _ _ _ _ _ _ _ trigger_is deed_is refl)
+      (shaped_seq _ _ _ _ _ _ _ _ _ _ trigger_is outcome_is refl)
       refl)
       refl)
 

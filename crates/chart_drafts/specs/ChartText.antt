@@ -91,15 +91,15 @@ unfoldable pub trigger : Grows Phrase → Grows (Option TextExpression)
 trigger e = maybe (after (the_word word.If) (placed e))
 
 -- what is done, and where a transition leads
-unfoldable pub deed : Grows Phrase → Grows (List DraftEffect × Named)
-deed e = seq (effects e) target
+unfoldable pub outcome : Grows Phrase → Grows (List DraftEffect × Named)
+outcome e = seq (effects e) target
 
 -- when a transition is tested, by its word, and the place of that
 abbrev pub moment : List Class → Grows (TransitionKind × ℕ)
 moment words = made (λ t. (tested_by t.kind, t.at)) (one words)
 
 unfoldable pub termination : Grows Phrase → Grows DraftTransition
-termination e = made (λ x. transition_of x.0 false None x.1.0 x.1.1) (seq (moment (the_word word.Join)) (deed e))
+termination e = made (λ x. transition_of x.0 false None x.1.0 x.1.1) (seq (moment (the_word word.Join)) (outcome e))
 
 abbrev pub tested_words : List Class
 tested_words = TheWord word.Go ∷ TheWord word.Strong ∷ TheWord word.Weak ∷ []
@@ -111,7 +111,7 @@ flag w = made is_there (maybe (one (the_word w)))
 unfoldable pub tested : Grows Phrase → Grows DraftTransition
 tested e =
     made (λ x. transition_of x.0 x.1.0 x.1.1.0 x.1.1.1.0 x.1.1.1.1)
-    (seq (moment tested_words) (seq (flag word.Immediate) (seq (trigger e) (deed e))))
+    (seq (moment tested_words) (seq (flag word.Immediate) (seq (trigger e) (outcome e))))
 
 unfoldable pub transition : Grows Phrase → Grows DraftTransition
 transition e = either (termination e) (tested e)

@@ -6,7 +6,8 @@ ghost use Rattle.grammar.specs.Read.{read, starts};
 ghost use Rattle.sc_text.specs.Expression.{text_tokens, after, expression};
 ghost use Rattle.sc_text.specs.Reading.{Stops};
 ghost use Rattle.chart_drafts.specs.ChartText.{the_sign, declaration, placed, effect, next_effect, some_effects};
-ghost use Rattle.chart_drafts.specs.ChartText.{effects, target, trigger, deed, termination, tested, transition_first};
+ghost use Rattle.chart_drafts.specs.ChartText.{effects, target, trigger, outcome};
+ghost use Rattle.chart_drafts.specs.ChartText.{termination, tested, transition_first};
 ghost use Rattle.chart_drafts.specs.ChartText.{transition, leaving};
 ghost use Rattle.chart_drafts.specs.Phrase.{Gives};
 
@@ -175,15 +176,15 @@ pub fn trigger(
 }
 
 /// What is done, and where a transition leads.
-#[tactic(auto, using(crate::proofs::Parts::seq_stops_first, crate::proofs::Parts::seq_stops_second, crate::proofs::Parts::seq_gives), unfolding(crate::specs::ChartText::deed))]
-pub fn deed(
+#[tactic(auto, using(crate::proofs::Parts::seq_stops_first, crate::proofs::Parts::seq_stops_second, crate::proofs::Parts::seq_gives), unfolding(crate::specs::ChartText::outcome))]
+pub fn outcome(
     alloc: Global,
     ahead: &mut Ahead,
     end: usize,
 ) -> Result<(Items<DraftEffect>, Named), ReadFault>
     ensures { MatchResult result
-        (λ x. Gives (read (deed (expression 0)) ahead.old.tokens.now) x ahead.new.tokens.now)
-        (λ fault. Stops end (read (deed (expression 0)) ahead.old.tokens.now) fault) }
+        (λ x. Gives (read (outcome (expression 0)) ahead.old.tokens.now) x ahead.new.tokens.now)
+        (λ fault. Stops end (read (outcome (expression 0)) ahead.old.tokens.now) fault) }
 {
     let effects = effects(alloc, ahead, end)?;
     let target = target(ahead, end)?;
@@ -202,7 +203,7 @@ pub fn termination(
         (λ fault. Stops end (read (termination (expression 0)) ahead.old.tokens.now) fault) }
 {
     let (kind, at) = join_word(ahead, end)?;
-    let (effects, target) = deed(alloc, ahead, end)?;
+    let (effects, target) = outcome(alloc, ahead, end)?;
     Ok(DraftTransition {
         kind,
         at,
@@ -222,7 +223,7 @@ fn tested(alloc: Global, ahead: &mut Ahead, end: usize) -> Result<DraftTransitio
     let (kind, at) = tested_word(ahead, end)?;
     let immediate = flag(ahead, Word::Immediate);
     let trigger = trigger(alloc, ahead, end)?;
-    let (effects, target) = deed(alloc, ahead, end)?;
+    let (effects, target) = outcome(alloc, ahead, end)?;
     Ok(DraftTransition {
         kind,
         at,

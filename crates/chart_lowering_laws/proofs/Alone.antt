@@ -13,7 +13,7 @@ use Rattle.chart_machine.specs.Turns.{standing_of}
 use Rattle.scl.specs.Block.{Block, End, Pause}
 use Rattle.scl.specs.Labels.{settled}
 use Rattle.scl.specs.Numbering.{Numbered}
-use Rattle.scl.specs.Meaning.{State, Doing, Todo, Resting, Resuming, Finished, Deed, doing, after, deed_of, step}
+use Rattle.scl.specs.Meaning.{State, Doing, Todo, Resting, Resuming, Finished, ThreadChange, doing, after, change_of, step}
 use Rattle.scl_graph_laws.specs.Standing.{IsStep}
 use Rattle.chart_lowering_laws.specs.Layout.{Layout, TriesOut, Behind, IsRegionOf, Lowers}
 use Rattle.chart_lowering_laws.specs.Corresponds.{Live, HeldBy, Turn, giving_in, given, Corresponds}
@@ -53,7 +53,7 @@ module _ (k : Table) (p : Numbered) (l : Layout) (low : Lowers k p l) (c : Confi
       let f : State = record { variables = s.variables; threads = set s.threads zero Finished } in
       let one : OneMoved s f zero Finished = one_moved s s.variables zero Finished (thread_within k p l low c s corr zero (inl refl)) in (
         f,
-        ap (λ d. option_map (λ e. after e s) (deed_of p s zero d)) is,
+        ap (λ d. option_map (λ e. after e s) (change_of p s zero d)) is,
         root_ends k p l low c s corr f n is one refl,
         one,
       )
@@ -62,8 +62,8 @@ module _ (k : Table) (p : Numbered) (l : Layout) (low : Lowers k p l) (c : Confi
     now_at : (x : Standing) (d : Doing) → standing_of c r ≡ x → doing s r ≡ d → Live k p.root l r x d × HeldBy k p.root l r x
     now_at x d stands is = live_as k p l low c s corr r at_r turn x d stands is
 
-    steps_by : (d : Doing) (e : Deed) → doing s r ≡ d → deed_of p s r d ≡ Some e → step p r s ≡ Some (after e s)
-    steps_by d e is deed = ap (λ d. option_map (λ e. after e s) (deed_of p s r d)) is ∙ ap (option_map (λ e. after e s)) deed
+    steps_by : (d : Doing) (e : ThreadChange) → doing s r ≡ d → change_of p s r d ≡ Some e → step p r s ≡ Some (after e s)
+    steps_by d e is change = ap (λ d. option_map (λ e. after e s) (change_of p s r d)) is ∙ ap (option_map (λ e. after e s)) change
 
     same_giving : (x : Standing) (d e : Doing) → standing_of c r ≡ x → doing s r ≡ e → ((u : ℕ) → giving_in u x d ≡ giving_in u x e) → (u : ℕ) →
         giving_in u (standing_of c r) d ≡ giving_in u (standing_of c r) (doing s r)

@@ -15,7 +15,7 @@ use Rattle.chart_machine.specs.declared.standing.Configuration.{Configuration}
 use Rattle.chart_machine.specs.declared.table.Table.{Table}
 use Rattle.chart_machine.specs.Table.{state_at, region_at}
 use Rattle.chart_machine.specs.Turns.{standing_of, has_work, has_ended, is_enabled, is_guarded, inside_is_done}
-use Rattle.chart_machine.specs.Steps.{step as chart_step, deed_of as chart_deed, access_of as access_of_region}
+use Rattle.chart_machine.specs.Steps.{step as chart_step, change_of as region_change, access_of as access_of_region}
 use Rattle.chart_machine.specs.Steps.{after as chart_after}
 use Rattle.chart_machine.specs.Machine.{machine as chart_machine}
 use Rattle.scl.specs.Block.{End, Assign, Label, Goto, Pause, If, Fork}
@@ -86,7 +86,7 @@ module _ (k : Table) (p : Numbered) (l : Layout) (low : Lowers k p l) (c : Confi
     works : has_work k c (standing_of c t) ≡ true
     works =
         and_first (has_work k c (standing_of c t)) (not (is_guarded k c (region_at k t).around) && inside_is_done k c (standing_of c t))
-        (only_true (is_enabled k c t) (option_map (λ e. chart_after e c) (chart_deed k c t (standing_of c t))) d steps)
+        (only_true (is_enabled k c t) (option_map (λ e. chart_after e c) (region_change k c t (standing_of c t))) d steps)
 
     -- the thread's step shows the same
     shown_step : (x : Standing) (y : Doing) (f : State) → standing_of c t ≡ x → doing s t ≡ y → ShowsAlike x y → step p t s ≡ Some f → After k p l c t d f →
@@ -282,7 +282,7 @@ module _ (k : Table) (p : Numbered) (l : Layout) (low : Lowers k p l) (c : Confi
   works_at t d steps is =
       let work : has_work k c (standing_of c t) ≡ true = and_first (has_work k c (standing_of c t))
       (not (is_guarded k c (region_at k t).around) && inside_is_done k c (standing_of c t))
-      (only_true (is_enabled k c t) (option_map (λ e. chart_after e c) (chart_deed k c t (standing_of c t))) d steps) in
+      (only_true (is_enabled k c t) (option_map (λ e. chart_after e c) (region_change k c t (standing_of c t))) d steps) in
       let h : has_work k c stand.Outside ≡ true = subst (λ x. has_work k c x ≡ true) is work in
       absurd (cc)
 

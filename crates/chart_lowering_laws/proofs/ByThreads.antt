@@ -21,7 +21,7 @@ use Rattle.scl.specs.Labels.{settled}
 use Rattle.scl.specs.Places.{threads_of}
 use Rattle.scl.specs.Numbering.{Numbered}
 use Rattle.scl.specs.Meaning.{State, Doing, Away, Todo, Forked, Resting, Resuming, Finished, doing, step, machine, all_finished, is_ready, joined, after}
-use Rattle.scl.specs.Meaning.{deed_of}
+use Rattle.scl.specs.Meaning.{change_of}
 use Rattle.scl.specs.Meaning.{access_of as access_of_thread}
 use Rattle.scl_graph_laws.specs.Alike.{Both}
 use Rattle.scl_graph_laws.proofs.Alike.{from_both, both_back}
@@ -95,15 +95,15 @@ module _ (k : Table) (p : Numbered) (l : Layout) (low : Lowers k p l) (s : State
     -- who joins has branches that have all finished
     finished : (n : ℕ) (branches : Branches) (rest : Block) → doing s t ≡ Forked n branches rest → all_finished s (threads_of branches) ≡ true
     finished n branches rest is =
-        let deed : option_map (λ e. after e s) (deed_of p s t (Forked n branches rest)) ≡ Some f =
-        sym (ap (λ y. option_map (λ e. after e s) (deed_of p s t y)) is) ∙ steps in
-        let some : (e : Rattle.scl.specs.Meaning.Deed) × (deed_of p s t (Forked n branches rest) ≡ Some e) = map_some (λ e. after e s)
-        (deed_of p s t (Forked n branches rest)) f deed in
+        let change : option_map (λ e. after e s) (change_of p s t (Forked n branches rest)) ≡ Some f =
+        sym (ap (λ y. option_map (λ e. after e s) (change_of p s t y)) is) ∙ steps in
+        let some : (e : Rattle.scl.specs.Meaning.ThreadChange) × (change_of p s t (Forked n branches rest) ≡ Some e) = map_some (λ e. after e s)
+        (change_of p s t (Forked n branches rest)) f change in
         only_true (all_finished s (threads_of branches)) (option_map (joined t (threads_of branches)) (settled p.root rest)) some.0 some.1
 
-    none_of : (y : Doing) → doing s t ≡ y → deed_of p s t y ≡ None → ⊥
+    none_of : (y : Doing) → doing s t ≡ y → change_of p s t y ≡ None → ⊥
     none_of y is none =
-        let h : step p t s ≡ None = ap (λ z. option_map (λ e. after e s) (deed_of p s t z)) is ∙ ap (option_map (λ e. after e s)) none in
+        let h : step p t s ≡ None = ap (λ z. option_map (λ e. after e s) (change_of p s t z)) is ∙ ap (option_map (λ e. after e s)) none in
         none-some f (sym h ∙ steps)
 
     module _ (there : IsRegionOf k t) (turn : given k c s (region_at k t).around ≡ Turn) where

@@ -19,7 +19,8 @@ use Rattle.scl.specs.Labels.{settled}
 use Rattle.scl.specs.Places.{threads_of}
 use Rattle.scl.specs.Places.{ForkedApart as ThreadsApart}
 use Rattle.scl.specs.Numbering.{Numbered}
-use Rattle.scl.specs.Meaning.{State, Doing, Away, Todo, Forked, Resting, Resuming, Finished, Deed, doing, step, machine, all_finished, joined, after, deed_of}
+use Rattle.scl.specs.Meaning.{State, Doing, Away, Todo, Forked, Resting, Resuming, Finished, ThreadChange, doing}
+use Rattle.scl.specs.Meaning.{step, machine, all_finished, joined, after, change_of}
 use Rattle.chart_lowering_laws.specs.Layout.{Layout, LiesIn, IsRegionOf, Lowers, Behind}
 use Rattle.chart_lowering_laws.specs.Layout.{goes_on as leaves}
 use Rattle.chart_lowering_laws.specs.Corresponds.{Live, HeldBy, Giving, Nothing, Ready, Turn, Past, giving, giving_in, giving_of_root, given, Fits, IsAtRoot}

@@ -17,7 +17,7 @@ use Rattle.scl.specs.Block.{Block, End, Fork, Pause, Branches, NoMore}
 use Rattle.scl.specs.Labels.{settled}
 use Rattle.scl.specs.Places.{threads_of}
 use Rattle.scl.specs.Numbering.{Numbered}
-use Rattle.scl.specs.Meaning.{State, Doing, Away, Todo, Forked, Finished, doing, all_finished, joined, forked, after, deed_of, step}
+use Rattle.scl.specs.Meaning.{State, Doing, Away, Todo, Forked, Finished, doing, all_finished, joined, forked, after, change_of, step}
 use Rattle.chart_lowering_laws.proofs.NumberTests.{nat_same}
 use Rattle.chart_lowering_laws.specs.Layout.{Layout, InRegion, TriesOut, Takes, Behind, Opens, IsSimple, IsFinal, IsSuper, LiesIn, IsRegionOf, Lowers}
 use Rattle.chart_lowering_laws.specs.Corresponds.{Live, HeldBy, Nothing, Ready, Turn, giving, giving_in, giving_of_root, given, fresh, Fits, IsAtRoot}
@@ -69,7 +69,7 @@ module _ (k : Table) (p : Numbered) (l : Layout) (low : Lowers k p l) (c : Confi
   join_step : (r n : ℕ) (branches : Branches) (rest first : Block) → doing s r ≡ Forked n branches rest → all_finished s (threads_of branches) ≡ true →
       settled p.root rest ≡ Some first → step p r s ≡ Some (joined_state r branches first)
   join_step r n branches rest first is finished leads =
-      ap (λ d. option_map (λ e. after e s) (deed_of p s r d)) is
+      ap (λ d. option_map (λ e. after e s) (change_of p s r d)) is
       ∙ ap (λ b. option_map (λ e. after e s) (only_if b (option_map (joined r (threads_of branches)) (settled p.root rest)))) finished
       ∙ ap (λ o. option_map (λ e. after e s) (option_map (joined r (threads_of branches)) o)) leads
 
@@ -273,7 +273,7 @@ module _ (k : Table) (p : Numbered) (l : Layout) (low : Lowers k p l) (c : Confi
   fork_step : (r n : ℕ) (branches : Branches) (rest : Block) (all : AllEntered k p l branches) → doing s r ≡ Todo (Fork n branches rest) →
       step p r s ≡ Some (after (forked r (Forked n branches rest) all.moves) s)
   fork_step r n branches rest all is =
-      ap (λ d. option_map (λ e. after e s) (deed_of p s r d)) is
+      ap (λ d. option_map (λ e. after e s) (change_of p s r d)) is
       ∙ ap (λ o. option_map (λ e. after e s) (option_map (forked r (Forked n branches rest)) o)) all.is
 
   -- a region that was entered has its turn now

@@ -16,16 +16,16 @@ use Rattle.chart_machine.specs.declared.standing.Standing.{Standing}
 use Rattle.chart_machine.specs.declared.standing.Standing.TheVariants as stand
 use Rattle.chart_machine.specs.declared.standing.Move.{Move}
 use Rattle.chart_machine.specs.declared.standing.Configuration.{Configuration}
-use Rattle.chart_machine.specs.declared.deed.Deed.{Deed as ChartDeed}
+use Rattle.chart_machine.specs.declared.region_change.RegionChange.{RegionChange}
 use Rattle.chart_machine.specs.declared.table.Table.{Table}
 use Rattle.chart_machine.specs.Table.{state_at, region_at}
 use Rattle.chart_machine.specs.Turns.{numbered_from}
 use Rattle.chart_machine.specs.Steps.{to, written, truth, verdict, state_in, dropped, acts, taken, effected}
-use Rattle.chart_machine.specs.Steps.{deed_of as chart_deed}
+use Rattle.chart_machine.specs.Steps.{change_of as region_change}
 use Rattle.scl.specs.Block.{Block, End, Assign, Label, Goto, Pause, If, Fork}
 use Rattle.scl.specs.Labels.{before, settled}
 use Rattle.scl.specs.Numbering.{Numbered}
-use Rattle.scl.specs.Meaning.{Doing, Todo, Deed, goes_on, chosen, first_step}
+use Rattle.scl.specs.Meaning.{Doing, Todo, ThreadChange, goes_on, chosen, first_step}
 use Rattle.scl_graph_laws.specs.Alike.{Both}
 use Rattle.scl_graph_laws.specs.Settling.{Settled}
 use Rattle.scl_graph_laws.specs.Standing.{IsStep}

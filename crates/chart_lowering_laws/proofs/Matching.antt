@@ -17,16 +17,16 @@ use Rattle.chart_machine.specs.declared.standing.Standing.{Standing}
 use Rattle.chart_machine.specs.declared.standing.Standing.TheVariants as stand
 use Rattle.chart_machine.specs.declared.standing.Move.{Move}
 use Rattle.chart_machine.specs.declared.standing.Configuration.{Configuration}
-use Rattle.chart_machine.specs.declared.deed.Deed.{Deed as ChartDeed}
+use Rattle.chart_machine.specs.declared.region_change.RegionChange.{RegionChange}
 use Rattle.chart_machine.specs.declared.table.Table.{Table}
 use Rattle.chart_machine.specs.Table.{state_at, region_at}
 use Rattle.chart_machine.specs.Turns.{numbered_from}
 use Rattle.chart_machine.specs.Steps.{to, written, truth, verdict, state_in, dropped, acts, taken, effected}
-use Rattle.chart_machine.specs.Steps.{deed_of as chart_deed}
+use Rattle.chart_machine.specs.Steps.{change_of as region_change}
 use Rattle.scl.specs.Block.{Block, End, Assign, Label, Goto, Pause, If, Fork}
 use Rattle.scl.specs.Labels.{before, settled}
 use Rattle.scl.specs.Numbering.{Numbered}
-use Rattle.scl.specs.Meaning.{Doing, Todo, Deed, goes_on, chosen, first_step}
+use Rattle.scl.specs.Meaning.{Doing, Todo, ThreadChange, goes_on, chosen, first_step}
 use Rattle.scl_graph_laws.specs.Alike.{Both}
 use Rattle.scl_graph_laws.specs.Settling.{Settled}
 use Rattle.scl_graph_laws.specs.Standing.{IsStep}
@@ -97,7 +97,7 @@ pub record Onward (k : Table) (root : Block) (l : Layout) (r : ℕ) (moves : Lis
   pub comes : Comes k root l r moves (Todo first)
 
 -- a step of a region and one of its thread that do the same
-pub record SameDeed (k : Table) (root : Block) (l : Layout) (variables : List Value) (r : ℕ) (d : ChartDeed) (e : Deed) : Type 0 where
+pub record SameChange (k : Table) (root : Block) (l : Layout) (variables : List Value) (r : ℕ) (d : RegionChange) (e : ThreadChange) : Type 0 where
   pub change : written d.write variables ≡ changed e.change variables
   pub doing : Doing
   pub moves : e.moves ≡ (r, doing) ∷ []
@@ -285,8 +285,8 @@ module _ (k : Table) (p : Numbered) (l : Layout) (low : Lowers k p l) where
       by (Some e) h = (If h.0 e h.1 h.2 h.3, h.4, tt)
 
   module _ (r s : ℕ) (at_r : IsRegionOf k r) (from : InRegion k r s) (simple : IsSimple k p.root l s) (c : Configuration) where
-    abbrev Same : Option ChartDeed → Option Deed → Type 0
-    Same d e = Both (SameDeed k p.root l c.variables r) d e
+    abbrev Same : Option RegionChange → Option ThreadChange → Type 0
+    Same d e = Both (SameChange k p.root l c.variables r) d e
 
     -- the thread goes on where the region makes these moves
     goes_alike : (moves : List Move) (todo : Block) → Onward k p.root l r moves todo → Same (Some (record { write = None; moves = moves }))
@@ -298,13 +298,13 @@ module _ (k : Table) (p : Numbered) (l : Layout) (low : Lowers k p l) where
     -- a test with a trigger
     pub test_alike : (t : Transition) (tests : List Transition) (e : Expr) (todo : Block) → t.trigger ≡ Some e → Live k p.root l r (stand.Trying s (t ∷ tests))
         (Todo todo) →
-        Same (chart_deed k c r (stand.Trying s (t ∷ tests))) (first_step p c.variables r todo)
+        Same (region_change k c r (stand.Trying s (t ∷ tests))) (first_step p c.variables r todo)
     test_alike t tests e todo is live =
         let h : Tests p.root (Some e) (Takes k p.root l (state_at k s).holder t) (Tries p.root (Takes k p.root l (state_at k s).holder) (l.pause s) tests) todo
         =
         subst (λ o. Tests p.root o (Takes k p.root l (state_at k s).holder t) (Tries p.root (Takes k p.root l (state_at k s).holder) (l.pause s) tests) todo) is
         live.1 in
-        subst (λ b. Same (chart_deed k c r (stand.Trying s (t ∷ tests))) (first_step p c.variables r b))
+        subst (λ b. Same (region_change k c r (stand.Trying s (t ∷ tests))) (first_step p c.variables r b))
         (sym (is_there p.root todo (If h.0 e h.1 h.2 h.3) live.0 h.4))
         (subst (λ o. Same (option_map (λ holds. record { write = None; moves = if holds then taken k r s t else to r (stand.Trying s tests) ∷ [] })
         (verdict c.variables o)) (first_step p c.variables r (If h.0 e h.1 h.2 h.3))) (sym is)
@@ -333,7 +333,8 @@ module _ (k : Table) (p : Numbered) (l : Layout) (low : Lowers k p l) where
     -- a test without a trigger: the thread is where it leads
     pub silent_test : (t : Transition) (tests : List Transition) (todo : Block) → t.trigger ≡ None → Live k p.root l r (stand.Trying s (t ∷ tests))
         (Todo todo) →
-        (chart_deed k c r (stand.Trying s (t ∷ tests)) ≡ Some (record { write = None; moves = taken k r s t })) × Comes k p.root l r (taken k r s t) (Todo todo)
+        (region_change k c r (stand.Trying s (t ∷ tests)) ≡ Some (record { write = None; moves = taken k r s t })) × Comes k p.root l r (taken k r s t)
+        (Todo todo)
     silent_test t tests todo is live =
         let h : Takes k p.root l (state_at k s).holder t todo =
         subst (λ o. Tests p.root o (Takes k p.root l (state_at k s).holder t) (Tries p.root (Takes k p.root l (state_at k s).holder) (l.pause s) tests) todo) is
@@ -347,30 +348,30 @@ module _ (k : Table) (p : Numbered) (l : Layout) (low : Lowers k p l) where
   -- an effect
   pub effect_alike : (r s place : ℕ) (e : Effect) (effects : List Effect) (todo : Block) (c : Configuration) → IsRegionOf k r → InRegion k r s →
       Live k p.root l r (stand.Acting s (e ∷ effects) place) (Todo todo) →
-      Both (SameDeed k p.root l c.variables r) (chart_deed k c r (stand.Acting s (e ∷ effects) place)) (first_step p c.variables r todo)
+      Both (SameChange k p.root l c.variables r) (region_change k c r (stand.Acting s (e ∷ effects) place)) (first_step p c.variables r todo)
   effect_alike r s place e effects todo c at_r from live =
       let h : Acts p.root (l.begin (state_in k r place)) (e ∷ effects) todo = live.2 in
       let on : Onward k p.root l r (acts k r s effects place) h.1 = acts_on r s place effects h.1 at_r from live.1 h.3 in
-      subst (λ b. Both (SameDeed k p.root l c.variables r) (chart_deed k c r (stand.Acting s (e ∷ effects) place)) (first_step p c.variables r b))
+      subst (λ b. Both (SameChange k p.root l c.variables r) (region_change k c r (stand.Acting s (e ∷ effects) place)) (first_step p c.variables r b))
       (sym (is_there p.root todo (Assign h.0 e.variable e.value h.1) live.0 h.2))
-      (subst (λ xs. Both (SameDeed k p.root l c.variables r) (chart_deed k c r (stand.Acting s (e ∷ effects) place))
+      (subst (λ xs. Both (SameChange k p.root l c.variables r) (region_change k c r (stand.Acting s (e ∷ effects) place))
       (option_and_then (λ v. only_if (takes_kind (option_map (λ a. a.kind) (slice_get xs e.variable)) (kind_of v))
       (goes_on p.root r (Put e.variable v) h.1)) (value_of e.value c.variables))) (sym low.variables)
       (by_value h.1 on (value_of e.value c.variables)))
     where
       by_kind : (rest : Block) → Onward k p.root l r (acts k r s effects place) rest → (v : Value) (b : Bool) →
-          Both (SameDeed k p.root l c.variables r)
+          Both (SameChange k p.root l c.variables r)
           (only_if b (Some (record { write = Some (record { variable = e.variable; value = v }); moves = acts k r s effects place })))
           (only_if b (goes_on p.root r (Put e.variable v) rest))
       by_kind rest on v false = tt
       by_kind rest on v true =
-          subst (λ o. Both (SameDeed k p.root l c.variables r)
+          subst (λ o. Both (SameChange k p.root l c.variables r)
           (Some (record { write = Some (record { variable = e.variable; value = v }); moves = acts k r s effects place }))
           (option_map (λ k. record { change = Put e.variable v; moves = (r, Todo k) ∷ [] }) o)) (sym on.is)
           (record { change = refl; doing = Todo on.first; moves = refl; comes = on.comes })
 
       by_value : (rest : Block) → Onward k p.root l r (acts k r s effects place) rest → (v : Option Value) →
-          Both (SameDeed k p.root l c.variables r) (option_and_then (effected k r s e effects place) v)
+          Both (SameChange k p.root l c.variables r) (option_and_then (effected k r s e effects place) v)
           (option_and_then (λ v. only_if (takes_kind (option_map (λ a. a.kind) (slice_get k.variables e.variable)) (kind_of v))
           (goes_on p.root r (Put e.variable v) rest)) v)
       by_value rest on None = tt

@@ -11,8 +11,8 @@ use Rattle.scl.specs.Block.{Block, End, Assign, Label, Goto, Pause, If, Fork, Br
 use Rattle.scl.specs.Labels.{before, settled}
 use Rattle.scl.specs.Places.{threads_of}
 use Rattle.scl.specs.Numbering.{Numbered}
-use Rattle.scl.specs.Meaning.{State, Doing, Away, Todo, Forked, Resting, Resuming, Finished, Deed, doing, step, all_finished, joined, forked, entered}
-use Rattle.scl.specs.Meaning.{all_entered, goes_on, assigned, chosen, after, deed_of, moved}
+use Rattle.scl.specs.Meaning.{State, Doing, Away, Todo, Forked, Resting, Resuming, Finished, ThreadChange, doing, step, all_finished, joined, forked, entered}
+use Rattle.scl.specs.Meaning.{all_entered, goes_on, assigned, chosen, after, change_of, moved}
 use Rattle.scl_graph_laws.proofs.Members.{contains_head, contains_tail}
 use Rattle.chart_lowering_laws.proofs.Stepping.{set_doing_other}
 use Rattle.chart_lowering_laws.proofs.Silently.{doing_in}
@@ -24,18 +24,22 @@ is_forked (Forked n branches rest) = true
 is_forked other = false
 
 -- the thread alone
-pub record OneMove (e : Deed) (t : ℕ) : Type 0 where
+pub record OneMove (e : ThreadChange) (t : ℕ) : Type 0 where
   d : Doing
   is : e.moves ≡ (t, d) ∷ []
 
-one_onward : (root : Block) (t : ℕ) (change : Change) (rest : Block) (e : Deed) → goes_on root t change rest ≡ Some e → OneMove e t
+one_onward : (root : Block) (t : ℕ) (change : Change) (rest : Block) (e : ThreadChange) → goes_on root t change rest ≡ Some e → OneMove e t
 one_onward root t change rest e h = by (settled root rest) h
   where
     by : (o : Option Block) → option_map (λ todo. record { change = change; moves = (t, Todo todo) ∷ [] }) o ≡ Some e → OneMove e t
     by None h = absurd (none-some e h)
-    by (Some todo) h = record { d = Todo todo; is = sym (ap (λ (x : Deed). x.moves) (same_Some (record { change = change; moves = (t, Todo todo) ∷ [] }) e h)) }
+    by (Some todo) h = record {
+      d = Todo todo;
+      is = sym (ap (λ (x : ThreadChange). x.moves)
+          (same_Some (record { change = change; moves = (t, Todo todo) ∷ [] }) e h));
+    }
 
-one_assigned : (p : Numbered) (t x : ℕ) (rest : Block) (o : Option Value) (e : Deed) → option_and_then (assigned p t x rest) o ≡ Some e → OneMove e t
+one_assigned : (p : Numbered) (t x : ℕ) (rest : Block) (o : Option Value) (e : ThreadChange) → option_and_then (assigned p t x rest) o ≡ Some e → OneMove e t
 one_assigned p t x rest None e h = absurd (none-some e h)
 one_assigned p t x rest (Some v) e h = by (takes_kind (option_map (λ a. a.kind) (slice_get p.variables x)) (kind_of v)) h
   where
@@ -43,7 +47,7 @@ one_assigned p t x rest (Some v) e h = by (takes_kind (option_map (λ a. a.kind)
     by true h = one_onward p.root t (Put x v) rest e h
     by false h = absurd (none-some e h)
 
-one_chosen : (p : Numbered) (t : ℕ) (a b : Block) (o : Option Value) (e : Deed) → option_and_then (chosen p t a b) o ≡ Some e → OneMove e t
+one_chosen : (p : Numbered) (t : ℕ) (a b : Block) (o : Option Value) (e : ThreadChange) → option_and_then (chosen p t a b) o ≡ Some e → OneMove e t
 one_chosen p t a b None e h = absurd (none-some e h)
 one_chosen p t a b (Some (value.Bool true)) e h = one_onward p.root t Keep a e h
 one_chosen p t a b (Some (value.Bool false)) e h = one_onward p.root t Keep b e h
@@ -70,26 +74,26 @@ module _ (p : Numbered) (s : State) (t : ℕ) (f : State) (steps : step p t s �
     (not_entered : (n : ℕ) (branches : Branches) (rest : Block) → doing s t ≡ Todo (Fork n branches rest) → ¬ Contains (threads_of branches) a)
     (not_joined : (n : ℕ) (branches : Branches) (rest : Block) → doing s t ≡ Forked n branches rest → all_finished s (threads_of branches) ≡ true →
     ¬ Contains (threads_of branches) a) where
-  by_one : (e : Deed) → OneMove e t → doing (after e s) a ≡ doing s a
+  by_one : (e : ThreadChange) → OneMove e t → doing (after e s) a ≡ doing s a
   by_one e one = ap (λ ms. doing_in (moved ms s.threads) a) one.is ∙ set_doing_other s.threads t a one.d (λ same. differ (sym same))
 
-  deed_other : (y : Doing) → doing s t ≡ y → (e : Deed) → deed_of p s t y ≡ Some e → doing (after e s) a ≡ doing s a
-  deed_other Away is e h = absurd (none-some e h)
-  deed_other Finished is e h = absurd (none-some e h)
-  deed_other (Resting n rest) is e h = absurd (none-some e h)
-  deed_other (Resuming n rest) is e h = by_one e (one_onward p.root t Keep rest e h)
-  deed_other (Todo (End n)) is e h =
-      by_one e (record { d = Finished; is = sym (ap (λ (x : Deed). x.moves) (same_Some (record { change = Keep; moves = (t, Finished) ∷ [] }) e h)) })
-  deed_other (Todo (Assign n x v rest)) is e h = by_one e (one_assigned p t x rest (value_of v s.variables) e h)
-  deed_other (Todo (Label name rest)) is e h = absurd (none-some e h)
-  deed_other (Todo (Goto g name rest)) is e h = absurd (none-some e h)
-  deed_other (Todo (Pause n rest)) is e h =
+  change_other : (y : Doing) → doing s t ≡ y → (e : ThreadChange) → change_of p s t y ≡ Some e → doing (after e s) a ≡ doing s a
+  change_other Away is e h = absurd (none-some e h)
+  change_other Finished is e h = absurd (none-some e h)
+  change_other (Resting n rest) is e h = absurd (none-some e h)
+  change_other (Resuming n rest) is e h = by_one e (one_onward p.root t Keep rest e h)
+  change_other (Todo (End n)) is e h =
+      by_one e (record { d = Finished; is = sym (ap (λ (x : ThreadChange). x.moves) (same_Some (record { change = Keep; moves = (t, Finished) ∷ [] }) e h)) })
+  change_other (Todo (Assign n x v rest)) is e h = by_one e (one_assigned p t x rest (value_of v s.variables) e h)
+  change_other (Todo (Label name rest)) is e h = absurd (none-some e h)
+  change_other (Todo (Goto g name rest)) is e h = absurd (none-some e h)
+  change_other (Todo (Pause n rest)) is e h =
       by_one e (record {
         d = Resting n rest;
-        is = sym (ap (λ (x : Deed). x.moves) (same_Some (record { change = Keep; moves = (t, Resting n rest) ∷ [] }) e h));
+        is = sym (ap (λ (x : ThreadChange). x.moves) (same_Some (record { change = Keep; moves = (t, Resting n rest) ∷ [] }) e h));
       })
-  deed_other (Todo (If n v x y rest)) is e h = by_one e (one_chosen p t (before x rest) (before y rest) (value_of v s.variables) e h)
-  deed_other (Todo (Fork n branches rest)) is e h = by (all_entered p.root branches) refl h
+  change_other (Todo (If n v x y rest)) is e h = by_one e (one_chosen p t (before x rest) (before y rest) (value_of v s.variables) e h)
+  change_other (Todo (Fork n branches rest)) is e h = by (all_entered p.root branches) refl h
     where
       by : (o : Option (List (ℕ × Doing))) → all_entered p.root branches ≡ o → option_map (forked t (Forked n branches rest)) o ≡ Some e →
           doing (after e s) a ≡ doing s a
@@ -98,7 +102,7 @@ module _ (p : Numbered) (s : State) (t : ℕ) (f : State) (steps : step p t s �
           ap (λ x. doing (after x s) a) (sym (same_Some (forked t (Forked n branches rest) moves) e h))
           ∙ entered_others p.root branches moves all (set s.threads t (Forked n branches rest)) a (not_entered n branches rest is)
           ∙ set_doing_other s.threads t a (Forked n branches rest) (λ same. differ (sym same))
-  deed_other (Forked n branches rest) is e h = by (all_finished s (threads_of branches)) refl h
+  change_other (Forked n branches rest) is e h = by (all_finished s (threads_of branches)) refl h
     where
       by_todo : all_finished s (threads_of branches) ≡ true → (o : Option Block) → option_map (joined t (threads_of branches)) o ≡ Some e →
           doing (after e s) a ≡ doing s a
@@ -116,6 +120,6 @@ module _ (p : Numbered) (s : State) (t : ℕ) (f : State) (steps : step p t s �
   -- a thread that is neither entered nor joined is left as it is
   pub left_alone : doing f a ≡ doing s a
   left_alone =
-      let some : (e : Deed) × (deed_of p s t (doing s t) ≡ Some e) = map_some (λ e. after e s) (deed_of p s t (doing s t)) f steps in
+      let some : (e : ThreadChange) × (change_of p s t (doing s t) ≡ Some e) = map_some (λ e. after e s) (change_of p s t (doing s t)) f steps in
       let is : after some.0 s ≡ f = same_Some (after some.0 s) f (sym (ap (option_map (λ e. after e s)) some.1) ∙ steps) in
-      ap (λ x. doing x a) (sym is) ∙ deed_other (doing s t) refl some.0 some.1
+      ap (λ x. doing x a) (sym is) ∙ change_other (doing s t) refl some.0 some.1

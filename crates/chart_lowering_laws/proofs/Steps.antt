@@ -9,20 +9,20 @@ use Rattle.core_charts.specs.declared.region.Transition.{Transition}
 use Rattle.chart_machine.specs.declared.standing.Standing.{Standing}
 use Rattle.chart_machine.specs.declared.standing.Standing.TheVariants as stand
 use Rattle.chart_machine.specs.declared.standing.Configuration.{Configuration}
-use Rattle.chart_machine.specs.declared.deed.Deed.{Deed as ChartDeed}
+use Rattle.chart_machine.specs.declared.region_change.RegionChange.{RegionChange}
 use Rattle.chart_machine.specs.declared.table.Table.{Table}
 use Rattle.chart_machine.specs.Table.{state_at, region_at}
 use Rattle.chart_machine.specs.Turns.{standing_of, guards, has_work, is_guarded, inside_is_done, is_enabled}
 use Rattle.chart_machine.specs.Steps.{moved, written, taken}
-use Rattle.chart_machine.specs.Steps.{after as chart_after, step as chart_step, deed_of as chart_deed}
+use Rattle.chart_machine.specs.Steps.{after as chart_after, step as chart_step, change_of as region_change}
 use Rattle.scl.specs.Block.{Block}
 use Rattle.scl.specs.Numbering.{Numbered}
-use Rattle.scl.specs.Meaning.{State, Doing, Todo, Deed, doing, after, first_step, deed_of, step}
+use Rattle.scl.specs.Meaning.{State, Doing, Todo, ThreadChange, doing, after, first_step, change_of, step}
 use Rattle.scl.specs.Meaning.{moved as threads_moved}
 use Rattle.scl_graph_laws.specs.Alike.{Both}
 use Rattle.chart_lowering_laws.specs.Layout.{Layout, IsRegionOf, Lowers}
 use Rattle.chart_lowering_laws.specs.Corresponds.{Live, HeldBy, Giving, Nothing, Ready, Turn, Past, given, fresh, first_standing, Fits, Corresponds}
-use Rattle.chart_lowering_laws.proofs.Matching.{Comes, SameDeed, is_within, test_alike, silent_test, effect_alike}
+use Rattle.chart_lowering_laws.proofs.Matching.{Comes, SameChange, is_within, test_alike, silent_test, effect_alike}
 use Rattle.chart_lowering_laws.proofs.Updating.{After}
 use Rattle.chart_lowering_laws.proofs.Stepping.{OneMoved, one_moved, none_moved, thread_within, stepped}
 
@@ -87,13 +87,13 @@ module _ (k : Table) (p : Numbered) (l : Layout) (low : Lowers k p l) where
 
     -- its step
     pub step_is : (r : ℕ) (x : Standing) → standing_of c r ≡ x → has_work k c x ≡ true → inside_is_done k c x ≡ true →
-        chart_step k r c ≡ option_map (λ d. chart_after d c) (chart_deed k c r x)
+        chart_step k r c ≡ option_map (λ d. chart_after d c) (region_change k c r x)
     step_is r x is work done =
-        ap (λ b. only_if b (option_map (λ d. chart_after d c) (chart_deed k c r (standing_of c r)))) (enabled_by r x is work done)
-        ∙ ap (λ y. option_map (λ d. chart_after d c) (chart_deed k c r y)) is
+        ap (λ b. only_if b (option_map (λ d. chart_after d c) (region_change k c r (standing_of c r)))) (enabled_by r x is work done)
+        ∙ ap (λ y. option_map (λ d. chart_after d c) (region_change k c r y)) is
 
     both_steps : (r : ℕ) → IsRegionOf k r → given k c s (region_at k r).around ≡ Turn → is_within (standing_of c r) ≡ false →
-        (x : Option ChartDeed) (y : Option Deed) → Both (SameDeed k p.root l c.variables r) x y →
+        (x : Option RegionChange) (y : Option ThreadChange) → Both (SameChange k p.root l c.variables r) x y →
         Both (After k p l c r) (option_map (λ d. chart_after d c) x) (option_map (λ d. after d s) y)
     both_steps r at_r turn closed None None same = tt
     both_steps r at_r turn closed (Some d) None same = absurd same
@@ -113,8 +113,8 @@ module _ (k : Table) (p : Numbered) (l : Layout) (low : Lowers k p l) where
       live_as x d stands is = subst (λ d. Live k p.root l r x d × HeldBy k p.root l r x) is
           (subst (λ y. Live k p.root l r y (doing s r) × HeldBy k p.root l r y) stands fits)
 
-      pub thread_step : (d : Doing) → doing s r ≡ d → step p r s ≡ option_map (λ e. after e s) (deed_of p s r d)
-      thread_step d is = ap (λ d. option_map (λ e. after e s) (deed_of p s r d)) is
+      pub thread_step : (d : Doing) → doing s r ≡ d → step p r s ≡ option_map (λ e. after e s) (change_of p s r d)
+      thread_step d is = ap (λ d. option_map (λ e. after e s) (change_of p s r d)) is
 
       -- a test with a trigger
       pub tests_alike : (u : ℕ) (t : Transition) (tests : List Transition) (e : Expr) (todo : Block) → standing_of c r ≡ stand.Trying u (t ∷ tests) →
@@ -124,9 +124,9 @@ module _ (k : Table) (p : Numbered) (l : Layout) (low : Lowers k p l) where
           let x : Standing = stand.Trying u (t ∷ tests) in
           let now : Live k p.root l r x (Todo todo) × HeldBy k p.root l r x = live_as x (Todo todo) stands is in
           subst (λ o. Both (After k p l c r) o (step p r s)) (sym (step_is r x stands refl refl))
-          (subst (λ o. Both (After k p l c r) (option_map (λ d. chart_after d c) (chart_deed k c r x)) o) (sym (thread_step (Todo todo) is))
-          (both_steps r at_r turn (ap is_within stands) (chart_deed k c r x) (first_step p s.variables r todo)
-          (subst (λ vs. Both (SameDeed k p.root l c.variables r) (chart_deed k c r x) (first_step p vs r todo)) corr.variables
+          (subst (λ o. Both (After k p l c r) (option_map (λ d. chart_after d c) (region_change k c r x)) o) (sym (thread_step (Todo todo) is))
+          (both_steps r at_r turn (ap is_within stands) (region_change k c r x) (first_step p s.variables r todo)
+          (subst (λ vs. Both (SameChange k p.root l c.variables r) (region_change k c r x) (first_step p vs r todo)) corr.variables
           (test_alike k p l low r u at_r now.1.0 now.1.1 c t tests e todo trigger now.0))))
 
       -- a test without one
@@ -136,7 +136,7 @@ module _ (k : Table) (p : Numbered) (l : Layout) (low : Lowers k p l) where
       tests_silently u t tests todo stands trigger is =
           let x : Standing = stand.Trying u (t ∷ tests) in
           let now : Live k p.root l r x (Todo todo) × HeldBy k p.root l r x = live_as x (Todo todo) stands is in
-          let test : (chart_deed k c r x ≡ Some (record { write = None; moves = taken k r u t })) × Comes k p.root l r (taken k r u t) (Todo todo) =
+          let test : (region_change k c r x ≡ Some (record { write = None; moves = taken k r u t })) × Comes k p.root l r (taken k r u t) (Todo todo) =
           silent_test k p l low r u at_r now.1.0 now.1.1 c t tests todo trigger now.0 in (
             record { variables = c.variables; regions = moved (taken k r u t) c.regions },
             step_is r x stands refl refl ∙ ap (option_map (λ d. chart_after d c)) test.0,
@@ -152,7 +152,7 @@ module _ (k : Table) (p : Numbered) (l : Layout) (low : Lowers k p l) where
           let x : Standing = stand.Acting u (e ∷ effects) place in
           let now : Live k p.root l r x (Todo todo) × HeldBy k p.root l r x = live_as x (Todo todo) stands is in
           subst (λ o. Both (After k p l c r) o (step p r s)) (sym (step_is r x stands refl refl))
-          (subst (λ o. Both (After k p l c r) (option_map (λ d. chart_after d c) (chart_deed k c r x)) o) (sym (thread_step (Todo todo) is))
-          (both_steps r at_r turn (ap is_within stands) (chart_deed k c r x) (first_step p s.variables r todo)
-          (subst (λ vs. Both (SameDeed k p.root l c.variables r) (chart_deed k c r x) (first_step p vs r todo)) corr.variables
+          (subst (λ o. Both (After k p l c r) (option_map (λ d. chart_after d c) (region_change k c r x)) o) (sym (thread_step (Todo todo) is))
+          (both_steps r at_r turn (ap is_within stands) (region_change k c r x) (first_step p s.variables r todo)
+          (subst (λ vs. Both (SameChange k p.root l c.variables r) (region_change k c r x) (first_step p vs r todo)) corr.variables
           (effect_alike k p l low r u place e effects todo c at_r now.1 now.0))))

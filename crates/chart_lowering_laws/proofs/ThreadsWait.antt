@@ -18,7 +18,8 @@ use Rattle.scl.specs.Labels.{settled}
 use Rattle.scl.specs.Places.{threads_of}
 use Rattle.scl.specs.Places.{ForkedApart as ThreadsApart}
 use Rattle.scl.specs.Numbering.{Numbered}
-use Rattle.scl.specs.Meaning.{State, Doing, Away, Todo, Forked, Resting, Resuming, Finished, Deed, doing, step, machine, all_finished, joined, after, deed_of}
+use Rattle.scl.specs.Meaning.{State, Doing, Away, Todo, Forked, Resting, Resuming, Finished, ThreadChange, doing}
+use Rattle.scl.specs.Meaning.{step, machine, all_finished, joined, after, change_of}
 use Rattle.chart_lowering_laws.proofs.Updating.{After}
 use Rattle.chart_lowering_laws.proofs.Showing.{test_shows, effect_shows}
 use Rattle.chart_lowering_laws.specs.Layout.{Layout, LiesIn, IsRegionOf, Lowers, Behind}
@@ -171,8 +172,8 @@ module _ (k : Table) (p : Numbered) (l : Layout) (low : Lowers k p l) where
             corr.threads in inr (omega arith, omega (arith, less, same))
 
     module _ (t : ℕ) (f : State) (steps : step p t s ≡ Some f) where
-      none_of : (y : Doing) → doing s t ≡ y → deed_of p s t y ≡ None → ⊥
-      none_of y is none = none-some f (sym (ap (λ z. option_map (λ e. after e s) (deed_of p s t z)) is ∙ ap (option_map (λ e. after e s)) none) ∙ steps)
+      none_of : (y : Doing) → doing s t ≡ y → change_of p s t y ≡ None → ⊥
+      none_of y is none = none-some f (sym (ap (λ z. option_map (λ e. after e s) (change_of p s t z)) is ∙ ap (option_map (λ e. after e s)) none) ∙ steps)
 
       here : doing s t ≢ Away
       here is = none_of Away is refl
@@ -256,10 +257,11 @@ module _ (k : Table) (p : Numbered) (l : Layout) (low : Lowers k p l) where
           other (inr i) differ =
               inr (i.0, ap ended_doing (subst (λ w. doing f w ≡ doing s w) (sym i.0) (left_root (λ is. differ (i.0 ∙ is)))) ∙ i.1)
 
-          goes_to : (y d : Doing) → doing s t ≡ y → deed_of p s t y ≡ Some (record { change = Keep; moves = (t, d) ∷ [] }) → doing f t ≡ d
-          goes_to y d is deed =
-              let e : Deed = record { change = Keep; moves = (t, d) ∷ [] } in
-              let goes : step p t s ≡ Some (after e s) = ap (λ z. option_map (λ x. after x s) (deed_of p s t z)) is ∙ ap (option_map (λ x. after x s)) deed in
+          goes_to : (y d : Doing) → doing s t ≡ y → change_of p s t y ≡ Some (record { change = Keep; moves = (t, d) ∷ [] }) → doing f t ≡ d
+          goes_to y d is change =
+              let e : ThreadChange = record { change = Keep; moves = (t, d) ∷ [] } in
+              let goes : step p t s ≡ Some (after e s) = ap (λ z. option_map (λ x. after x s) (change_of p s t z)) is ∙
+              ap (option_map (λ x. after x s)) change in
               ap (λ x. doing x t) (sym (same_Some (after e s) f (sym goes ∙ steps)))
               ∙ set_doing_same s.threads t d (thread_within k p l low c s corr t (number_of t here))
 
@@ -301,10 +303,10 @@ module _ (k : Table) (p : Numbered) (l : Layout) (low : Lowers k p l) where
         where
           finished : (n : ℕ) (branches : Branches) (rest : Block) → doing s t ≡ Forked n branches rest → all_finished s (threads_of branches) ≡ true
           finished n branches rest is =
-              let deed : option_map (λ e. after e s) (deed_of p s t (Forked n branches rest)) ≡ Some f =
-              sym (ap (λ y. option_map (λ e. after e s) (deed_of p s t y)) is) ∙ steps in
-              let some : (e : Deed) × (deed_of p s t (Forked n branches rest) ≡ Some e) = map_some (λ e. after e s)
-              (deed_of p s t (Forked n branches rest)) f deed in
+              let change : option_map (λ e. after e s) (change_of p s t (Forked n branches rest)) ≡ Some f =
+              sym (ap (λ y. option_map (λ e. after e s) (change_of p s t y)) is) ∙ steps in
+              let some : (e : ThreadChange) × (change_of p s t (Forked n branches rest) ≡ Some e) = map_some (λ e. after e s)
+              (change_of p s t (Forked n branches rest)) f change in
               only_true (all_finished s (threads_of branches)) (option_map (joined t (threads_of branches)) (settled p.root rest)) some.0 some.1
 
           of_root : (n : ℕ) (branches : Branches) (rest : Block) → t ≡ zero → doing s t ≡ Forked n branches rest → (thread_shows s t ≡ true) ⊎ Dead f t

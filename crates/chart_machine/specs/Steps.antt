@@ -9,8 +9,8 @@ use Rattle.sc_values.specs.Expr.{value as value_of}
 use Rattle.sc_values.specs.Access.{Access, Nothing, no_access}
 use Rattle.sc_values.specs.Assignment.{reads, assignment_of, access_of_assignment}
 use Rattle.sc_graph.specs.Steps.{only_if, takes_kind}
-use Rattle.chart_machine.specs.declared.deed.Deed.{Deed}
-use Rattle.chart_machine.specs.declared.deed.Write.{Write}
+use Rattle.chart_machine.specs.declared.region_change.RegionChange.{RegionChange}
+use Rattle.chart_machine.specs.declared.region_change.Write.{Write}
 use Rattle.core_charts.specs.declared.region.Effect.{Effect}
 use Rattle.core_charts.specs.declared.region.Transition.{Transition}
 use Rattle.chart_machine.specs.declared.standing.Standing.{Standing}
@@ -35,7 +35,7 @@ abbrev pub written : Option Write → List Value → List Value
 written None variables = variables
 written (Some w) variables = slice_set variables w.variable w.value
 
-abbrev pub after : Deed → Configuration → Configuration
+abbrev pub after : RegionChange → Configuration → Configuration
 after d c = record { variables = written d.write c.variables; regions = moved d.moves c.regions }
 
 abbrev pub truth : Value → Option Bool
@@ -65,7 +65,7 @@ abbrev pub taken : Table → ℕ → ℕ → Transition → List Move
 taken k r s t = dropped k s ++ acts k r s t.effects t.target
 
 -- a test: where it is true its transition is taken, else these moves are made
-abbrev pub tested : Table → Configuration → ℕ → ℕ → Transition → List Move → Option Deed
+abbrev pub tested : Table → Configuration → ℕ → ℕ → Transition → List Move → Option RegionChange
 tested k c r s t otherwise =
     option_map (λ holds. record { write = None; moves = if holds then taken k r s t else otherwise })
     (verdict c.variables t.trigger)
@@ -80,23 +80,23 @@ abbrev pub guarding_on : Table → ℕ → ℕ → List Transition → List Move
 guarding_on k r s [] = to r (at.Within s (closing_tests (state_at k s).transitions)) ∷ []
 guarding_on k r s (t ∷ tests) = to r (at.Guarding s (t ∷ tests)) ∷ []
 
-abbrev pub effected : Table → ℕ → ℕ → Effect → List Effect → ℕ → Value → Option Deed
+abbrev pub effected : Table → ℕ → ℕ → Effect → List Effect → ℕ → Value → Option RegionChange
 effected k r s e effects target v =
     only_if (takes_kind (option_map (λ x. x.kind) (slice_get k.variables e.variable)) (kind_of v))
     (Some (record { write = Some (record { variable = e.variable; value = v }); moves = acts k r s effects target }))
 
-abbrev pub deed_of : Table → Configuration → ℕ → Standing → Option Deed
-deed_of k c r (at.Trying s (t ∷ tests)) = tested k c r s t (to r (at.Trying s tests) ∷ [])
-deed_of k c r (at.Entering s (t ∷ tests)) = tested k c r s t (entering_on k r s tests)
-deed_of k c r (at.Guarding s (t ∷ tests)) = tested k c r s t (guarding_on k r s tests)
-deed_of k c r (at.Within s (t ∷ tests)) = tested k c r s t (to r (at.Within s tests) ∷ [])
-deed_of k c r (at.Acting s (e ∷ effects) target) =
+abbrev pub change_of : Table → Configuration → ℕ → Standing → Option RegionChange
+change_of k c r (at.Trying s (t ∷ tests)) = tested k c r s t (to r (at.Trying s tests) ∷ [])
+change_of k c r (at.Entering s (t ∷ tests)) = tested k c r s t (entering_on k r s tests)
+change_of k c r (at.Guarding s (t ∷ tests)) = tested k c r s t (guarding_on k r s tests)
+change_of k c r (at.Within s (t ∷ tests)) = tested k c r s t (to r (at.Within s tests) ∷ [])
+change_of k c r (at.Acting s (e ∷ effects) target) =
     option_and_then (effected k r s e effects target) (value_of e.value c.variables)
-deed_of k c r other = None
+change_of k c r other = None
 
 -- None where the region isn't enabled or its step is undefined
 abbrev pub step : Table → ℕ → Configuration → Option Configuration
-step k r c = only_if (is_enabled k c r) (option_map (λ d. after d c) (deed_of k c r (standing_of c r)))
+step k r c = only_if (is_enabled k c r) (option_map (λ d. after d c) (change_of k c r (standing_of c r)))
 
 abbrev pub access_of_trigger : Option Expr → Access
 access_of_trigger None = no_access

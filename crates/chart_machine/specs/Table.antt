@@ -54,7 +54,7 @@ abbrev pub region_numbers : List Piece → ℕ → List ℕ
 region_numbers [] n = []
 region_numbers (p ∷ regions) n = n ∷ region_numbers regions (n + p.regions)
 
--- what is inside a superstate of this scene
+-- what is inside a superstate of this position
 abbrev pub within : TablePosition → TablePosition
 within at = record at { state = suc at.state; around = at.state ∷ at.around }
 
@@ -115,14 +115,14 @@ followed_by a b = record {
   entered = a.entered ++ b.entered;
 }
 
--- a scene with this number for the next region
+-- a position with this number for the next region
 abbrev pub with_region : ℕ → TablePosition → TablePosition
 with_region n at = record at { region = n }
 
 abbrev pub past_states : ℕ → TablePosition → TablePosition
 past_states n at = record at { state = at.state + n }
 
--- what one state of a region gives: the regions inside the initial one have the numbers from the scene's on, those
+-- what one state of a region gives: the regions inside the initial one have the numbers from the position's on, those
 -- inside another one the numbers from next on
 abbrev pub rows_of_state_at : Bool → (TablePosition → SubtreeRows) → ℕ → TablePosition → StatesRows
 rows_of_state_at true parts next at =
@@ -157,7 +157,7 @@ abbrev pub regions_in_initial : List Piece → ℕ
 regions_in_initial [] = 0
 regions_in_initial (p ∷ states) = (if p.is_initial then p.regions else 0) + regions_in_initial states
 
--- inside the region that comes next at a scene
+-- inside the region that comes next at a position
 abbrev pub inside_region : TablePosition → TablePosition
 inside_region at = record at { region = suc at.region; holder = at.region }
 

@@ -5,10 +5,10 @@ ghost use Rattle.sc_values.specs.Operator.{kind_of};
 ghost use Rattle.sc_graph.specs.Steps.{takes_kind};
 ghost use Rattle.chart_machine.specs.declared.standing.Standing.TheVariants as at;
 ghost use Rattle.chart_machine.specs.Turns.{standing_of};
-ghost use Rattle.chart_machine.specs.Steps.{effected, deed_of, step};
+ghost use Rattle.chart_machine.specs.Steps.{effected, change_of, step};
 
-use crate::deed::{Deed, Write};
 use crate::evaluating::value_of;
+use crate::region_change::{RegionChange, Write};
 use crate::standing::{Configuration, Standing};
 use crate::stepping::only_move;
 use crate::table::Table;
@@ -39,14 +39,14 @@ impl Table {
         rest: &[Effect],
         target: u32,
         value: Value,
-    ) -> Result<Option<Deed>, AllocError>
-        ensures { IfOk result (λ deed. deed ≡ effected self.now region state effect.now rest.now target value) }
+    ) -> Result<Option<RegionChange>, AllocError>
+        ensures { IfOk result (λ change. change ≡ effected self.now region state effect.now rest.now target value) }
     {
         if !self.takes(effect.variable, value) {
             return Ok(None);
         }
         let moves = self.acts(alloc, region, state, rest, target)?;
-        Ok(Some(Deed {
+        Ok(Some(RegionChange {
             write: Some(Write {
                 variable: effect.variable,
                 value,
@@ -63,8 +63,9 @@ impl Table {
         state: usize,
         effects: &[Effect],
         target: u32,
-    ) -> Result<Option<Deed>, AllocError>
-        ensures { IfOk result (λ deed. deed ≡ deed_of self.now c.now region (at.Acting state effects.now target)) }
+    ) -> Result<Option<RegionChange>, AllocError>
+        ensures { IfOk result
+            (λ change. change ≡ change_of self.now c.now region (at.Acting state effects.now target)) }
     {
         let Some((effect, rest)) = effects.split_first() else {
             return Ok(None);
@@ -72,8 +73,8 @@ impl Table {
         let Some(value) = value_of(&effect.value, c.variables.as_slice()) else {
             return Ok(None);
         };
-        let deed = self.effected(alloc, region, state, effect, rest, target, value)?;
-        Ok(deed)
+        let change = self.effected(alloc, region, state, effect, rest, target, value)?;
+        Ok(change)
     }
 
     fn tried(
@@ -83,16 +84,16 @@ impl Table {
         region: usize,
         state: usize,
         tests: &[Transition],
-    ) -> Result<Option<Deed>, AllocError>
-        ensures { IfOk result (λ deed. deed ≡ deed_of self.now c.now region (at.Trying state tests.now)) }
+    ) -> Result<Option<RegionChange>, AllocError>
+        ensures { IfOk result (λ change. change ≡ change_of self.now c.now region (at.Trying state tests.now)) }
     {
         let Some((test, rest)) = tests.split_first() else {
             return Ok(None);
         };
         let tests = copied_transitions(alloc, rest)?;
         let otherwise = only_move(alloc, region, Standing::Trying { state, tests })?;
-        let deed = self.tested(alloc, c, region, state, test, otherwise)?;
-        Ok(deed)
+        let change = self.tested(alloc, c, region, state, test, otherwise)?;
+        Ok(change)
     }
 
     fn come(
@@ -102,15 +103,15 @@ impl Table {
         region: usize,
         state: usize,
         tests: &[Transition],
-    ) -> Result<Option<Deed>, AllocError>
-        ensures { IfOk result (λ deed. deed ≡ deed_of self.now c.now region (at.Entering state tests.now)) }
+    ) -> Result<Option<RegionChange>, AllocError>
+        ensures { IfOk result (λ change. change ≡ change_of self.now c.now region (at.Entering state tests.now)) }
     {
         let Some((test, rest)) = tests.split_first() else {
             return Ok(None);
         };
         let otherwise = self.entering_on(alloc, region, state, rest)?;
-        let deed = self.tested(alloc, c, region, state, test, otherwise)?;
-        Ok(deed)
+        let change = self.tested(alloc, c, region, state, test, otherwise)?;
+        Ok(change)
     }
 
     fn guarded(
@@ -120,15 +121,15 @@ impl Table {
         region: usize,
         state: usize,
         tests: &[Transition],
-    ) -> Result<Option<Deed>, AllocError>
-        ensures { IfOk result (λ deed. deed ≡ deed_of self.now c.now region (at.Guarding state tests.now)) }
+    ) -> Result<Option<RegionChange>, AllocError>
+        ensures { IfOk result (λ change. change ≡ change_of self.now c.now region (at.Guarding state tests.now)) }
     {
         let Some((test, rest)) = tests.split_first() else {
             return Ok(None);
         };
         let otherwise = self.guarding_on(alloc, region, state, rest)?;
-        let deed = self.tested(alloc, c, region, state, test, otherwise)?;
-        Ok(deed)
+        let change = self.tested(alloc, c, region, state, test, otherwise)?;
+        Ok(change)
     }
 
     fn closed(
@@ -138,26 +139,26 @@ impl Table {
         region: usize,
         state: usize,
         tests: &[Transition],
-    ) -> Result<Option<Deed>, AllocError>
-        ensures { IfOk result (λ deed. deed ≡ deed_of self.now c.now region (at.Within state tests.now)) }
+    ) -> Result<Option<RegionChange>, AllocError>
+        ensures { IfOk result (λ change. change ≡ change_of self.now c.now region (at.Within state tests.now)) }
     {
         let Some((test, rest)) = tests.split_first() else {
             return Ok(None);
         };
         let tests = copied_transitions(alloc, rest)?;
         let otherwise = only_move(alloc, region, Standing::Within { state, tests })?;
-        let deed = self.tested(alloc, c, region, state, test, otherwise)?;
-        Ok(deed)
+        let change = self.tested(alloc, c, region, state, test, otherwise)?;
+        Ok(change)
     }
 
-    fn deed_of(
+    fn change_of(
         &self,
         alloc: Global,
         c: &Configuration,
         region: usize,
         standing: &Standing,
-    ) -> Result<Option<Deed>, AllocError>
-        ensures { IfOk result (λ deed. deed ≡ deed_of self.now c.now region standing.now) }
+    ) -> Result<Option<RegionChange>, AllocError>
+        ensures { IfOk result (λ change. change ≡ change_of self.now c.now region standing.now) }
     {
         match standing {
             Standing::Outside | Standing::Ended => Ok(None),
@@ -197,9 +198,9 @@ impl Table {
         let Some(standing) = c.regions.get(region) else {
             return Ok(None);
         };
-        match self.deed_of(alloc, c, region, standing)? {
-            Some(deed) => {
-                let after = c.after(alloc, &deed)?;
+        match self.change_of(alloc, c, region, standing)? {
+            Some(change) => {
+                let after = c.after(alloc, &change)?;
                 Ok(Some(after))
             }
             None => Ok(None),

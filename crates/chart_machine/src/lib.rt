@@ -3,22 +3,22 @@
 
 mod chosen;
 mod copies;
-mod deed;
 mod doing;
 mod entering;
 mod evaluating;
 mod numbering;
+mod region_change;
 mod running;
-mod scenes;
 mod sizes;
 mod standing;
 mod starting;
 mod stepping;
 mod table;
+mod table_positions;
 mod tabling;
 mod turns;
 
-pub use deed::{Deed, Write};
+pub use change::{RegionChange, Write};
 pub use evaluating::value_of;
 pub use running::Ran;
 pub use standing::{Configuration, Move, Standing};

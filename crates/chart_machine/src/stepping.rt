@@ -7,8 +7,8 @@ ghost use Rattle.chart_machine.specs.Steps.{entering_on, guarding_on};
 
 use crate::chosen::{closing_tests, first_closing_tests};
 use crate::copies::copied_moves;
-use crate::deed::{Deed, Write};
 use crate::evaluating::verdict;
+use crate::region_change::{RegionChange, Write};
 use crate::standing::{Configuration, Move, Standing};
 use crate::table::Table;
 use core_charts::{Effect, Transition, copied_effects, copied_transitions};
@@ -68,12 +68,16 @@ fn put_value(variables: &mut Items<Value>, variable: usize, value: Value)
 }
 
 impl Configuration {
-    pub(crate) fn after(&self, alloc: Global, deed: &Deed) -> Result<Configuration, AllocError>
-        ensures { IfOk result (λ c. c ≡ after deed.now self.now) }
+    pub(crate) fn after(
+        &self,
+        alloc: Global,
+        change: &RegionChange,
+    ) -> Result<Configuration, AllocError>
+        ensures { IfOk result (λ c. c ≡ after change.now self.now) }
     {
         let mut after = self.copied(alloc)?;
-        write(&deed.write, &mut after.variables);
-        move_all(alloc, deed.moves.as_slice(), &mut after.regions)?;
+        write(&change.write, &mut after.variables);
+        move_all(alloc, change.moves.as_slice(), &mut after.regions)?;
         Ok(after)
     }
 }
@@ -199,15 +203,15 @@ impl Table {
         state: usize,
         test: &Transition,
         otherwise: Items<Move>,
-    ) -> Result<Option<Deed>, AllocError>
-        ensures { IfOk result (λ deed. deed ≡ tested self.now c.now region state test.now otherwise) }
+    ) -> Result<Option<RegionChange>, AllocError>
+        ensures { IfOk result (λ change. change ≡ tested self.now c.now region state test.now otherwise) }
     {
         match verdict(c.variables.as_slice(), &test.trigger) {
             Some(true) => {
                 let moves = self.taken(alloc, region, state, test)?;
-                Ok(Some(Deed { write: None, moves }))
+                Ok(Some(RegionChange { write: None, moves }))
             }
-            Some(false) => Ok(Some(Deed {
+            Some(false) => Ok(Some(RegionChange {
                 write: None,
                 moves: otherwise,
             })),

@@ -19,8 +19,8 @@ use Rattle.core_charts.specs.declared.region.Effect.{Effect}
 use Rattle.core_charts.specs.declared.region.Transition.{Transition}
 use Rattle.core_charts.specs.Rules.{kinds_of, IsEffect, depth_limit}
 use Rattle.core_charts.specs.Tests.{strong_aborts, closing_tests}
-use Rattle.chart_machine.specs.declared.deed.Deed.{Deed}
-use Rattle.chart_machine.specs.declared.deed.Write.{Write}
+use Rattle.chart_machine.specs.declared.region_change.RegionChange.{RegionChange}
+use Rattle.chart_machine.specs.declared.region_change.Write.{Write}
 use Rattle.chart_machine.specs.declared.standing.Configuration.{Configuration}
 use Rattle.chart_machine.specs.declared.standing.Move.{Move}
 use Rattle.chart_machine.specs.declared.standing.Standing.{Standing}
@@ -30,7 +30,7 @@ use Rattle.chart_machine.specs.declared.table.Table.{Table}
 use Rattle.chart_machine.specs.Table.{table, state_at, region_at}
 use Rattle.chart_machine.specs.Turns.{standing_of, has_work, is_guarded, inside, inside_is_done, is_enabled}
 use Rattle.chart_machine.specs.Steps.{to, moved, written, after, truth, verdict, state_in, dropped, acts, taken, tested, entering_on, guarding_on}
-use Rattle.chart_machine.specs.Steps.{effected, deed_of, step}
+use Rattle.chart_machine.specs.Steps.{effected, change_of, step}
 use Rattle.chart_machine.specs.Machine.{guarded_first, woken, is_outside, regions_at_start, start}
 use Rattle.chart_machine_laws.specs.Progress.{KeepKinds, IsReached, first, begun, stepped, ChartsNeverStick}
 use Rattle.chart_machine_laws.proofs.SoundRows.{SoundTest, SoundStanding, SoundMove, SoundRow, strong_sound, closing_sound, first_closing_sound}
@@ -93,11 +93,11 @@ module _ (k : Table) (rows : SoundTable k) where
   SoundWrite None = Unit {0}
   SoundWrite (Some w) = (x : Variable) × (slice_get k.variables w.variable ≡ Some x) × (kind_of w.value ≡ x.kind)
 
-  record HasDeed (o : Option Deed) : Type 0 where
-    deed : Deed
-    is : o ≡ Some deed
-    write : SoundWrite deed.write
-    moves : Moves deed.moves
+  record HasChange (o : Option RegionChange) : Type 0 where
+    change : RegionChange
+    is : o ≡ Some change
+    write : SoundWrite change.write
+    moves : Moves change.moves
 
   all_outside : (rs : List ℕ) → Moves (map (λ r. to r at.Outside) rs)
   all_outside [] = tt
@@ -129,11 +129,11 @@ module _ (k : Table) (rows : SoundTable k) where
         let b : (b : Bool) × (g.value ≡ value.Bool b) = of_bool g.value g.kind in
         (b.0, ap (option_and_then truth) g.is ∙ ap truth b.1)
 
-    tested_has : (r s : ℕ) (t : Transition) (otherwise : List Move) → SoundTest k.variables t → Moves otherwise → HasDeed (tested k c r s t otherwise)
+    tested_has : (r s : ℕ) (t : Transition) (otherwise : List Move) → SoundTest k.variables t → Moves otherwise → HasChange (tested k c r s t otherwise)
     tested_has r s t otherwise h others =
         let b : (b : Bool) × (verdict c.variables t.trigger ≡ Some b) = known t.trigger h.trigger in
         record {
-          deed = record { write = None; moves = if b.0 then taken k r s t else otherwise };
+          change = record { write = None; moves = if b.0 then taken k r s t else otherwise };
           is = ap (option_map (λ (holds : Bool). record { write = None; moves = if holds then taken k r s t else otherwise })) b.1;
           write = tt;
           moves = by b.0;
@@ -144,34 +144,34 @@ module _ (k : Table) (rows : SoundTable k) where
         by false = others
 
     effected_has : (r s : ℕ) (e : Effect) (effects : List Effect) (target : ℕ) → IsEffect k.variables e → Each (IsEffect k.variables) effects →
-        HasDeed (option_and_then (effected k r s e effects target) (value_of e.value c.variables))
+        HasChange (option_and_then (effected k r s e effects target) (value_of e.value c.variables))
     effected_has r s e effects target h more =
         let g : Gives (value_of e.value c.variables) h.target.kind = value_gives e.value (kinds_of k.variables) c.variables h.target.kind
         (are_of_kinds k.variables c.variables sound.values) h.value.kinded in
-        let d : Deed = record { write = Some (record { variable = e.variable; value = g.value }); moves = acts k r s effects target } in
+        let d : RegionChange = record { write = Some (record { variable = e.variable; value = g.value }); moves = acts k r s effects target } in
         let fits : takes_kind (option_map (λ (x : Variable). x.kind) (slice_get k.variables e.variable)) (kind_of g.value) ≡ true =
         ap (λ o. takes_kind (option_map (λ (x : Variable). x.kind) o) (kind_of g.value)) h.is_target ∙ (ap (is_kind h.target.kind) g.kind ∙ same_kind
         h.target.kind) in
         record {
-          deed = d;
+          change = d;
           is = ap (option_and_then (effected k r s e effects target)) g.is ∙ ap (λ b. only_if b (Some d)) fits;
           write = (h.target, h.is_target, g.kind);
           moves = acts_sound r s effects target more;
         }
 
-    has_deed : (r : ℕ) (x : Standing) → SoundStanding k.variables x → has_work k c x ≡ true → HasDeed (deed_of k c r x)
-    has_deed r (at.Trying s (t ∷ tests)) h work = tested_has r s t (to r (at.Trying s tests) ∷ []) h.0 (h.1, tt)
-    has_deed r (at.Entering s (t ∷ tests)) h work = tested_has r s t (entering_on k r s tests) h.0.0 (entering_sound r s tests h.0.1)
-    has_deed r (at.Guarding s (t ∷ tests)) h work = tested_has r s t (guarding_on k r s tests) h.0.0 (guarding_sound r s tests h.0.1)
-    has_deed r (at.Within s (t ∷ tests)) h work = tested_has r s t (to r (at.Within s tests) ∷ []) h.0 (h.1, tt)
-    has_deed r (at.Acting s (e ∷ effects) target) h work = effected_has r s e effects target h.0.0 h.0.1
-    has_deed r (at.Trying s []) h work = absurd cc
-    has_deed r (at.Entering s []) h work = absurd (h.1 refl)
-    has_deed r (at.Guarding s []) h work = absurd (h.1 refl)
-    has_deed r (at.Within s []) h work = absurd cc
-    has_deed r (at.Acting s [] target) h work = absurd (h.1 refl)
-    has_deed r at.Outside h work = absurd cc
-    has_deed r at.Ended h work = absurd cc
+    has_change : (r : ℕ) (x : Standing) → SoundStanding k.variables x → has_work k c x ≡ true → HasChange (change_of k c r x)
+    has_change r (at.Trying s (t ∷ tests)) h work = tested_has r s t (to r (at.Trying s tests) ∷ []) h.0 (h.1, tt)
+    has_change r (at.Entering s (t ∷ tests)) h work = tested_has r s t (entering_on k r s tests) h.0.0 (entering_sound r s tests h.0.1)
+    has_change r (at.Guarding s (t ∷ tests)) h work = tested_has r s t (guarding_on k r s tests) h.0.0 (guarding_sound r s tests h.0.1)
+    has_change r (at.Within s (t ∷ tests)) h work = tested_has r s t (to r (at.Within s tests) ∷ []) h.0 (h.1, tt)
+    has_change r (at.Acting s (e ∷ effects) target) h work = effected_has r s e effects target h.0.0 h.0.1
+    has_change r (at.Trying s []) h work = absurd cc
+    has_change r (at.Entering s []) h work = absurd (h.1 refl)
+    has_change r (at.Guarding s []) h work = absurd (h.1 refl)
+    has_change r (at.Within s []) h work = absurd cc
+    has_change r (at.Acting s [] target) h work = absurd (h.1 refl)
+    has_change r at.Outside h work = absurd cc
+    has_change r at.Ended h work = absurd cc
 
     standing_sound : (r : ℕ) → SoundStanding k.variables (standing_of c r)
     standing_sound r = by c.regions sound.regions r
@@ -181,31 +181,34 @@ module _ (k : Table) (rows : SoundTable k) where
         by (x ∷ xs) h zero = h.0
         by (x ∷ xs) h (suc i) = by xs h.1 i
 
-    enabled_has : (r : ℕ) → is_enabled k c r ≡ true → HasDeed (deed_of k c r (standing_of c r))
+    enabled_has : (r : ℕ) → is_enabled k c r ≡ true → HasChange (change_of k c r (standing_of c r))
     enabled_has r enabled =
-        has_deed r (standing_of c r) (standing_sound r)
+        has_change r (standing_of c r) (standing_sound r)
         (both_parts (has_work k c (standing_of c r)) (not (is_guarded k c (region_at k r).around) && inside_is_done k c (standing_of c r)) enabled)
 
     written_sound : (w : Option Write) → SoundWrite w → Kinded k.variables (written w c.variables)
     written_sound None h = sound.values
     written_sound (Some w) h = kept_kinds k.variables c.variables sound.values w.variable h.0 h.1 w.value h.2
 
-    after_sound : (d : Deed) → SoundWrite d.write → Moves d.moves → Sound k (after d c)
+    after_sound : (d : RegionChange) → SoundWrite d.write → Moves d.moves → Sound k (after d c)
     after_sound d write moves = record { values = written_sound d.write write; regions = moved_sound d.moves c.regions moves sound.regions }
 
     pub has_step : (r : ℕ) → is_enabled k c r ≡ true → (d : Configuration) × (step k r c ≡ Some d)
     has_step r enabled =
-        let h : HasDeed (deed_of k c r (standing_of c r)) = enabled_has r enabled in
-        (after h.deed c, ap (λ b. only_if b (option_map (λ d. after d c) (deed_of k c r (standing_of c r)))) enabled ∙ ap (option_map (λ d. after d c)) h.is)
+        let h : HasChange (change_of k c r (standing_of c r)) = enabled_has r enabled in (
+          after h.change c,
+          ap (λ b. only_if b (option_map (λ d. after d c) (change_of k c r (standing_of c r)))) enabled ∙
+              ap (option_map (λ d. after d c)) h.is,
+        )
 
     step_sound : (r : ℕ) (d : Configuration) → step k r c ≡ Some d → Sound k d
     step_sound r d steps =
-        let parts : (is_enabled k c r ≡ true) × (option_map (λ d. after d c) (deed_of k c r (standing_of c r)) ≡ Some d) =
-        only_parts (is_enabled k c r) (option_map (λ d. after d c) (deed_of k c r (standing_of c r))) d steps in
-        let h : HasDeed (deed_of k c r (standing_of c r)) = enabled_has r parts.0 in
-        let led : Some (after h.deed c) ≡ Some d = sym (ap (option_map (λ d. after d c)) h.is) ∙ parts.1 in
-        let same : after h.deed c ≡ d = cc in
-        subst (Sound k) same (after_sound h.deed h.write h.moves)
+        let parts : (is_enabled k c r ≡ true) × (option_map (λ d. after d c) (change_of k c r (standing_of c r)) ≡ Some d) =
+        only_parts (is_enabled k c r) (option_map (λ d. after d c) (change_of k c r (standing_of c r))) d steps in
+        let h : HasChange (change_of k c r (standing_of c r)) = enabled_has r parts.0 in
+        let led : Some (after h.change c) ≡ Some d = sym (ap (option_map (λ d. after d c)) h.is) ∙ parts.1 in
+        let same : after h.change c ≡ d = cc in
+        subst (Sound k) same (after_sound h.change h.write h.moves)
 
   -- ---- the start of a tick
 

@@ -21,7 +21,7 @@ abbrev pub RegionsAt : Table → ℕ → List RegionRow → Type 0
 RegionsAt k r [] = Unit {0}
 RegionsAt k r (x ∷ xs) = (region_at k r ≡ x) × RegionsAt k (suc r) xs
 
--- the rows of a piece stand where its scene says
+-- the rows of a piece stand where its position says
 pub record Holds (k : Table) (at : TablePosition) (p : SubtreeRows) : Type 0 where
   pub states : StatesAt k at.state p.states
   pub regions : RegionsAt k at.region p.regions

@@ -19,7 +19,7 @@ use Rattle.chart_drafts.specs.declared.draft.DraftRegion.TheViews.{out-roll-Draf
 use Rattle.chart_drafts.specs.declared.draft.DraftState.{DraftState}
 use Rattle.chart_drafts.specs.declared.draft.DraftChart.{DraftChart}
 use Rattle.chart_drafts.specs.Draft.{tested_by, state_of, region_of, chart_of}
-use Rattle.chart_drafts.specs.ChartText.{Grows, name, effect, next_effect, listed, some_effects, effects, deed, moment, termination, tested}
+use Rattle.chart_drafts.specs.ChartText.{Grows, name, effect, next_effect, listed, some_effects, effects, outcome, moment, termination, tested}
 use Rattle.chart_drafts.specs.ChartText.{tested_words, the_word, transition, leaving, Inner, NoMore, Nested, bare, inside, body, state, states}
 use Rattle.chart_drafts.specs.ChartText.{region, within, chart, chart_text}
 use Rattle.chart_places.specs.Laws.{word_of}
@@ -81,14 +81,14 @@ module _ (Good : Token → Type 0) where
         each_made _ _ _ _ _ (Every (put.IsEffectPut Good))
         (each_maybe _ _ _ (each_after _ _ _ (listed_put _ _ _ effect_put (each_after _ _ _ effect_put)))) (λ xs h. none_or_all _ xs h)
 
-    deed_put : EachGood (deed e) (λ x. Every (put.IsEffectPut Good) x.0)
-    unfolding deed
-    deed_put = each_as _ _ _ (λ x. Every (put.IsEffectPut Good) x.0) (each_seq _ _ _ _ _ _ effects_put (each_any _)) (λ x h. h.0)
+    outcome_put : EachGood (outcome e) (λ x. Every (put.IsEffectPut Good) x.0)
+    unfolding outcome
+    outcome_put = each_as _ _ _ (λ x. Every (put.IsEffectPut Good) x.0) (each_seq _ _ _ _ _ _ effects_put (each_any _)) (λ x h. h.0)
 
     termination_put : EachGood (termination e) IsTransitionPut
     unfolding termination
     termination_put =
-        each_made _ _ _ _ _ IsTransitionPut (each_seq _ _ _ _ _ _ (moment_put (the_word word.Join) join_is) deed_put)
+        each_made _ _ _ _ _ IsTransitionPut (each_seq _ _ _ _ _ _ (moment_put (the_word word.Join) join_is) outcome_put)
         (λ x h. record { begins = h.0; effects = h.1 })
 
     tested_put : EachGood (tested e) IsTransitionPut
@@ -96,7 +96,7 @@ module _ (Good : Token → Type 0) where
     tested_put =
         each_made _ _ _ _ _ IsTransitionPut
         (each_seq _ _ _ _ _ _ (moment_put tested_words tested_is)
-        (each_seq _ _ _ _ _ _ (each_any _) (each_seq _ _ _ _ _ _ (each_any _) deed_put)))
+        (each_seq _ _ _ _ _ _ (each_any _) (each_seq _ _ _ _ _ _ (each_any _) outcome_put)))
         (λ x h. record { begins = h.0; effects = h.1.1.1 })
 
     leaving_put : EachGood (leaving e) (Every IsTransitionPut)

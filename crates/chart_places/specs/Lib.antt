@@ -1,4 +1,4 @@
-pub mod Scenes
+pub mod StatesAround
 pub mod Places
 pub mod Read
 pub mod Laws

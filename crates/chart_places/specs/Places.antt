@@ -12,8 +12,8 @@ use Rattle.chart_drafts.specs.declared.draft.DraftState.{DraftState}
 use Rattle.chart_drafts.specs.declared.draft.DraftChart.{DraftChart}
 use Rattle.chart_places.specs.declared.places.PlaceRows.{PlaceRows}
 use Rattle.chart_places.specs.declared.places.Places.{Places}
-use Rattle.chart_places.specs.declared.scenes.Scene.{Scene}
-use Rattle.chart_places.specs.Scenes.{scenes_of}
+use Rattle.chart_places.specs.declared.states_around.StateAround.{StateAround}
+use Rattle.chart_places.specs.StatesAround.{states_around_of}
 
 -- ---- rows of places, one sort beside the other
 
@@ -67,7 +67,7 @@ abbrev pub of_state : DraftState → PlaceRows
 of_state = fold-DraftState PlaceRows PlaceRows in_region in_state
 
 abbrev pub places_of : DraftChart → Places
-places_of d = record { chart = d.named.at; rows = all (map of_region d.regions); scenes = scenes_of d }
+places_of d = record { chart = d.named.at; rows = all (map of_region d.regions); states_around = states_around_of d }
 
 -- ---- one place
 
@@ -80,9 +80,9 @@ place_of p (element.Effect n) = slice_get p.rows.effects n
 
 -- ---- in which state and which region an element stands
 
-abbrev pub scene_of : Places → Element → Option Scene
-scene_of p element.Chart = None
-scene_of p (element.Region n) = None
-scene_of p (element.State n) = slice_get p.scenes.states n
-scene_of p (element.Transition n) = slice_get p.scenes.transitions n
-scene_of p (element.Effect n) = slice_get p.scenes.effects n
+abbrev pub state_around : Places → Element → Option StateAround
+state_around p element.Chart = None
+state_around p (element.Region n) = None
+state_around p (element.State n) = slice_get p.states_around.states n
+state_around p (element.Transition n) = slice_get p.states_around.transitions n
+state_around p (element.Effect n) = slice_get p.states_around.effects n

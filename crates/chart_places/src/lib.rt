@@ -5,10 +5,10 @@ mod laws;
 mod places;
 mod read;
 mod rows;
-mod scenes;
+mod states_around;
 
 pub use laws::{placed_texts_have_one_answer, places_tell_texts};
 pub use places::{PlaceRows, Places};
 pub use read::{Placed, read_placed};
 pub use rows::places_of;
-pub use scenes::{Scene, Scenes, scenes_of};
+pub use states_around::{StateAround, StatesAround, states_around_of};

@@ -1,9 +1,9 @@
 //! The places of elements, by their numbers.
 
 ghost use Rattle.std.specs.Prelude.{◌≡◌, OnOk, slice_get};
-ghost use Rattle.chart_places.specs.Places.{beside, nothing, place_of, region, scene_of, state};
+ghost use Rattle.chart_places.specs.Places.{beside, nothing, place_of, region, state_around, state};
 
-use crate::scenes::{Scene, Scenes};
+use crate::states_around::{StateAround, StatesAround};
 use chart_elements::Element;
 use sqlite_items::{Items, at};
 use std::alloc::{AllocError, Global};
@@ -23,7 +23,7 @@ pub struct PlaceRows {
 pub struct Places {
     pub chart: usize,
     pub rows: PlaceRows,
-    pub scenes: Scenes,
+    pub states_around: StatesAround,
 }
 
 impl PlaceRows {
@@ -69,24 +69,27 @@ impl Places {
     }
 
     /// In which state of which region an element stands. None: in none, or the chart has none of this number.
-    pub fn scene_of(&self, element: Element) -> Option<Scene>
-        ensures { result ≡ scene_of self.now element }
+    pub fn state_around(&self, element: Element) -> Option<StateAround>
+        ensures { result ≡ state_around self.now element }
     {
         match element {
             Element::Chart => None,
             Element::Region(_) => None,
-            Element::State(number) => scene_at(self.scenes.states.as_slice(), number),
-            Element::Transition(number) => scene_at(self.scenes.transitions.as_slice(), number),
-            Element::Effect(number) => scene_at(self.scenes.effects.as_slice(), number),
+            Element::State(number) => around_at(self.states_around.states.as_slice(), number),
+            Element::Transition(number) => around_at(
+                self.states_around.transitions.as_slice(),
+                number,
+            ),
+            Element::Effect(number) => around_at(self.states_around.effects.as_slice(), number),
         }
     }
 }
 
-fn scene_at(scenes: &[Scene], number: u32) -> Option<Scene>
-    ensures { result ≡ slice_get scenes.now number }
+fn around_at(states_around: &[StateAround], number: u32) -> Option<StateAround>
+    ensures { result ≡ slice_get states_around.now number }
 {
-    match at(scenes, number as usize) {
-        Some(scene) => Some(*scene),
+    match at(states_around, number as usize) {
+        Some(around) => Some(*around),
         None => None,
     }
 }

@@ -5,7 +5,7 @@ ghost use Rattle.chart_places.specs.Places.{all, beside, of_effects, of_region, 
 ghost use Rattle.chart_places.specs.Places.{places_of, region};
 
 use crate::places::{PlaceRows, Places};
-use crate::scenes::scenes_of;
+use crate::states_around::states_around_of;
 use chart_drafts::{DraftChart, DraftEffect, DraftRegion, DraftState, DraftTransition};
 use sqlite_items::Items;
 use std::alloc::{AllocError, Global};
@@ -16,11 +16,11 @@ pub fn places_of(alloc: Global, draft: &DraftChart) -> Result<Places, AllocError
 {
     let mut rows = PlaceRows::none(alloc);
     put_regions(draft.regions.as_slice(), &mut rows)?;
-    let scenes = scenes_of(alloc, draft)?;
+    let states_around = states_around_of(alloc, draft)?;
     Ok(Places {
         chart: draft.named.at,
         rows,
-        scenes,
+        states_around,
     })
 }
 

@@ -95,13 +95,13 @@ impl Told {
         warn_of_state(states, led, place, number, state, &mut self.warnings)?;
         self.count()?;
         self.tell_regions(alloc, levels, variables, state.regions.as_slice())?;
-        let scene = StateContext {
+        let context = StateContext {
             variables,
             states,
             state,
             number,
         };
-        scene.warn_of_transitions(alloc, &mut self.warnings)
+        context.warn_of_transitions(alloc, &mut self.warnings)
     }
 
     // The next state has been met. Err: no memory holds a chart with so many.

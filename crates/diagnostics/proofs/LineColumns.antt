@@ -4,8 +4,8 @@ use Rattle.std.proofs.Common.{count_by, refl, sym, ◌∙◌, ap, arith}
 use Rattle.std.specs.Cmp.{unsigned_Decides}
 use Rattle.std.proofs.lemmas.List.{take_more, take-append-drop}
 use Rattle.std.proofs.lemmas.List.Sums.{sum_by-append, count_by_more_yes, count_by_more_no, count_by-le-length}
-use Rattle.diagnostics.specs.declared.spots.LineColumn.{LineColumn}
-use Rattle.diagnostics.specs.Spots.{IsSpot, is_line_feed, begins_character, has_line_feed, last_of, last_line, line_behind, column_behind}
+use Rattle.diagnostics.specs.declared.line_columns.LineColumn.{LineColumn}
+use Rattle.diagnostics.specs.LinesColumns.{IsLineColumn, is_line_feed, begins_character, has_line_feed, last_of, last_line, line_behind, column_behind}
 
 has_with : (bytes : List ℕ) (byte : ℕ) → is_line_feed byte ≡ true → has_line_feed (bytes ++ byte ∷ []) ≡ true
 has_with [] byte is = ap (λ b. b || false) is
@@ -99,24 +99,25 @@ column_fits bytes i =
 
 -- ---- as a place
 
-module _ (bytes : List ℕ) (i d : ℕ) (spot next : LineColumn) (within : i < length bytes) (is : IsSpot (take i bytes) spot) where
-  pub more_line : is_line_feed (get_or bytes i d) ≡ true → next.line ≡ spot.line + 1 → next.column ≡ 1 → IsSpot (take (i + 1) bytes) next
+module _ (bytes : List ℕ) (i d : ℕ) (line_column next : LineColumn) (within : i < length bytes) (is : IsLineColumn (take i bytes) line_column) where
+  pub more_line : is_line_feed (get_or bytes i d) ≡ true → next.line ≡ line_column.line + 1 → next.column ≡ 1 → IsLineColumn (take (i + 1) bytes) next
   more_line feed line column =
       record {
         line = line ∙ ap (λ n. n + 1) is.line ∙ sym (line_more bytes i d within feed);
         column = column ∙ sym (column_new bytes i d within feed);
       }
 
-  pub more_column : is_line_feed (get_or bytes i d) ≡ false → begins_character (get_or bytes i d) ≡ true → next.line ≡ spot.line
-      → next.column ≡ spot.column + 1 → IsSpot (take (i + 1) bytes) next
+  pub more_column : is_line_feed (get_or bytes i d) ≡ false → begins_character (get_or bytes i d) ≡ true → next.line ≡ line_column.line
+      → next.column ≡ line_column.column + 1 → IsLineColumn (take (i + 1) bytes) next
   more_column feed begins line column =
       record {
         line = line ∙ is.line ∙ sym (line_same bytes i d within feed);
         column = column ∙ ap (λ n. n + 1) is.column ∙ sym (column_more bytes i d within feed begins);
       }
 
-  pub same_spot : is_line_feed (get_or bytes i d) ≡ false → begins_character (get_or bytes i d) ≡ false → next ≡ spot → IsSpot (take (i + 1) bytes) next
-  same_spot feed begins same =
+  pub same_line_column : is_line_feed (get_or bytes i d) ≡ false → begins_character (get_or bytes i d) ≡ false → next ≡ line_column →
+      IsLineColumn (take (i + 1) bytes) next
+  same_line_column feed begins same =
       record {
         line = ap (λ s. s.line) same ∙ is.line ∙ sym (line_same bytes i d within feed);
         column = ap (λ s. s.column) same ∙ is.column ∙ sym (column_same bytes i d within feed begins);

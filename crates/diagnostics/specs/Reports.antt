@@ -2,7 +2,7 @@
 use Rattle.std.specs.Prelude.{ℕ, ◌≡◌, List, ◌++◌, codes}
 use Rattle.std.specs.Fmt.{decimal}
 use Rattle.sc_text.specs.FaultText.{broken_number}
-use Rattle.diagnostics.specs.Spots.{place_shown}
+use Rattle.diagnostics.specs.LinesColumns.{place_shown}
 use Rattle.sc_text.specs.declared.read_fault.ReadFault.{ReadFault}
 use Rattle.sc_text.specs.declared.read_fault.ReadFault.TheVariants as read
 

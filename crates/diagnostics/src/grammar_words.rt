@@ -5,10 +5,10 @@ use crate::expected::expected;
 use crate::extended_words::{misuse_at, near_own_word};
 use crate::found::{found, stands_at};
 use crate::fronts::{front_of, last_token};
+use crate::line_columns::line_column_of;
 use crate::lines::name_at;
 use crate::near_names::difference;
 use crate::spellings::{for_sign, for_word};
-use crate::spots::spot_of;
 use crate::unclosed::last_open;
 use crate::words::Words;
 use sc_text::{Sign, TokenKind, Word};
@@ -28,9 +28,9 @@ const BEGINNINGS: &str =
 fn cure_at_end(alloc: Global, grammar: Grammar, text: &str) -> Result<String, AllocError> {
     match last_open(alloc, grammar.tokens(), text)? {
         Some(at) => {
-            let spot = spot_of(text, at);
-            let line = spot.line;
-            let column = spot.column;
+            let line_column = line_column_of(text, at);
+            let line = line_column.line;
+            let column = line_column.column;
             format!(in alloc;
                 "line {line} opens a brace or parenthesis, in column {column}, that is not closed"
             )

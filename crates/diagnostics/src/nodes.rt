@@ -1,8 +1,8 @@
 //! A node of a program as it is shown: its place in the source text, what it does, and the line of the text.
 
 use crate::edges::{name_of, written};
+use crate::line_columns::LineColumn;
 use crate::lines::{margin, marked_line, name_at};
-use crate::spots::LineColumn;
 use node_sources::{Origin, Part, Positions, Sources};
 use sc_graph::{NodeId, Program, Step};
 use sc_values::Name;
@@ -46,7 +46,7 @@ impl<'a> Shown<'a> {
     }
 
     /// The place of an origin.
-    pub(crate) fn spot(&self, origin: Origin) -> LineColumn {
+    pub(crate) fn line_column(&self, origin: Origin) -> LineColumn {
         let position = self.positions.position(origin.at);
         LineColumn {
             line: position.line,
@@ -56,7 +56,7 @@ impl<'a> Shown<'a> {
 }
 
 // What a node does, in one word or two.
-fn deed(step: Option<&Step>) -> &'static str {
+fn what_it_does(step: Option<&Step>) -> &'static str {
     match step {
         Some(Step::Assign { .. }) => "sets",
         Some(Step::Update { .. }) => "updates",
@@ -99,7 +99,7 @@ fn part_text(part: Part) -> &'static str {
 }
 
 /// The state and the region of a chart to which an origin belongs, with what the part is. Err: memory was refused.
-pub(crate) fn scene_text(alloc: Global, text: &str, origin: Origin) -> Result<String, AllocError> {
+pub(crate) fn around_text(alloc: Global, text: &str, origin: Origin) -> Result<String, AllocError> {
     let part = part_text(origin.part);
     let Some(region) = origin.region else {
         return String::from_str(alloc, part);
@@ -128,21 +128,21 @@ pub(crate) fn node_text(
     node: NodeId,
     number: usize,
 ) -> Result<String, AllocError> {
-    let does = deed(shown.program.step(node));
+    let does = what_it_does(shown.program.step(node));
     let what = written_text(alloc, &shown.program, node)?;
     let Some(origin) = shown.origin(node) else {
         return format!(in alloc; "node {node} {does}{what}\n");
     };
-    let spot = shown.spot(origin);
-    let line = spot.line;
-    let column = spot.column;
-    let scene = scene_text(alloc, shown.text, origin)?;
+    let line_column = shown.line_column(origin);
+    let line = line_column.line;
+    let column = line_column.column;
+    let around = around_text(alloc, shown.text, origin)?;
     let marked = if number < SHOWN {
-        marked_line(alloc, shown.text, origin.at, spot)?
+        marked_line(alloc, shown.text, origin.at, line_column)?
     } else {
         String::new(alloc)
     };
-    format!(in alloc; "node {node} at {line}:{column} {does}{what}{scene}\n{marked}")
+    format!(in alloc; "node {node} at {line}:{column} {does}{what}{around}\n{marked}")
 }
 
 /// What is said below the line of a node. Err: memory was refused.
@@ -153,7 +153,7 @@ pub(crate) fn note_text(
     words: &str,
 ) -> Result<String, AllocError> {
     let line = match shown.origin(node) {
-        Some(origin) => shown.spot(origin).line,
+        Some(origin) => shown.line_column(origin).line,
         None => 0,
     };
     let margin = margin(alloc, line)?;

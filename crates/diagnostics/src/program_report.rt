@@ -4,11 +4,11 @@ ghost use Rattle.std.specs.Prelude.{IfOk, string_bytes};
 ghost use Rattle.compiler.specs.FaultText.{fault_text};
 ghost use Rattle.diagnostics.specs.Reports.{Tells};
 
+use crate::line_columns::line_column_of;
 use crate::lines::marked_line;
-use crate::nodes::{Shown, scene_text};
+use crate::nodes::{Shown, around_text};
 use crate::program_words::in_words;
-use crate::report::{help, spot_text};
-use crate::spots::spot_of;
+use crate::report::{help, line_column_text};
 use crate::walks::{conflict_text, first_node, place_text, walk_text};
 use compiler::CompileFault;
 use conflict_edges::ConflictFault;
@@ -106,7 +106,7 @@ fn shown_fault(
 // The place of an origin, with what stands before it.
 fn place_of(alloc: Global, text: &str, origin: Option<Origin>) -> Result<String, AllocError> {
     match origin {
-        Some(origin) => spot_text(alloc, spot_of(text, origin.at)),
+        Some(origin) => line_column_text(alloc, line_column_of(text, origin.at)),
         None => Ok(String::new(alloc)),
     }
 }
@@ -129,9 +129,9 @@ fn label_text(
     label: Name,
     origin: Origin,
 ) -> Result<String, AllocError> {
-    let scene = scene_text(alloc, text, origin)?;
-    let marked = marked_line(alloc, text, origin.at, spot_of(text, origin.at))?;
-    format!(in alloc; "label {label}{scene}\n{marked}")
+    let around = around_text(alloc, text, origin)?;
+    let marked = marked_line(alloc, text, origin.at, line_column_of(text, origin.at))?;
+    format!(in alloc; "label {label}{around}\n{marked}")
 }
 
 // The nodes of a fault.

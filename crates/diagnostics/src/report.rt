@@ -4,21 +4,21 @@ ghost use Rattle.std.specs.Prelude.{IfOk, ◌≡◌, ◌++◌, codes, string_byt
 ghost use Rattle.std.specs.Fmt.{decimal};
 ghost use Rattle.sc_text.specs.FaultText.{broken_number};
 ghost use Rattle.diagnostics.specs.Reports.{Tells, TellsAt, TellsPlace, text_fault};
-ghost use Rattle.diagnostics.specs.Spots.{place_shown};
+ghost use Rattle.diagnostics.specs.LinesColumns.{place_shown};
 
+use crate::line_columns::{LineColumn, line_column_of};
 use crate::lines::marked_line;
-use crate::spots::{LineColumn, spot_of};
 use crate::words::words_of;
 use sc_text::{FaultKind, ReadFault};
 use std::alloc::{AllocError, Global};
 
 /// A place as it stands behind the name of a file: its line and its column. Err: memory was refused.
-pub fn spot_text(alloc: Global, spot: LineColumn) -> Result<String, AllocError>
+pub fn line_column_text(alloc: Global, line_column: LineColumn) -> Result<String, AllocError>
     ensures { IfOk result (λ text.
-        string_bytes text ≡ codes ":" ++ (decimal spot.line ++ (codes ":" ++ decimal spot.column))) }
+        string_bytes text ≡ codes ":" ++ (decimal line_column.line ++ (codes ":" ++ decimal line_column.column))) }
 {
-    let line = spot.line;
-    let column = spot.column;
+    let line = line_column.line;
+    let column = line_column.column;
     format!(in alloc; ":{line}:{column}")
 }
 
@@ -46,12 +46,12 @@ pub fn explained(
     ensures place { IfOk result (λ report.
         TellsAt name.now (place_shown text.now at) (codes "E0" ++ decimal (broken_number broken)) (string_bytes report)) }
 {
-    let spot = spot_of(text, at);
-    let place = spot_text(alloc, spot)?;
+    let line_column = line_column_of(text, at);
+    let place = line_column_text(alloc, line_column)?;
     let number = broken.number();
     let words = words_of(alloc, text, broken, at)?;
     let cause = words.cause;
-    let marked = marked_line(alloc, text, at, spot)?;
+    let marked = marked_line(alloc, text, at, line_column)?;
     let help = help(alloc, words.cure.as_str())?;
     format!(in alloc; "{name}{place}: E0{number}: {cause}\n{marked}{help}")
 }

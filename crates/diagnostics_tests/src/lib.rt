@@ -2,6 +2,6 @@
 #![tactic(auto)]
 
 #[cfg(test)]
-mod rules;
+mod line_columns;
 #[cfg(test)]
-mod spots;
+mod rules;

@@ -24,7 +24,7 @@ use Rattle.extended_drafts.specs.declared.draft.ExtendedDraft.{ExtendedDraft}
 use Rattle.extended_drafts.specs.ExtendedText.{item_value, last_value, typed, signalled, bare_signal, plain_body, worded_body, plain, worded, item}
 use Rattle.extended_drafts.specs.ExtendedText.{combining, combined, becoming, emitting, effect_end, effect}
 use Rattle.extended_drafts.specs.ExtendedText.{next_effect, some_effects, effects, two_names, two_more, lead}
-use Rattle.extended_drafts.specs.ExtendedText.{last_lead, leading, deed}
+use Rattle.extended_drafts.specs.ExtendedText.{last_lead, leading, outcome}
 use Rattle.extended_drafts.specs.ExtendedText.{last_effects, entry}
 use Rattle.extended_drafts.specs.ExtendedText.{some_count, counted, some_delay, at_once, waiting, pause, tested, termination}
 use Rattle.extended_drafts.specs.ExtendedText.{transition, transitions, leaving, Inner, NoMore, Nested, rowed, bare, nested, inside, acting, body, state}
@@ -92,9 +92,9 @@ module _ (e e' : Grows Phrase) (w : Deeper Phrase e e') where
       (deeper_seq _ _ _ _ _ _ effect_wider
       (deeper_many _ _ _ (deeper_made _ _ _ _ _ (deeper_seq _ _ _ _ _ _ (same_one _) effect_wider))))
 
-  deed_wider : Deeper (List DraftEffect × DraftLead) (deed e) (deed e')
-  unfolding deed effects
-  deed_wider =
+  outcome_wider : Deeper (List DraftEffect × DraftLead) (outcome e) (outcome e')
+  unfolding outcome effects
+  outcome_wider =
       deeper_seq _ _ _ _ _ _
       (deeper_made _ _ _ _ _ (deeper_maybe _ _ _ (deeper_made _ _ _ _ _ (deeper_seq _ _ _ _ _ _ (same_one _) some_effects_wider))))
       leading_same
@@ -130,10 +130,10 @@ module _ (e e' : Grows Phrase) (w : Deeper Phrase e e') where
   transition_wider =
       deeper_either _ _ _ _ _
       (deeper_made _ _ _ _ _
-      (deeper_seq _ _ _ _ _ _ (deeper_made _ _ _ _ _ (same_one _)) (deeper_seq _ _ _ _ _ _ trigger_wider deed_wider)))
+      (deeper_seq _ _ _ _ _ _ (deeper_made _ _ _ _ _ (same_one _)) (deeper_seq _ _ _ _ _ _ trigger_wider outcome_wider)))
       (deeper_made _ _ _ _ _
       (deeper_seq _ _ _ _ _ _ (deeper_made _ _ _ _ _ (same_one _))
-      (deeper_seq _ _ _ _ _ _ pause_wider (deeper_seq _ _ _ _ _ _ trigger_wider deed_wider))))
+      (deeper_seq _ _ _ _ _ _ pause_wider (deeper_seq _ _ _ _ _ _ trigger_wider outcome_wider))))
 
   leaving_wider : Deeper (List DraftTransition × List DraftWay) (leaving e) (leaving e')
   unfolding leaving transitions

@@ -117,27 +117,27 @@ pub no_first_effect : (text : List Token) (end : ℕ) (f : ReadFault) → Stops 
 unfolding some_effects
 no_first_effect text end f s = listed_stops (next_effect e0) (effect e0) text end f s
 
-abbrev deeds : Grows (List DraftEffect)
-deeds = after (the_word word.Do) (some_effects e0)
+abbrev outcomes : Grows (List DraftEffect)
+outcomes = after (the_word word.Do) (some_effects e0)
 
 pub effects_missing : (text : List Token) (none : List DraftEffect) → starts text_tokens (the_word word.Do) text ≡ false → none ≡ []
     → Gives (read (effects e0) text) none text
 unfolding effects
 effects_missing text none e n =
     subst (λ d. Gives (read (effects e0) text) d text) (sym n)
-    (made_gives or_none (maybe deeds) text None text (maybe_none deeds (the_word word.Do) refl text e))
+    (made_gives or_none (maybe outcomes) text None text (maybe_none outcomes (the_word word.Do) refl text e))
 
 module _ (text more : List Token) (e : starts text_tokens (the_word word.Do) text ≡ true) (d : more ≡ drop 1 text) where
   pub effects_there : (rest : List Token) (xs : List DraftEffect) → Gives (read (some_effects e0) more) xs rest → Gives (read (effects e0) text) xs rest
   unfolding effects
   effects_there rest xs r =
-      made_gives or_none (maybe deeds) text (Some xs) rest
-      (maybe_some deeds (the_word word.Do) refl text xs rest e
+      made_gives or_none (maybe outcomes) text (Some xs) rest
+      (maybe_some outcomes (the_word word.Do) refl text xs rest e
       (after_gives (the_word word.Do) (some_effects e0) text more rest xs (one_taken (the_word word.Do) text more e d) r))
 
   pub effects_stop : (end : ℕ) (f : ReadFault) → Stops end (read (some_effects e0) more) f → Stops end (read (effects e0) text) f
   unfolding effects
   effects_stop end f s =
-      made_stops or_none (maybe deeds) text end f
-      (maybe_stops deeds (the_word word.Do) refl text end f e
+      made_stops or_none (maybe outcomes) text end f
+      (maybe_stops outcomes (the_word word.Do) refl text end f e
       (after_stops_second (the_word word.Do) (some_effects e0) text more end f (one_taken (the_word word.Do) text more e d) s))

@@ -30,7 +30,7 @@ use Rattle.extended_drafts.specs.declared.draft.DraftDelay.{DraftDelay}
 use Rattle.extended_drafts.specs.declared.draft.DraftLead.{DraftLead}
 use Rattle.extended_drafts.specs.declared.draft.DraftWay.{DraftWay}
 use Rattle.extended_drafts.specs.Draft.{entry_of, count_of, delay_of, hold_of, or_next, way_of, delayed, ended, parted}
-use Rattle.extended_drafts.specs.ExtendedText.{deed, last_effects, entry, entry_first, some_count, counted, some_delay, at_once, waiting, pause}
+use Rattle.extended_drafts.specs.ExtendedText.{outcome, last_effects, entry, entry_first, some_count, counted, some_delay, at_once, waiting, pause}
 use Rattle.extended_drafts.specs.ExtendedText.{pause_first, tested, termination, transition}
 use Rattle.extended_drafts.specs.Inside.{IsGathering}
 use Rattle.extended_drafts.proofs.Shapes.{entry_is, some_count_is, at_once_is, either_is, termination_is, transition_is}
@@ -45,10 +45,10 @@ pub entry_gives : (text a b c rest : List Token) (i : Bool) (n : Named) (t : Opt
     → Gives (read (after (the_word word.Do) (last_effects e0)) c) d rest → Gives (read (entry e0) text) (entry_of i n t d) rest
 unfolding entry
 entry_gives text a b c rest i n t d x y z w =
-    let deeds : Grows (List DraftEffect) = after (the_word word.Do) (last_effects e0) in
-    made_gives (λ x. entry_of x.0 x.1.0 x.1.1.0 x.1.1.1) (seq (flag word.Immediate) (seq name (seq (trigger e0) deeds))) text (i, (n, (t, d))) rest
-    (seq_gives (flag word.Immediate) (seq name (seq (trigger e0) deeds)) text a rest i (n, (t, d)) x
-    (seq_gives name (seq (trigger e0) deeds) a b rest n (t, d) y (seq_gives (trigger e0) deeds b c rest t d z w)))
+    let outcomes : Grows (List DraftEffect) = after (the_word word.Do) (last_effects e0) in
+    made_gives (λ x. entry_of x.0 x.1.0 x.1.1.0 x.1.1.1) (seq (flag word.Immediate) (seq name (seq (trigger e0) outcomes))) text (i, (n, (t, d))) rest
+    (seq_gives (flag word.Immediate) (seq name (seq (trigger e0) outcomes)) text a rest i (n, (t, d)) x
+    (seq_gives name (seq (trigger e0) outcomes) a b rest n (t, d) y (seq_gives (trigger e0) outcomes b c rest t d z w)))
 
 pub entries_go : (text : List Token) (most : ℕ) (found : List DraftEntry) → most ≡ length text → found ≡ []
     → IsGoing (read (many (entry e0)) text) (entry e0) entry_first found (most - 0) text
@@ -159,21 +159,21 @@ module _ (text : List Token) (e : starts text_tokens (the_word word.Immediate) t
 
 pub tested_made : (text a b c rest : List Token) (m : TransitionKind × ℕ) (w : Bool × Option DraftDelay) (t : Option TextExpression)
     (x : List DraftEffect × DraftLead) → Gives (read (moment tested_words) text) m a → Gives (read (pause e0) a) w b → Gives (read (trigger e0) b) t c
-    → Gives (read (deed e0) c) x rest → Gives (read (tested e0) text) (delayed m w t x) rest
+    → Gives (read (outcome e0) c) x rest → Gives (read (tested e0) text) (delayed m w t x) rest
 unfolding tested
 tested_made text a b c rest m w t x p q r s =
-    made_gives (λ x. delayed x.0 x.1.0 x.1.1.0 x.1.1.1) (seq (moment tested_words) (seq (pause e0) (seq (trigger e0) (deed e0)))) text (m, (w, (t, x))) rest
-    (seq_gives (moment tested_words) (seq (pause e0) (seq (trigger e0) (deed e0))) text a rest m (w, (t, x)) p
-    (seq_gives (pause e0) (seq (trigger e0) (deed e0)) a b rest w (t, x) q (seq_gives (trigger e0) (deed e0) b c rest t x r s)))
+    made_gives (λ x. delayed x.0 x.1.0 x.1.1.0 x.1.1.1) (seq (moment tested_words) (seq (pause e0) (seq (trigger e0) (outcome e0)))) text (m, (w, (t, x))) rest
+    (seq_gives (moment tested_words) (seq (pause e0) (seq (trigger e0) (outcome e0))) text a rest m (w, (t, x)) p
+    (seq_gives (pause e0) (seq (trigger e0) (outcome e0)) a b rest w (t, x) q (seq_gives (trigger e0) (outcome e0) b c rest t x r s)))
 
 pub termination_made : (text a b rest : List Token) (m : TransitionKind × ℕ) (t : Option TextExpression) (x : List DraftEffect × DraftLead)
-    (o : Option DraftDelay) → Gives (read (moment (the_word word.Join)) text) m a → Gives (read (trigger e0) a) t b → Gives (read (deed e0) b) x rest
+    (o : Option DraftDelay) → Gives (read (moment (the_word word.Join)) text) m a → Gives (read (trigger e0) a) t b → Gives (read (outcome e0) b) x rest
     → o ≡ option_map hold_of t → Gives (read (termination e0) text) (transition_of m false None x.0 x.1.target, way_of o x.1) rest
 unfolding termination
 termination_made text a b rest m t x o p q r e =
     subst (λ z. Gives (read (termination e0) text) (transition_of m false None x.0 x.1.target, way_of z x.1) rest) (sym e)
-    (made_gives (λ x. ended x.0 x.1.0 x.1.1) (seq (moment (the_word word.Join)) (seq (trigger e0) (deed e0))) text (m, (t, x)) rest
-    (seq_gives (moment (the_word word.Join)) (seq (trigger e0) (deed e0)) text a rest m (t, x) p (seq_gives (trigger e0) (deed e0) a b rest t x q r)))
+    (made_gives (λ x. ended x.0 x.1.0 x.1.1) (seq (moment (the_word word.Join)) (seq (trigger e0) (outcome e0))) text (m, (t, x)) rest
+    (seq_gives (moment (the_word word.Join)) (seq (trigger e0) (outcome e0)) text a rest m (t, x) p (seq_gives (trigger e0) (outcome e0) a b rest t x q r)))
 
 module _ (text : List Token) where
   is_termination : starts text_tokens (the_word word.Join) text ≡ true → read (transition e0) text ≡ read (termination e0) text

@@ -36,7 +36,7 @@ use Rattle.extended_drafts.specs.Draft.{typed_body, signal_body, plain_item, wor
 use Rattle.extended_drafts.specs.Draft.{state_with, region_with, draft_of}
 use Rattle.extended_drafts.specs.ExtendedText.{typed, signalled, bare_signal, plain_body, worded_body, plain, worded, item, to_value, to_name}
 use Rattle.extended_drafts.specs.ExtendedText.{combining, to_combination, combined, becoming, emitting, effect_end, effect, next_effect, some_effects}
-use Rattle.extended_drafts.specs.ExtendedText.{effects, deed, termination, tested}
+use Rattle.extended_drafts.specs.ExtendedText.{effects, outcome, termination, tested}
 use Rattle.extended_drafts.specs.ExtendedText.{transition, transitions, leaving, Inner, NoMore, Nested, rowed, bare, nested, inside}
 use Rattle.extended_drafts.specs.ExtendedText.{acting, body, state, region, within, parts, extended, extended_text}
 use Rattle.block_comments.specs.Comments.{without_comments}
@@ -121,9 +121,9 @@ module _ (e : Grows Phrase) (w : EachChart e CanWrite) where
   none_or_all P None h = tt
   none_or_all P (Some xs) h = h
 
-  deed_kept : EachChart (deed e) (λ x. Every (λ f. IsWritable f.value) x.0)
-  unfolding deed effects some_effects next_effect
-  deed_kept =
+  outcome_kept : EachChart (outcome e) (λ x. Every (λ f. IsWritable f.value) x.0)
+  unfolding outcome effects some_effects next_effect
+  outcome_kept =
       each_as _ _ _ (λ x. Every (λ f. IsWritable f.value) x.0)
       (each_seq _ _ _ _ _ _
       (each_made _ _ _ _ _ (Every (λ x. IsWritable x.value))
@@ -135,7 +135,7 @@ module _ (e : Grows Phrase) (w : EachChart e CanWrite) where
   unfolding termination
   termination_kept =
       each_made _ _ (λ x. ended x.0 x.1.0 x.1.1) _ _ (λ x. IsTransitionShaped x.0)
-      (each_seq _ _ _ _ _ _ (each_any _) (each_seq _ _ _ _ _ _ (each_any _) deed_kept))
+      (each_seq _ _ _ _ _ _ (each_any _) (each_seq _ _ _ _ _ _ (each_any _) outcome_kept))
       (λ x h. record {
         plain_join = λ j. (refl, refl);
         trigger = of_it e w None tt;
@@ -146,7 +146,7 @@ module _ (e : Grows Phrase) (w : EachChart e CanWrite) where
   unfolding tested
   tested_kept =
       each_made _ _ _ _ _ (λ x. IsTransitionShaped x.0)
-      (each_seq _ _ _ _ _ _ (moment_kept e w) (each_seq _ _ _ _ _ _ (each_any _) (each_seq _ _ _ _ _ _ (trigger_kept e w) deed_kept)))
+      (each_seq _ _ _ _ _ _ (moment_kept e w) (each_seq _ _ _ _ _ _ (each_any _) (each_seq _ _ _ _ _ _ (trigger_kept e w) outcome_kept)))
       (λ x h. record {
         plain_join = λ j. absurd (h.0 j);
         trigger = of_it e w x.1.1.0 h.1.1.0;

@@ -14,7 +14,7 @@ use Rattle.chart_drafts.proofs.Shapes.{IsExpression, leaving_first, name_is, fla
 use Rattle.extended_drafts.specs.declared.draft.DraftRows.{DraftRows}
 use Rattle.extended_drafts.specs.ExtendedText.{item_first, item_value, last_value, typed, signalled, bare_signal, plain_body, worded_body, plain, worded, item}
 use Rattle.extended_drafts.specs.ExtendedText.{combining_signs, combining, combined, becoming, emitting, effect_end, effect, next_effect, some_effects}
-use Rattle.extended_drafts.specs.ExtendedText.{effects, two_names, two_more, lead, last_lead, leading, deed, last_effects, entry, entry_first}
+use Rattle.extended_drafts.specs.ExtendedText.{effects, two_names, two_more, lead, last_lead, leading, outcome, last_effects, entry, entry_first}
 use Rattle.extended_drafts.specs.ExtendedText.{some_count, counted, some_delay, at_once, waiting, pause, pause_first, tested, termination}
 use Rattle.extended_drafts.specs.ExtendedText.{transition, transitions, leaving, Inner, NoMore, Nested, rowed, bare, nested, inside, simple, acting, body}
 use Rattle.extended_drafts.specs.ExtendedText.{state, region, within, parts, extended, extended_text}
@@ -132,9 +132,9 @@ module _ (e : Grows Phrase) (h : IsExpression e) where
       shaped_made _ _ _ _ _ _ _
       (shaped_seq _ _ _ _ _ _ _ _ _ _ effect_is (shaped_many _ _ _ _ next_effect_is refl) refl)
 
-  deed_is : Shaped (deed e) false (TheWord word.Do ∷ TheSign sign.Arrow ∷ []) []
-  unfolding deed effects
-  deed_is =
+  outcome_is : Shaped (outcome e) false (TheWord word.Do ∷ TheSign sign.Arrow ∷ []) []
+  unfolding outcome effects
+  outcome_is =
       shaped_seq _ _ _ _ _ _ _ _ _ _
       (shaped_made _ _ _ _ _ _ _
       (shaped_maybe _ _ _ _
@@ -184,7 +184,7 @@ module _ (e : Grows Phrase) (h : IsExpression e) where
       shaped_made _ _ _ _ _ _ _
       (shaped_seq _ _ _ _ _ _ _ _ _ _ (shaped_made _ _ _ _ _ _ _ (shaped_one _ refl))
       (shaped_seq _ _ _ _ _ _ _ _ _ _ pause_is
-      (shaped_seq _ _ _ _ _ _ _ _ _ _ (trigger_is e h) deed_is refl)
+      (shaped_seq _ _ _ _ _ _ _ _ _ _ (trigger_is e h) outcome_is refl)
       refl)
       refl)
 
@@ -193,7 +193,7 @@ module _ (e : Grows Phrase) (h : IsExpression e) where
   termination_is =
       shaped_made _ _ _ _ _ _ _
       (shaped_seq _ _ _ _ _ _ _ _ _ _ (shaped_made _ _ _ _ _ _ _ (shaped_one _ refl))
-      (shaped_seq _ _ _ _ _ _ _ _ _ _ (trigger_is e h) deed_is refl)
+      (shaped_seq _ _ _ _ _ _ _ _ _ _ (trigger_is e h) outcome_is refl)
       refl)
 
   pub transition_is : Shaped (transition e) false transition_first []

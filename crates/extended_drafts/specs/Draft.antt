@@ -121,14 +121,14 @@ abbrev pub way_of : Option DraftDelay → DraftLead → DraftWay
 way_of delay lead = record { delay = delay; history = lead.history }
 
 abbrev pub delayed : TransitionKind × ℕ → Bool × Option DraftDelay → Option TextExpression → List DraftEffect × DraftLead → DraftTransition × DraftWay
-delayed moment pause trigger deed = (transition_of moment pause.0 trigger deed.0 deed.1.target, way_of pause.1 deed.1)
+delayed moment pause trigger outcome = (transition_of moment pause.0 trigger outcome.0 outcome.1.target, way_of pause.1 outcome.1)
 
 -- the trigger of a termination, which has no word before it
 abbrev pub hold_of : TextExpression → DraftDelay
 hold_of trigger = record { word = None; until = trigger; count = None }
 
 abbrev pub ended : TransitionKind × ℕ → Option TextExpression → List DraftEffect × DraftLead → DraftTransition × DraftWay
-ended moment trigger deed = (transition_of moment false None deed.0 deed.1.target, way_of (option_map hold_of trigger) deed.1)
+ended moment trigger outcome = (transition_of moment false None outcome.0 outcome.1.target, way_of (option_map hold_of trigger) outcome.1)
 
 -- ---- rows
 

@@ -155,8 +155,8 @@ unfoldable pub leading : Grows DraftLead
 leading = after (the_sign sign.Arrow) last_lead
 
 -- what is done, and where a transition leads
-unfoldable pub deed : Grows Phrase → Grows (List DraftEffect × DraftLead)
-deed e = seq (effects e) leading
+unfoldable pub outcome : Grows Phrase → Grows (List DraftEffect × DraftLead)
+outcome e = seq (effects e) leading
 
 -- ---- actions and transitions
 
@@ -198,10 +198,10 @@ pause_first = TheWord word.Immediate ∷ AName ∷ []
 unfoldable pub tested : Grows Phrase → Grows (DraftTransition × DraftWay)
 tested e =
     made (λ x. delayed x.0 x.1.0 x.1.1.0 x.1.1.1)
-    (seq (moment tested_words) (seq (pause e) (seq (trigger e) (deed e))))
+    (seq (moment tested_words) (seq (pause e) (seq (trigger e) (outcome e))))
 
 unfoldable pub termination : Grows Phrase → Grows (DraftTransition × DraftWay)
-termination e = made (λ x. ended x.0 x.1.0 x.1.1) (seq (moment (the_word word.Join)) (seq (trigger e) (deed e)))
+termination e = made (λ x. ended x.0 x.1.0 x.1.1) (seq (moment (the_word word.Join)) (seq (trigger e) (outcome e)))
 
 unfoldable pub transition : Grows Phrase → Grows (DraftTransition × DraftWay)
 transition e = either (termination e) (tested e)

@@ -7,7 +7,7 @@ ghost use Rattle.sc_text.specs.Reading.{Stops};
 ghost use Rattle.chart_drafts.specs.Phrase.{Gives};
 ghost use Rattle.extended_drafts.specs.Draft.{emitted, combined_by, combined, effect_with};
 ghost use Rattle.extended_drafts.specs.ExtendedText.{combining_signs, combiner, equals, combining};
-ghost use Rattle.extended_drafts.specs.ExtendedText.{effect_end, effect, next_effect, some_effects, effects, deed};
+ghost use Rattle.extended_drafts.specs.ExtendedText.{effect_end, effect, next_effect, some_effects, effects, outcome};
 
 use crate::draft::{CompoundSign, DraftLead, EffectEnd};
 use crate::targets::leading;
@@ -228,15 +228,15 @@ fn effects(alloc: Global, ahead: &mut Ahead, end: usize) -> Result<Items<DraftEf
 }
 
 /// What is done, and where a transition leads.
-#[tactic(auto, using(chart_drafts::proofs::Parts::seq_stops_first, chart_drafts::proofs::Parts::seq_stops_second, chart_drafts::proofs::Parts::seq_gives), unfolding(crate::specs::ExtendedText::deed))]
-pub(crate) fn deed(
+#[tactic(auto, using(chart_drafts::proofs::Parts::seq_stops_first, chart_drafts::proofs::Parts::seq_stops_second, chart_drafts::proofs::Parts::seq_gives), unfolding(crate::specs::ExtendedText::outcome))]
+pub(crate) fn outcome(
     alloc: Global,
     ahead: &mut Ahead,
     end: usize,
 ) -> Result<(Items<DraftEffect>, DraftLead), ReadFault>
     ensures { MatchResult result
-        (λ x. Gives (read (deed (expression 0)) ahead.old.tokens.now) x ahead.new.tokens.now)
-        (λ fault. Stops end (read (deed (expression 0)) ahead.old.tokens.now) fault) }
+        (λ x. Gives (read (outcome (expression 0)) ahead.old.tokens.now) x ahead.new.tokens.now)
+        (λ fault. Stops end (read (outcome (expression 0)) ahead.old.tokens.now) fault) }
 {
     let effects = effects(alloc, ahead, end)?;
     let lead = leading(ahead, end)?;

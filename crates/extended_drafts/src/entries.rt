@@ -58,7 +58,7 @@ fn entry(alloc: Global, ahead: &mut Ahead, end: usize) -> Result<DraftEntry, Rea
     let immediate = flag(ahead, Word::Immediate);
     let word = name(ahead, end)?;
     let trigger = trigger(alloc, ahead, end)?;
-    let effects = deeds(alloc, ahead, end)?;
+    let effects = outcomes(alloc, ahead, end)?;
     Ok(DraftEntry {
         immediate,
         word,
@@ -69,7 +69,7 @@ fn entry(alloc: Global, ahead: &mut Ahead, end: usize) -> Result<DraftEntry, Rea
 
 // The word `do`, and what is done.
 #[tactic(auto, using(chart_drafts::proofs::Parts::after_stops_first, chart_drafts::proofs::Parts::after_stops_second, chart_drafts::proofs::Parts::after_gives))]
-fn deeds(alloc: Global, ahead: &mut Ahead, end: usize) -> Result<Items<DraftEffect>, ReadFault>
+fn outcomes(alloc: Global, ahead: &mut Ahead, end: usize) -> Result<Items<DraftEffect>, ReadFault>
     ensures { MatchResult result
         (λ x. Gives (read (after (the_word Word.Do) (last_effects (expression 0))) ahead.old.tokens.now) x
         ahead.new.tokens.now)

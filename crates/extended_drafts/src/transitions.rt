@@ -11,7 +11,7 @@ ghost use Rattle.extended_drafts.specs.ExtendedText.{some_count, counted, some_d
 ghost use Rattle.extended_drafts.specs.ExtendedText.{transition, transitions, leaving};
 
 use crate::draft::{DraftCount, DraftDelay, DraftWay};
-use crate::effects::deed;
+use crate::effects::outcome;
 use crate::words::{join_word, name_follows};
 use chart_drafts::DraftTransition;
 use chart_drafts::text_parts::{
@@ -99,7 +99,7 @@ fn tested(
     let (kind, at) = tested_word(ahead, end)?;
     let (immediate, delay) = pause(alloc, ahead, end)?;
     let trigger = trigger(alloc, ahead, end)?;
-    let (effects, lead) = deed(alloc, ahead, end)?;
+    let (effects, lead) = outcome(alloc, ahead, end)?;
     let transition = DraftTransition {
         kind,
         at,
@@ -141,7 +141,7 @@ fn termination(
 {
     let (kind, at) = join_word(ahead, end)?;
     let trigger = trigger(alloc, ahead, end)?;
-    let (effects, lead) = deed(alloc, ahead, end)?;
+    let (effects, lead) = outcome(alloc, ahead, end)?;
     let delay = hold_of(trigger);
     let ends = DraftTransition {
         kind,

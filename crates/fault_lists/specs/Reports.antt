@@ -20,7 +20,7 @@ use Rattle.text_continuations.specs.Continuations.{IsReadBy}
 use Rattle.text_continuations.specs.declared.grammars.Grammar.{Grammar}
 use Rattle.text_continuations.specs.declared.grammars.Grammar.TheVariants as grammars
 use Rattle.diagnostics.specs.Reports.{Tells, TellsAt, TellsPlace, text_fault}
-use Rattle.diagnostics.specs.Spots.{place_shown}
+use Rattle.diagnostics.specs.LinesColumns.{place_shown}
 
 -- a report for each of these flaws, with its line and column, one behind the other, and nothing else
 abbrev pub AreReports : (name text : List ℕ) → List Flaw → (told : List ℕ) → Type 0

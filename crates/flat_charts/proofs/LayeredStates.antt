@@ -32,7 +32,7 @@ use Rattle.flat_charts.specs.Layers.{Layers, region_layers, state_layers, layers
 use Rattle.flat_charts.specs.Laws.{LayeredTextsAreLayered}
 use Rattle.abort_expansion_laws.specs.Layered.{LiesInside, IsLayered}
 use Rattle.abort_expansion_laws.specs.CoreRows.{own}
-use Rattle.abort_expansion_laws.proofs.InRegionRows.{InRegionAt, first_holds, rest_holds, spot_of}
+use Rattle.abort_expansion_laws.proofs.InRegionRows.{InRegionAt, first_holds, rest_holds, position_of}
 use Rattle.abort_expansion_laws.proofs.SideRows.{side_head, side_tail}
 use Rattle.abort_expansion_laws.proofs.Walked.{Range, range_none, range_both, range_to, range_more}
 use Rattle.abort_expansion_laws.proofs.RowsOfForks.{region_rows}
@@ -138,7 +138,7 @@ module _ (k : Table) where
       let parts = both (layers_of_state s).is_layered (all_layered (layers_inside states)) layered in
       range_to LayeredState a.state ((a.state + p.states) + states_in ps) (a.state + states_in (p ∷ ps)) (omega arith)
       (range_both LayeredState a.state (a.state + p.states) ((a.state + p.states) + states_in ps)
-      (each.0.layered (spot_of p.is_initial next a) (first_holds k p ps next a rows) around_it parts.0
+      (each.0.layered (position_of p.is_initial next a) (first_holds k p ps next a rows) around_it parts.0
       (first_of a.around (layers_of_state s).has_strong (some_strong (layers_inside states)) (layers_of_state s).has_weak
       (some_weak (layers_inside states)) calm))
       (inner_layered states each.1 (past_states p.states a) (next_behind p next) (rest_holds k p ps next a each.0.sized once rows) once.1 around_it parts.1

@@ -10,14 +10,14 @@ use Rattle.sc_graph.specs.declared.program.Node.{Node}
 use Rattle.sc_graph.specs.declared.program.Step.{Step}
 use Rattle.core_charts.specs.Chart.{Chart}
 use Rattle.chart_places.specs.declared.places.Places.{Places}
-use Rattle.chart_places.specs.declared.scenes.Scene.{Scene}
+use Rattle.chart_places.specs.declared.states_around.StateAround.{StateAround}
 use Rattle.chart_places.specs.Laws.{EffectStands, NameStands, PlacesTellTexts, Tells, TellsPlaces, TransitionStands}
-use Rattle.chart_places.specs.Places.{place_of, scene_of}
+use Rattle.chart_places.specs.Places.{place_of, state_around}
 use Rattle.node_elements.specs.Laws.{Comes, ElementsTellNodes, NodeFrom, TellsElements}
 use Rattle.node_elements.specs.Origins.{node_elements}
 use Rattle.node_sources.specs.declared.origin.Origin.{Origin}
 use Rattle.node_sources.specs.declared.origin.Part.{Part}
-use Rattle.node_sources.specs.ChartOrigins.{in_scene, node_origin, origins_from, standing, standing_if}
+use Rattle.node_sources.specs.ChartOrigins.{in_state_around, node_origin, origins_from, standing, standing_if}
 use Rattle.node_sources.specs.Laws.{ElementStands, IsStanding, NodeTold, SourcesTellCharts}
 use Rattle.node_sources.specs.Parts.{part_of}
 use Rattle.node_sources.specs.Sources.{ChartSources}
@@ -44,16 +44,16 @@ get_from p q i (e ∷ elements) (suc k) from h =
 
 -- ---- places
 
-in_scene_at : (part : Part) (at : ℕ) (scene : Option Scene) → (in_scene part at scene).at ≡ at
-in_scene_at part at (Some scene) = refl
-in_scene_at part at None = refl
+in_state_around_at : (part : Part) (at : ℕ) (around : Option StateAround) → (in_state_around part at around).at ≡ at
+in_state_around_at part at (Some around) = refl
+in_state_around_at part at None = refl
 
 standing_at : (p : Places) (part : Part) (from : Element) (at : ℕ) → (standing p part from at).at ≡ at
 standing_at p part element.Chart at = refl
 standing_at p part (element.Region n) at = refl
-standing_at p part (element.State n) at = in_scene_at part at (scene_of p (element.State n))
-standing_at p part (element.Transition n) at = in_scene_at part at (scene_of p (element.Transition n))
-standing_at p part (element.Effect n) at = in_scene_at part at (scene_of p (element.Effect n))
+standing_at p part (element.State n) at = in_state_around_at part at (state_around p (element.State n))
+standing_at p part (element.Transition n) at = in_state_around_at part at (state_around p (element.Transition n))
+standing_at p part (element.Effect n) at = in_state_around_at part at (state_around p (element.Effect n))
 
 -- what has a number below their count stands at its place
 one_stands : {A : Type 0} (Stands : A → ℕ → Type 0) (places : List ℕ) (those : List A) (n at : ℕ) → Tells Stands places those → n < length those →

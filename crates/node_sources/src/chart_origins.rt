@@ -2,26 +2,26 @@
 
 ghost use Rattle.std.specs.Prelude.{◌≡◌, ℕ, IfOk, IsSome, Option, Some, map, slice_get};
 ghost use Rattle.chart_elements.specs.declared.element.Element.{Element};
-ghost use Rattle.node_sources.specs.ChartOrigins.{element_origin, in_scene, node_origin, origins_from, standing};
+ghost use Rattle.node_sources.specs.ChartOrigins.{element_origin, in_state_around, node_origin, origins_from, standing};
 
 use crate::origin::{Origin, Part};
 use crate::parts::part_of;
 use chart_elements::Element;
-use chart_places::{Places, Scene};
+use chart_places::{Places, StateAround};
 use sc_graph::Program;
 use sqlite_items::{Items, at};
 use std::alloc::{AllocError, Global};
 
 // A part of a state.
-fn in_scene(part: Part, place: usize, scene: Option<Scene>) -> Origin
-    ensures { result ≡ in_scene part place scene }
+fn in_state_around(part: Part, place: usize, around: Option<StateAround>) -> Origin
+    ensures { result ≡ in_state_around part place around }
 {
-    match scene {
-        Some(scene) => Origin {
+    match around {
+        Some(around) => Origin {
             at: place,
             part,
-            region: Some(scene.region),
-            state: Some(scene.state),
+            region: Some(around.region),
+            state: Some(around.state),
         },
         None => Origin {
             at: place,
@@ -37,16 +37,16 @@ fn standing(places: &Places, part: Part, from: Element, place: usize) -> Origin
     ensures { result ≡ standing places.now part from place }
 {
     match from {
-        Element::Chart => in_scene(part, place, None),
+        Element::Chart => in_state_around(part, place, None),
         Element::Region(_) => Origin {
             at: place,
             part,
             region: Some(place),
             state: None,
         },
-        Element::State(_) => in_scene(part, place, places.scene_of(from)),
-        Element::Transition(_) => in_scene(part, place, places.scene_of(from)),
-        Element::Effect(_) => in_scene(part, place, places.scene_of(from)),
+        Element::State(_) => in_state_around(part, place, places.state_around(from)),
+        Element::Transition(_) => in_state_around(part, place, places.state_around(from)),
+        Element::Effect(_) => in_state_around(part, place, places.state_around(from)),
     }
 }
 

@@ -19,7 +19,7 @@ use Rattle.chart_machine.specs.declared.standing.Configuration.{Configuration}
 use Rattle.chart_machine.specs.declared.table.Table.{Table}
 use Rattle.chart_machine.specs.Table.{table, region_at}
 use Rattle.chart_machine.specs.Turns.{standing_of, has_work, is_enabled, is_guarded, inside_is_done}
-use Rattle.chart_machine.specs.Steps.{step, deed_of, after}
+use Rattle.chart_machine.specs.Steps.{step, change_of, after}
 use Rattle.tick_laws.proofs.Views.{only_if_some}
 use Rattle.chart_machine.specs.Machine.{machine}
 use Rattle.chart_machine_laws.specs.Progress.{IsReached, stepped}
@@ -57,7 +57,7 @@ in_front (z ∷ xs) ys (suc i) x is = in_front xs ys i x is
 -- who has a step is enabled
 pub turn_of : (k : Table) (now d : Configuration) (t : ℕ) → step k t now ≡ Some d → is_enabled k now t ≡ true
 turn_of k now d t steps =
-    (only_if_some (is_enabled k now t) (option_map (λ e. after e now) (deed_of k now t (standing_of now t))) d steps).0
+    (only_if_some (is_enabled k now t) (option_map (λ e. after e now) (change_of k now t (standing_of now t))) d steps).0
 
 -- ---- a run that goes on
 

@@ -16,7 +16,7 @@ use Rattle.chart_machine.specs.declared.standing.Move.{Move}
 use Rattle.chart_machine.specs.declared.table.Table.{Table}
 use Rattle.chart_machine.specs.Table.{table, state_at, region_at}
 use Rattle.chart_machine.specs.Turns.{standing_of, inside}
-use Rattle.chart_machine.specs.Steps.{to, moved, state_in, acts, taken, deed_of, step, after, verdict}
+use Rattle.chart_machine.specs.Steps.{to, moved, state_in, acts, taken, change_of, step, after, verdict}
 use Rattle.scl.specs.Block.{Block, End, Assign, Label, Goto, Pause, If, Fork}
 use Rattle.scl.specs.Numbering.{Numbered}
 use Rattle.scl.specs.Meaning.{State, Doing, Away, Todo, Forked, Resting, Resuming, Finished, doing}
@@ -182,11 +182,11 @@ module _ (chart : Chart) (rules : IsChart features.Core chart) (p : Numbered) (l
   moves_are : d.regions ≡ moved (acts k t tries.state tries.test.effects tries.test.target) dropped_regions
   moves_are =
       let parts : Stepped k t c d = stepped k t c d steps in
-      let deed_is : record { write = None; moves = taken k t tries.state tries.test } ≡ parts.deed =
-      same_Some (record { write = None; moves = taken k t tries.state tries.test }) parts.deed
-      (sym (ap (deed_of k c t) tries.stands
+      let change_is : record { write = None; moves = taken k t tries.state tries.test } ≡ parts.change =
+      same_Some (record { write = None; moves = taken k t tries.state tries.test }) parts.change
+      (sym (ap (change_of k c t) tries.stands
       ∙ tested_is k c t tries.state tries.test (to t (at.Trying tries.state tries.others) ∷ []) true (ap (verdict c.variables) tries.plain)) ∙ parts.does) in
-      ap (λ (z : Configuration). z.regions) (sym parts.is ∙ ap (λ e. after e c) (sym deed_is))
+      ap (λ (z : Configuration). z.regions) (sym parts.is ∙ ap (λ e. after e c) (sym change_is))
       ∙ moved_append (drops (inside k tries.state)) (acts k t tries.state tries.test.effects tries.test.target) c.regions
 
   -- nobody is inside of a simple state

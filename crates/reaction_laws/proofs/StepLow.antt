@@ -108,7 +108,7 @@ module _ (c : Chart) (rules : IsChart features.Extended c) (core_rules : IsChart
       made = step_made k r now next steps
 
       by_tests : (s : ℕ) (tests : List Transition) → standing_of now r ≡ at.Within s tests → LinesLow next n least
-      by_tests s [] was = absurd (none_left r s (standing_of now r) made.deed.moves made.makes was)
+      by_tests s [] was = absurd (none_left r s (standing_of now r) made.change.moves made.makes was)
       by_tests s (t ∷ tests) was = behind (standing_of next r) refl
         where
           inside : IsWithin (standing_of now r)

@@ -158,14 +158,14 @@ module _ (c : Chart) (rules : IsChart features.Extended c) (core_rules : IsChart
     pub stays : (q : ℕ) → LiesElsewhere r q → standing_of next q ≡ standing_of now q
     stays q far =
         ap (λ (z : Configuration). at_number z.regions q) (sym made.is)
-        ∙ makes_stay r q far there (standing_of now r) made.deed.moves made.makes
+        ∙ makes_stay r q far there (standing_of now r) made.change.moves made.makes
         (knows r q far there now (standing_of now r) (standing_of d (i.thread_of r)) (related.regions r there) (owns r)) now.regions
       where
         made : StepMade k r now next
         made = step_made k r now next steps
 
         there : IsThere k r
-        there = present_there k core i now d related r (makes_present r (standing_of now r) made.deed.moves made.makes)
+        there = present_there k core i now d related r (makes_present r (standing_of now r) made.change.moves made.makes)
 
     module _ (q : ℕ) (far : LiesElsewhere r q) where
       -- who holds a superstate around it lies elsewhere too

@@ -46,7 +46,7 @@ abbrev pub all_finished : State → List ℕ → Bool
 all_finished s threads = list_all (λ t. has_finished (doing s t)) threads
 
 -- what a step does: a change of the variables, and what threads are at from then on
-pub record Deed : Type 0 where
+pub record ThreadChange : Type 0 where
   pub change : Change
   pub moves : List (ℕ × Doing)
 
@@ -54,19 +54,19 @@ abbrev pub moved : List (ℕ × Doing) → List Doing → List Doing
 moved [] threads = threads
 moved (m ∷ moves) threads = moved moves (slice_set threads m.0 m.1)
 
-abbrev pub after : Deed → State → State
+abbrev pub after : ThreadChange → State → State
 after d s = record { variables = changed d.change s.variables; threads = moved d.moves s.threads }
 
 -- the thread goes on with this, past labels and gotos
-abbrev pub goes_on : Block → ℕ → Change → Block → Option Deed
+abbrev pub goes_on : Block → ℕ → Change → Block → Option ThreadChange
 goes_on root t change rest =
     option_map (λ todo. record { change = change; moves = (t, Todo todo) ∷ [] }) (settled root rest)
 
-abbrev pub assigned : Numbered → ℕ → ℕ → Block → Value → Option Deed
+abbrev pub assigned : Numbered → ℕ → ℕ → Block → Value → Option ThreadChange
 assigned p t x rest v =
     only_if (takes_kind (option_map (λ a. a.kind) (slice_get p.variables x)) (kind_of v)) (goes_on p.root t (Put x v) rest)
 
-abbrev pub chosen : Numbered → ℕ → Block → Block → Value → Option Deed
+abbrev pub chosen : Numbered → ℕ → Block → Block → Value → Option ThreadChange
 chosen p t first second (value.Bool true) = goes_on p.root t Keep first
 chosen p t first second (value.Bool false) = goes_on p.root t Keep second
 chosen p t first second (value.Int n) = None
@@ -80,15 +80,15 @@ abbrev pub all_entered : Block → Branches → Option (List (ℕ × Doing))
 all_entered root NoMore = Some []
 all_entered root (Branch t body more) = entered t (settled root body) (all_entered root more)
 
-abbrev pub forked : ℕ → Doing → List (ℕ × Doing) → Deed
+abbrev pub forked : ℕ → Doing → List (ℕ × Doing) → ThreadChange
 forked t waits moves = record { change = Keep; moves = (t, waits) ∷ moves }
 
 -- the threads of the branches go away, and the thread goes on with the rest
-abbrev pub joined : ℕ → List ℕ → Block → Deed
+abbrev pub joined : ℕ → List ℕ → Block → ThreadChange
 joined t threads todo = record { change = Keep; moves = (t, Todo todo) ∷ map (λ u. (u, Away)) threads }
 
 -- the step of a thread that stands at a statement. Nobody stands at a label or a goto
-abbrev pub first_step : Numbered → List Value → ℕ → Block → Option Deed
+abbrev pub first_step : Numbered → List Value → ℕ → Block → Option ThreadChange
 first_step p variables t (End n) = Some (record { change = Keep; moves = (t, Finished) ∷ [] })
 first_step p variables t (Assign n x e rest) = option_and_then (assigned p t x rest) (value_of e variables)
 first_step p variables t (Pause n rest) = Some (record { change = Keep; moves = (t, Resting n rest) ∷ [] })
@@ -100,15 +100,15 @@ first_step p variables t (Label name rest) = None
 first_step p variables t (Goto g name rest) = None
 
 -- the step of a thread; None where it isn't enabled or its step is undefined
-abbrev pub deed_of : Numbered → State → ℕ → Doing → Option Deed
-deed_of p s t (Todo todo) = first_step p s.variables t todo
-deed_of p s t (Resuming n rest) = goes_on p.root t Keep rest
-deed_of p s t (Forked n branches rest) =
+abbrev pub change_of : Numbered → State → ℕ → Doing → Option ThreadChange
+change_of p s t (Todo todo) = first_step p s.variables t todo
+change_of p s t (Resuming n rest) = goes_on p.root t Keep rest
+change_of p s t (Forked n branches rest) =
     only_if (all_finished s (threads_of branches)) (option_map (joined t (threads_of branches)) (settled p.root rest))
-deed_of p s t other = None
+change_of p s t other = None
 
 abbrev pub step : Numbered → ℕ → State → Option State
-step p t s = option_map (λ d. after d s) (deed_of p s t (doing s t))
+step p t s = option_map (λ d. after d s) (change_of p s t (doing s t))
 
 abbrev pub is_ready : State → Doing → Bool
 is_ready s (Todo todo) = true

@@ -16,7 +16,7 @@ use Rattle.scl.specs.Labels.{before}
 use Rattle.scl.specs.Numbering.{Piece, piece, piece_of, in_row, beyond}
 use Rattle.scl_graph.specs.declared.landing.Landing.{Landing}
 use Rattle.scl_graph.specs.declared.landing.Landing.TheVariants as lands
-use Rattle.scl_graph.specs.declared.spots.Spot.{Spot}
+use Rattle.scl_graph.specs.declared.numbers_ahead.NumbersAhead.{NumbersAhead}
 use Rattle.scl_graph.specs.declared.totals.Totals.{Totals}
 use Rattle.scl_graph.specs.Inside.Totals.{after, numbers, past, totals, totals_of, totals_of_all}
 use Rattle.scl_graph.specs.Inside.Gathering.{AreWithin, Gathers, IsGathered, IsWithin, Noted, Notes}
@@ -77,8 +77,8 @@ own_count_before (If n e first second rest) k = let h : _ = own_count_before res
 own_count_before (Fork n forks rest) k = own_count_before rest k
 
 -- what stands at a text
-lands_at : (y : Statement-F Statement) (rest : List Statement) (at : Spot) (behind : Landing)
-    → ((m : Spot) → m.node ≡ at.node → m.goto ≡ at.goto → landing (text rest m) behind ≡ landing_in rest at.node at.goto behind)
+lands_at : (y : Statement-F Statement) (rest : List Statement) (at : NumbersAhead) (behind : Landing)
+    → ((m : NumbersAhead) → m.node ≡ at.node → m.goto ≡ at.goto → landing (text rest m) behind ≡ landing_in rest at.node at.goto behind)
     → landing (let p : Piece = piece (map-Statement Statement Piece piece_of y) in
     p.made (numbers at) ((in_row (map piece_of rest)).made (beyond (numbers at) p.counts) (End 0))) behind
     ≡ landing_at y at.node at.goto (landing_in rest at.node at.goto behind)
@@ -90,7 +90,7 @@ lands_at tree.Pause rest at behind h = refl
 lands_at (tree.If e a b) rest at behind h = refl
 lands_at (tree.Fork branches) rest at behind h = refl
 
-pub lands_in : (statements : List Statement) (at : Spot) (behind : Landing) (n g : ℕ) → at.node ≡ n → at.goto ≡ g → landing (text statements at) behind
+pub lands_in : (statements : List Statement) (at : NumbersAhead) (behind : Landing) (n g : ℕ) → at.node ≡ n → at.goto ≡ g → landing (text statements at) behind
     ≡ landing_in statements n g behind
 lands_in [] at behind n g same equal = refl
 lands_in (s ∷ rest) at behind n g same equal =
@@ -101,7 +101,7 @@ lands_in (s ∷ rest) at behind n g same equal =
     ∙ ap (λ m. landing_at (out-Statement s) n m (landing_in rest n m behind)) equal
 
 -- what stands behind a statement
-behind_at : (y : Statement-F Statement) (rest : List Statement) (here : Spot) (ahead behind : Landing)
+behind_at : (y : Statement-F Statement) (rest : List Statement) (here : NumbersAhead) (ahead behind : Landing)
     → ahead ≡ landing_at y here.node here.goto (landing_in rest here.node here.goto behind)
     → landing_behind y rest (past here (totals (piece (map-Statement Statement Piece piece_of y)).counts)) ahead behind
     ≡ landing_in rest (past here (totals (piece (map-Statement Statement Piece piece_of y)).counts)).node
@@ -116,7 +116,8 @@ behind_at tree.Pause rest here ahead behind is = refl
 behind_at (tree.If e a b) rest here ahead behind is = refl
 behind_at (tree.Fork branches) rest here ahead behind is = refl
 
-pub lands_behind : (s : Statement) (rest : List Statement) (here : Spot) (ahead behind : Landing) → ahead ≡ landing_in (s ∷ rest) here.node here.goto behind
+pub lands_behind : (s : Statement) (rest : List Statement) (here : NumbersAhead) (ahead behind : Landing) →
+    ahead ≡ landing_in (s ∷ rest) here.node here.goto behind
     → landing_behind (out-Statement s) rest (past here (totals_of s)) ahead behind
     ≡ landing_in rest (past here (totals_of s)).node (past here (totals_of s)).goto behind
 lands_behind s rest here ahead behind is =
@@ -190,7 +191,7 @@ notes_within name w old new h most here all other v found =
     from_noted most (find old other) (bytes_eq name other) w v (all other) here (sym (h.each other) ∙ found)
 
 -- a statement by itself
-by_own : (s : Statement) (at : Spot) (behind : Landing) (old new : Noted) (p : Piece) → piece_of s ≡ p
+by_own : (s : Statement) (at : NumbersAhead) (behind : Landing) (old new : Noted) (p : Piece) → piece_of s ≡ p
     → Gathers (own_label (p.made (numbers at) (End 0)) behind) (own_count (p.made (numbers at) (End 0))) (at.node + (p.counts.nodes + 0)) behind old new
     → IsGathered (s ∷ []) at behind old new
 by_own s at behind old new p is h =
@@ -198,13 +199,14 @@ by_own s at behind old new p is h =
     (at.node + (q.counts.nodes + 0)) behind old new in
     subst Of (sym is) h
 
-pub gathered_assign : (s : Statement) (at : Spot) (behind : Landing) (labels : Noted) (x : ℕ) (e : Expr) → s ≡ variant.Assign x e
+pub gathered_assign : (s : Statement) (at : NumbersAhead) (behind : Landing) (labels : Noted) (x : ℕ) (e : Expr) → s ≡ variant.Assign x e
     → IsGathered (s ∷ []) at behind labels labels
 gathered_assign s at behind labels x e is =
     by_own s at behind labels labels (piece (tree.Assign x e)) (ap piece_of is ∙ piece_of_assign x e)
     (nothing (own_label (Assign at.node x e (End 0)) behind) (at.node + (1 + 0)) behind labels (λ name. refl))
 
-pub gathered_label : (s : Statement) (at : Spot) (behind : Landing) (old new : Noted) (name : List ℕ) → s ≡ variant.Label name → Notes name behind old new
+pub gathered_label : (s : Statement) (at : NumbersAhead) (behind : Landing) (old new : Noted) (name : List ℕ) → s ≡ variant.Label name →
+    Notes name behind old new
     → IsGathered (s ∷ []) at behind old new
 gathered_label s at behind old new name is h =
     let le : _ = h.count in
@@ -215,29 +217,29 @@ gathered_label s at behind old new name is h =
       within = λ most low here all. notes_within name behind old new h most here all;
     })
 
-pub gathered_goto : (s : Statement) (at : Spot) (behind : Landing) (labels : Noted) (name : List ℕ) → s ≡ variant.Goto name
+pub gathered_goto : (s : Statement) (at : NumbersAhead) (behind : Landing) (labels : Noted) (name : List ℕ) → s ≡ variant.Goto name
     → IsGathered (s ∷ []) at behind labels labels
 gathered_goto s at behind labels name is =
     by_own s at behind labels labels (piece (tree.Goto name)) (ap piece_of is ∙ piece_of_goto name)
     (nothing (own_label (Goto at.goto name (End 0)) behind) (at.node + (0 + 0)) behind labels (λ name. refl))
 
-pub gathered_pause : (s : Statement) (at : Spot) (behind : Landing) (labels : Noted) → s ≡ variant.Pause → IsGathered (s ∷ []) at behind labels labels
+pub gathered_pause : (s : Statement) (at : NumbersAhead) (behind : Landing) (labels : Noted) → s ≡ variant.Pause → IsGathered (s ∷ []) at behind labels labels
 gathered_pause s at behind labels is =
     by_own s at behind labels labels (piece tree.Pause) (ap piece_of is ∙ piece_of_pause)
     (nothing (own_label (Pause at.node (End 0)) behind) (at.node + (2 + 0)) behind labels (λ name. refl))
 
-pub gathered_fork : (s : Statement) (at : Spot) (behind : Landing) (labels : Noted) (bodies : List (List Statement)) → s ≡ variant.Fork bodies
+pub gathered_fork : (s : Statement) (at : NumbersAhead) (behind : Landing) (labels : Noted) (bodies : List (List Statement)) → s ≡ variant.Fork bodies
     → IsGathered (s ∷ []) at behind labels labels
 gathered_fork s at behind labels bodies is =
     let p : Piece = piece (tree.Fork (map (map piece_of) bodies)) in
     by_own s at behind labels labels p (ap piece_of is ∙ piece_of_fork bodies)
     (nothing (own_label (p.made (numbers at) (End 0)) behind) (at.node + (p.counts.nodes + 0)) behind labels (λ name. refl))
 
-pub gathered_if : (s : Statement) (at : Spot) (behind : Landing) (x y z : Noted) (e : Expr) (a b : List Statement) → s ≡ variant.If e a b
+pub gathered_if : (s : Statement) (at : NumbersAhead) (behind : Landing) (x y z : Noted) (e : Expr) (a b : List Statement) → s ≡ variant.If e a b
     → IsGathered a (after 1 at) behind x y → IsGathered b (past (after 1 at) (totals_of_all a)) behind y z → IsGathered (s ∷ []) at behind x z
 gathered_if s at behind x y z e a b is first second =
     let p : Piece = piece (tree.If e (map piece_of a) (map piece_of b)) in
-    let further : Spot = past (after 1 at) (totals_of_all a) in
+    let further : NumbersAhead = past (after 1 at) (totals_of_all a) in
     let in_first : List ℕ → Option Landing = own_label (text a (after 1 at)) behind in
     let in_second : List ℕ → Option Landing = own_label (text b further) behind in
     let c : Totals = totals_of_all a in
@@ -247,16 +249,16 @@ gathered_if s at behind x y z e a b is first second =
     (own_count (text b further)) (at.node + (p.counts.nodes + 0)) (1 + at.node + c.nodes) (1 + at.node + c.nodes + d.nodes) behind behind behind x y z
     (λ name. ap (option_or (in_first name)) (or_none (in_second name))) (omega arith) (omega arith) (omega arith) (λ most low h. h) (λ most h. h) first second)
 
-pub gathered_none : (at : Spot) (behind : Landing) (labels : Noted) → IsGathered [] at behind labels labels
+pub gathered_none : (at : NumbersAhead) (behind : Landing) (labels : Noted) → IsGathered [] at behind labels labels
 gathered_none at behind labels = nothing (own_label (End 0) behind) (at.node + 0) behind labels (λ name. refl)
 
 -- a statement, and then those behind it
-pub gathered_more : (s : Statement) (rest : List Statement) (at : Spot) (behind : Landing) (a b c : Noted)
+pub gathered_more : (s : Statement) (rest : List Statement) (at : NumbersAhead) (behind : Landing) (a b c : Noted)
     → IsGathered (s ∷ []) at (landing_in rest (past at (totals_of s)).node (past at (totals_of s)).goto behind) a b
     → IsGathered rest (past at (totals_of s)) behind b c
     → IsGathered (s ∷ rest) at behind a c
 gathered_more s rest at behind a b c one others =
-    let next : Spot = past at (totals_of s) in
+    let next : NumbersAhead = past at (totals_of s) in
     let k : Block = text rest next in
     let f : Block = (piece_of s).made (numbers at) (End 0) in
     let w : Landing = landing_in rest next.node next.goto behind in

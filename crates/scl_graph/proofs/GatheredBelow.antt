@@ -11,7 +11,7 @@ use Rattle.scl.specs.Labels.{before}
 use Rattle.scl.specs.Numbering.{Piece, piece, piece_of}
 use Rattle.scl_graph.specs.declared.landing.Landing.{Landing}
 use Rattle.scl_graph.specs.declared.landing.Landing.TheVariants as lands
-use Rattle.scl_graph.specs.declared.spots.Spot.{Spot}
+use Rattle.scl_graph.specs.declared.numbers_ahead.NumbersAhead.{NumbersAhead}
 use Rattle.scl_graph.specs.declared.totals.Totals.{Totals}
 use Rattle.scl_graph.specs.Inside.Totals.{after, branches_totals, inside, numbers, past, past_branch, totals_of, totals_of_all}
 use Rattle.scl_graph.specs.Inside.Gathering.{AreBranchesGathered, AreForkedGathered, Gathers, IsGathered, IsThreadGathered, Noted}
@@ -45,7 +45,7 @@ lower_count_before (If n e first second rest) k = let h : _ = lower_count_before
 lower_count_before (Fork n branches rest) k = let h : _ = lower_count_before rest k in omega (arith, h)
 
 -- the same for the threads that are forked
-by_lower : (s : Statement) (at : Spot) (old new : Noted) (p : Piece) → piece_of s ≡ p
+by_lower : (s : Statement) (at : NumbersAhead) (old new : Noted) (p : Piece) → piece_of s ≡ p
     → Gathers (lower_label (p.made (numbers at) (End 0))) (lower_count (p.made (numbers at) (End 0))) (at.base + (p.counts.lower + 0)) (lands.Node 0) old new
     → AreForkedGathered (s ∷ []) at old new
 by_lower s at old new p is h =
@@ -53,31 +53,32 @@ by_lower s at old new p is h =
     (at.base + (q.counts.lower + 0)) (lands.Node 0) old new in
     subst Of (sym is) h
 
-pub lower_assign : (s : Statement) (at : Spot) (labels : Noted) (x : ℕ) (e : Expr) → s ≡ variant.Assign x e → AreForkedGathered (s ∷ []) at labels labels
+pub lower_assign : (s : Statement) (at : NumbersAhead) (labels : Noted) (x : ℕ) (e : Expr) → s ≡ variant.Assign x e →
+    AreForkedGathered (s ∷ []) at labels labels
 lower_assign s at labels x e is =
     by_lower s at labels labels (piece (tree.Assign x e)) (ap piece_of is ∙ piece_of_assign x e)
     (nothing (lower_label (Assign at.node x e (End 0))) (at.base + (0 + 0)) (lands.Node 0) labels (λ name. refl))
 
-pub lower_of_label : (s : Statement) (at : Spot) (labels : Noted) (name : List ℕ) → s ≡ variant.Label name → AreForkedGathered (s ∷ []) at labels labels
+pub lower_of_label : (s : Statement) (at : NumbersAhead) (labels : Noted) (name : List ℕ) → s ≡ variant.Label name → AreForkedGathered (s ∷ []) at labels labels
 lower_of_label s at labels name is =
     by_lower s at labels labels (piece (tree.Label name)) (ap piece_of is ∙ piece_of_label name)
     (nothing (lower_label (Label name (End 0))) (at.base + (0 + 0)) (lands.Node 0) labels (λ name. refl))
 
-pub lower_goto : (s : Statement) (at : Spot) (labels : Noted) (name : List ℕ) → s ≡ variant.Goto name → AreForkedGathered (s ∷ []) at labels labels
+pub lower_goto : (s : Statement) (at : NumbersAhead) (labels : Noted) (name : List ℕ) → s ≡ variant.Goto name → AreForkedGathered (s ∷ []) at labels labels
 lower_goto s at labels name is =
     by_lower s at labels labels (piece (tree.Goto name)) (ap piece_of is ∙ piece_of_goto name)
     (nothing (lower_label (Goto at.goto name (End 0))) (at.base + (0 + 0)) (lands.Node 0) labels (λ name. refl))
 
-pub lower_pause : (s : Statement) (at : Spot) (labels : Noted) → s ≡ variant.Pause → AreForkedGathered (s ∷ []) at labels labels
+pub lower_pause : (s : Statement) (at : NumbersAhead) (labels : Noted) → s ≡ variant.Pause → AreForkedGathered (s ∷ []) at labels labels
 lower_pause s at labels is =
     by_lower s at labels labels (piece tree.Pause) (ap piece_of is ∙ piece_of_pause)
     (nothing (lower_label (Pause at.node (End 0))) (at.base + (0 + 0)) (lands.Node 0) labels (λ name. refl))
 
-pub lower_if : (s : Statement) (at : Spot) (x y z : Noted) (e : Expr) (a b : List Statement) → s ≡ variant.If e a b
+pub lower_if : (s : Statement) (at : NumbersAhead) (x y z : Noted) (e : Expr) (a b : List Statement) → s ≡ variant.If e a b
     → AreForkedGathered a (after 1 at) x y → AreForkedGathered b (past (after 1 at) (totals_of_all a)) y z → AreForkedGathered (s ∷ []) at x z
 lower_if s at x y z e a b is first second =
     let p : Piece = piece (tree.If e (map piece_of a) (map piece_of b)) in
-    let further : Spot = past (after 1 at) (totals_of_all a) in
+    let further : NumbersAhead = past (after 1 at) (totals_of_all a) in
     let in_first : List ℕ → Option Landing = lower_label (text a (after 1 at)) in
     let in_second : List ℕ → Option Landing = lower_label (text b further) in
     let c : Totals = totals_of_all a in
@@ -88,7 +89,7 @@ lower_if s at x y z e a b is first second =
     (lower_count (text b further)) (at.base + (p.counts.lower + 0)) (at.base + c.lower) (at.base + c.lower + d.lower) none none none x y z
     (λ name. ap (option_or (in_first name)) (or_none (in_second name))) (omega arith) (omega arith) (omega arith) (λ most low h. h) (λ most h. h) first second)
 
-pub lower_fork : (s : Statement) (at : Spot) (old new : Noted) (bodies : List (List Statement)) → s ≡ variant.Fork bodies
+pub lower_fork : (s : Statement) (at : NumbersAhead) (old new : Noted) (bodies : List (List Statement)) → s ≡ variant.Fork bodies
     → AreBranchesGathered bodies at old new → AreForkedGathered (s ∷ []) at old new
 lower_fork s at old new bodies is h =
     let p : Piece = piece (tree.Fork (map (map piece_of) bodies)) in
@@ -100,13 +101,13 @@ lower_fork s at old new bodies is h =
       within = λ most low here all. h.within most (omega (arith, low)) here all;
     })
 
-pub lower_none : (at : Spot) (labels : Noted) → AreForkedGathered [] at labels labels
+pub lower_none : (at : NumbersAhead) (labels : Noted) → AreForkedGathered [] at labels labels
 lower_none at labels = nothing (lower_label (End 0)) (at.base + 0) (lands.Node 0) labels (λ name. refl)
 
-pub lower_more : (s : Statement) (rest : List Statement) (at : Spot) (a b c : Noted)
+pub lower_more : (s : Statement) (rest : List Statement) (at : NumbersAhead) (a b c : Noted)
     → AreForkedGathered (s ∷ []) at a b → AreForkedGathered rest (past at (totals_of s)) b c → AreForkedGathered (s ∷ rest) at a c
 lower_more s rest at a b c one others =
-    let next : Spot = past at (totals_of s) in
+    let next : NumbersAhead = past at (totals_of s) in
     let k : Block = text rest next in
     let f : Block = (piece_of s).made (numbers at) (End 0) in
     let is : text (s ∷ rest) at ≡ before f k = made_before s (numbers at) k in
@@ -119,7 +120,7 @@ lower_more s rest at a b c one others =
     (ap lower_count is ∙ lower_count_before f k) (omega arith) (omega arith) (λ most low h. h) (λ most h. h) one others
 
 -- a thread, and those that it forks
-pub thread_gathered : (statements : List Statement) (at : Spot) (a b c : Noted) → at.node + (totals_of_all statements).nodes ≤ at.base
+pub thread_gathered : (statements : List Statement) (at : NumbersAhead) (a b c : Noted) → at.node + (totals_of_all statements).nodes ≤ at.base
     → IsGathered statements at (lands.Node (at.node + (totals_of_all statements).nodes)) a b
     → AreForkedGathered statements at b c
     → IsThreadGathered statements at a c
@@ -144,19 +145,19 @@ thread_gathered statements at a b c le own lower =
     (lower_count t) (at.base + l) e (at.base + l) (lands.Node 0) (lands.Node e) (lands.Node 0) a b c
     split sum (omega (arith, le)) (omega arith) (λ most low h. node_within e most (omega (arith, le, low))) (λ most h. h) own lower
 
-pub branches_gathered_none : (at : Spot) (labels : Noted) → AreBranchesGathered [] at labels labels
+pub branches_gathered_none : (at : NumbersAhead) (labels : Noted) → AreBranchesGathered [] at labels labels
 branches_gathered_none at labels = nothing (label_among NoMore) (at.base + 0) (lands.Node 0) labels (λ name. refl)
 
 -- a branch, and then those behind it
-pub branches_gathered_more : (b : List Statement) (bodies : List (List Statement)) (at : Spot) (w x y z : Noted)
+pub branches_gathered_more : (b : List Statement) (bodies : List (List Statement)) (at : NumbersAhead) (w x y z : Noted)
     → IsGathered b (inside at (totals_of_all b)) (lands.Node (at.base + (totals_of_all b).nodes)) w x
     → AreForkedGathered b (inside at (totals_of_all b)) x y
     → AreBranchesGathered bodies (past_branch at (totals_of_all b)) y z
     → AreBranchesGathered (b ∷ bodies) at w z
 branches_gathered_more b bodies at w x y z own lower others =
     let c : Totals = totals_of_all b in
-    let within : Spot = inside at c in
-    let next : Spot = past_branch at c in
+    let within : NumbersAhead = inside at c in
+    let next : NumbersAhead = past_branch at c in
     let one : IsThreadGathered b within w y = thread_gathered b within w x y (omega arith) own lower in
     let t : Block = body b within in
     let more : Branches = branches bodies next in

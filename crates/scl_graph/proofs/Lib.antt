@@ -5,7 +5,7 @@ mod Laid
 mod Branching
 mod Gathered
 mod GatheredBelow
-mod SpotRooms
+mod NumberRooms
 mod Circling
 mod Placed
 mod Fronts

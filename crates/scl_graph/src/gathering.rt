@@ -8,7 +8,7 @@ ghost use Rattle.scl_graph.specs.Inside.Totals.{HasRoom, totals_of, totals_of_al
 
 use crate::labels::Labels;
 use crate::landing::{Landing, landing_of};
-use crate::spots::Spot;
+use crate::numbers_ahead::NumbersAhead;
 use crate::tallies::{Tally, known_statement_totals, known_totals};
 use scl::Statement;
 use std::alloc::AllocError;
@@ -20,7 +20,7 @@ use std::alloc::AllocError;
 pub(crate) fn gather(
     statements: &[Statement],
     tallies: &[Tally],
-    at: Spot,
+    at: NumbersAhead,
     behind: &Landing,
     labels: &mut Labels,
 ) -> Result<(), AllocError>
@@ -45,7 +45,7 @@ pub(crate) fn gather(
 fn landing_behind(
     statement: &Statement,
     rest: &[Statement],
-    next: Spot,
+    next: NumbersAhead,
     ahead: &Landing,
     behind: &Landing,
 ) -> Landing
@@ -63,7 +63,7 @@ fn landing_behind(
 fn gather_statement(
     statement: &Statement,
     tally: &Tally,
-    at: Spot,
+    at: NumbersAhead,
     behind: &Landing,
     labels: &mut Labels,
 ) -> Result<(), AllocError>
@@ -98,7 +98,7 @@ fn gather_statement(
 pub(crate) fn gather_forked(
     statements: &[Statement],
     tallies: &[Tally],
-    at: Spot,
+    at: NumbersAhead,
     labels: &mut Labels,
 ) -> Result<(), AllocError>
     requires room { HasRoom at (totals_of_all statements.now) }
@@ -120,7 +120,7 @@ pub(crate) fn gather_forked(
 fn gather_forked_by(
     statement: &Statement,
     tally: &Tally,
-    at: Spot,
+    at: NumbersAhead,
     labels: &mut Labels,
 ) -> Result<(), AllocError>
     requires room { HasRoom at (totals_of statement.now) }

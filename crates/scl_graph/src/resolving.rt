@@ -12,8 +12,8 @@ use crate::gathering::{gather, gather_forked};
 use crate::hops::{Hop, at_place, least_goto, settled};
 use crate::labels::Labels;
 use crate::landing::Landing;
+use crate::numbers_ahead::NumbersAhead;
 use crate::places::LabelPlaces;
-use crate::spots::Spot;
 use crate::tallies::Tally;
 use crate::totals::Totals;
 use crate::way::{Targets, Way};
@@ -112,7 +112,7 @@ fn labels_of(
     requires tallied { tallies.now ≡ map tally_of body.now }
     ensures { IfOk result (λ labels. IsThreadGathered body.now (start totals) [] labels) }
 {
-    let at = Spot {
+    let at = NumbersAhead {
         node: 0,
         thread: 1,
         base: totals.nodes + 1,

@@ -7,7 +7,7 @@ use Rattle.sc_graph.specs.Program.{Program, is_target}
 use Rattle.sc_graph.specs.Steps.{Change, Effect, changed, only_if, goes}
 use Rattle.scl.specs.Block.{Block}
 use Rattle.scl.specs.Labels.{settled}
-use Rattle.scl.specs.Meaning.{Todo, Deed, goes_on}
+use Rattle.scl.specs.Meaning.{Todo, ThreadChange, goes_on}
 use Rattle.scl_graph.specs.Graph.{number}
 use Rattle.scl_graph_laws.specs.Alike.{Both}
 use Rattle.scl_graph_laws.specs.Settling.{Settled}
@@ -18,18 +18,19 @@ abbrev pub KeepsKinds : List Value → Change → Type 0
 KeepsKinds variables c = map kind_of (changed c variables) ≡ map kind_of variables
 
 -- they do the same to these variables, and move the same threads alike, each to a place of its text
-pub record SameDeed (root : Block) (variables : List Value) (d : Deed) (e : Effect) : Type 0 where
+pub record SameChange (root : Block) (variables : List Value) (d : ThreadChange) (e : Effect) : Type 0 where
   pub change : changed e.change variables ≡ changed d.change variables
   pub moves : e.moves ≡ map stands d.moves
   pub kinds : KeepsKinds variables d.change
   pub within : MoveWithin root d.moves
 
 -- both are undefined, or both are defined and do the same
-abbrev pub Agree : Block → List Value → Option Deed → Option Effect → Type 0
-Agree root variables d e = Both (SameDeed root variables) d e
+abbrev pub Agree : Block → List Value → Option ThreadChange → Option Effect → Type 0
+Agree root variables d e = Both (SameChange root variables) d e
 
 -- each is asked for the same
-pub agree_if : (root : Block) (variables : List Value) (a b : Bool) → a ≡ b → (d : Option Deed) (e : Option Effect) → (a ≡ true → Agree root variables d e)
+pub agree_if : (root : Block) (variables : List Value) (a b : Bool) → a ≡ b → (d : Option ThreadChange) (e : Option Effect) →
+    (a ≡ true → Agree root variables d e)
     → Agree root variables (only_if a d) (only_if b e)
 agree_if root variables true true is d e h = h refl
 agree_if root variables false false is d e h = tt

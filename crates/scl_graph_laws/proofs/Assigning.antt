@@ -32,7 +32,7 @@ use Rattle.sc_graph.specs.Steps.{node_effect}
 use Rattle.scl.specs.Block.{Block}
 use Rattle.scl.specs.Labels.{settled}
 use Rattle.scl.specs.Numbering.{Numbered}
-use Rattle.scl.specs.Meaning.{Deed, goes_on, assigned}
+use Rattle.scl.specs.Meaning.{ThreadChange, goes_on, assigned}
 use Rattle.scl_graph.specs.Graph.{assigns, number}
 use Rattle.scl_graph_laws.proofs.Agreeing.{KeepsKinds, Agree, agree_if, GoesTo, agree_onward}
 
@@ -43,7 +43,7 @@ kinds_same kind.Bool kind.Int h = absurd (cc)
 kinds_same kind.Int kind.Bool h = absurd (cc)
 
 -- the variable becomes this value, which has to be of its kind
-abbrev pub put : ℕ → (Change → Option Deed) → Option Kind → Option Value → Option Deed
+abbrev pub put : ℕ → (Change → Option ThreadChange) → Option Kind → Option Value → Option ThreadChange
 put x done k v = option_and_then (λ v. only_if (takes_kind k (kind_of v)) (done (Put x v))) v
 
 abbrev pub put_by_node : ℕ → (Change → Option Effect) → Option Kind → Option Value → Option Effect
@@ -59,7 +59,7 @@ taken variables x gone k (Inits e) = put_by_node x gone k (value_of e variables)
 taken variables x gone k (Combines f e) = combine_by_node x gone k f (value_of e variables)
 
 -- what is done with a changed variable agrees
-module _ (root : Block) (variables : List Value) (x : ℕ) (done : Change → Option Deed) (gone : Change → Option Effect)
+module _ (root : Block) (variables : List Value) (x : ℕ) (done : Change → Option ThreadChange) (gone : Change → Option Effect)
     (agree : (c d : Change) → changed d variables ≡ changed c variables → KeepsKinds variables c → Agree root variables (done c) (gone d)) where
   -- a value of the variable's own kind keeps the kinds
   keeps_kind : (u v : Value) → slice_get variables x ≡ Some u → kind_of v ≡ kind_of u → KeepsKinds variables (Put x v)
@@ -257,7 +257,7 @@ agree_assign p q c t x e rest to kinds same =
     a : Assignment
     a = assignment_of x e
 
-    done : Change → Option Deed
+    done : Change → Option ThreadChange
     done d = goes_on p.root t d rest
 
     gone : Change → Option Effect

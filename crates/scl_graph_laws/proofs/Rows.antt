@@ -47,50 +47,50 @@ around_nodes : (program_of program).nodes ≡ node 0 (node_step.Surf 1) ∷ node
 around_nodes = refl
 
 -- its four places
-data Spot : Block → Type 0 where
-  at_label : Spot (Label (76 ∷ []) (Pause 0 (Goto 0 (76 ∷ []) (End 2))))
-  at_pause : Spot (Pause 0 (Goto 0 (76 ∷ []) (End 2)))
-  at_goto : Spot (Goto 0 (76 ∷ []) (End 2))
-  at_end : Spot (End 2)
+data OneOfFour : Block → Type 0 where
+  at_label : OneOfFour (Label (76 ∷ []) (Pause 0 (Goto 0 (76 ∷ []) (End 2))))
+  at_pause : OneOfFour (Pause 0 (Goto 0 (76 ∷ []) (End 2)))
+  at_goto : OneOfFour (Goto 0 (76 ∷ []) (End 2))
+  at_end : OneOfFour (End 2)
 
-behind_assign : (n x : ℕ) (e : Expr) (rest : Block) → Spot (Assign n x e rest) → ⊥
+behind_assign : (n x : ℕ) (e : Expr) (rest : Block) → OneOfFour (Assign n x e rest) → ⊥
 behind_assign n x e rest h = elim h [ ]
 
-behind_if : (n : ℕ) (e : Expr) (a b rest : Block) → Spot (If n e a b rest) → ⊥
+behind_if : (n : ℕ) (e : Expr) (a b rest : Block) → OneOfFour (If n e a b rest) → ⊥
 behind_if n e a b rest h = elim h [ ]
 
-behind_fork : (n : ℕ) (branches : Branches) (rest : Block) → Spot (Fork n branches rest) → ⊥
+behind_fork : (n : ℕ) (branches : Branches) (rest : Block) → OneOfFour (Fork n branches rest) → ⊥
 behind_fork n branches rest h = elim h [ ]
 
-behind_label : (name : List ℕ) (rest : Block) → Spot (Label name rest) → Spot rest
+behind_label : (name : List ℕ) (rest : Block) → OneOfFour (Label name rest) → OneOfFour rest
 behind_label name rest at_label = at_pause
 
-behind_goto : (g : ℕ) (name : List ℕ) (rest : Block) → Spot (Goto g name rest) → Spot rest
+behind_goto : (g : ℕ) (name : List ℕ) (rest : Block) → OneOfFour (Goto g name rest) → OneOfFour rest
 behind_goto g name rest at_goto = at_end
 
-behind_pause : (n : ℕ) (rest : Block) → Spot (Pause n rest) → Spot rest
+behind_pause : (n : ℕ) (rest : Block) → OneOfFour (Pause n rest) → OneOfFour rest
 behind_pause n rest at_pause = at_goto
 
-spot : (t : ℕ) (todo : Block) → Place around t todo → Spot todo
-spot t todo whole = at_label
-spot t todo (after_assign s n x e rest place) = absurd (behind_assign n x e rest (spot s (Assign n x e rest) place))
-spot t todo (after_label s name rest place) = behind_label name rest (spot s (Label name rest) place)
-spot t todo (after_goto s g name rest place) = behind_goto g name rest (spot s (Goto g name rest) place)
-spot t todo (after_pause s n rest place) = behind_pause n rest (spot s (Pause n rest) place)
-spot t todo (in_first s n e a b rest place) = absurd (behind_if n e a b rest (spot s (If n e a b rest) place))
-spot t todo (in_second s n e a b rest place) = absurd (behind_if n e a b rest (spot s (If n e a b rest) place))
-spot t todo (after_if s n e a b rest place) = absurd (behind_if n e a b rest (spot s (If n e a b rest) place))
-spot t todo (after_fork s n branches rest place) = absurd (behind_fork n branches rest (spot s (Fork n branches rest) place))
-spot t todo (in_branch s n u branches body rest place at) = absurd (behind_fork n branches rest (spot s (Fork n branches rest) place))
+one_of_four : (t : ℕ) (todo : Block) → Place around t todo → OneOfFour todo
+one_of_four t todo whole = at_label
+one_of_four t todo (after_assign s n x e rest place) = absurd (behind_assign n x e rest (one_of_four s (Assign n x e rest) place))
+one_of_four t todo (after_label s name rest place) = behind_label name rest (one_of_four s (Label name rest) place)
+one_of_four t todo (after_goto s g name rest place) = behind_goto g name rest (one_of_four s (Goto g name rest) place)
+one_of_four t todo (after_pause s n rest place) = behind_pause n rest (one_of_four s (Pause n rest) place)
+one_of_four t todo (in_first s n e a b rest place) = absurd (behind_if n e a b rest (one_of_four s (If n e a b rest) place))
+one_of_four t todo (in_second s n e a b rest place) = absurd (behind_if n e a b rest (one_of_four s (If n e a b rest) place))
+one_of_four t todo (after_if s n e a b rest place) = absurd (behind_if n e a b rest (one_of_four s (If n e a b rest) place))
+one_of_four t todo (after_fork s n branches rest place) = absurd (behind_fork n branches rest (one_of_four s (Fork n branches rest) place))
+one_of_four t todo (in_branch s n u branches body rest place at) = absurd (behind_fork n branches rest (one_of_four s (Fork n branches rest) place))
 
-spot_settles : (todo : Block) → Spot todo → (first : Block) × (settled around todo ≡ Some first)
-spot_settles todo at_label = (Pause 0 back, refl)
-spot_settles todo at_pause = (Pause 0 back, refl)
-spot_settles todo at_goto = (Pause 0 back, refl)
-spot_settles todo at_end = (End 2, refl)
+one_of_four_settles : (todo : Block) → OneOfFour todo → (first : Block) × (settled around todo ≡ Some first)
+one_of_four_settles todo at_label = (Pause 0 back, refl)
+one_of_four_settles todo at_pause = (Pause 0 back, refl)
+one_of_four_settles todo at_goto = (Pause 0 back, refl)
+one_of_four_settles todo at_end = (End 2, refl)
 
 around_settles : EachSettles around
-around_settles t todo place = spot_settles todo (spot t todo place)
+around_settles t todo place = one_of_four_settles todo (one_of_four t todo place)
 
 around_scopes : KeepsScopes around
 around_scopes = record { distinct = (λ h. contains_none (76 ∷ []) h, tt); found = λ name h. h; none_lost = tt }

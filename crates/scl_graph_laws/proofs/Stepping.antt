@@ -23,8 +23,8 @@ use Rattle.scl.specs.Block.{Block, End, Assign, Label, Goto, Pause, If, Fork, Br
 use Rattle.scl.specs.Labels.{before, settled}
 use Rattle.scl.specs.Places.{Place, threads_of, after_assign, after_pause, in_first, in_second, after_fork, in_branch}
 use Rattle.scl.specs.Numbering.{Numbered}
-use Rattle.scl.specs.Meaning.{Doing, State, Deed, Away, Todo, Forked, Resting, Resuming, Finished, doing, all_finished, after, chosen, forked, joined}
-use Rattle.scl.specs.Meaning.{first_step, deed_of, step, is_ready}
+use Rattle.scl.specs.Meaning.{Doing, State, ThreadChange, Away, Todo, Forked, Resting, Resuming, Finished, doing, all_finished, after, chosen, forked, joined}
+use Rattle.scl.specs.Meaning.{first_step, change_of, step, is_ready}
 use Rattle.scl_graph.specs.Graph.{assigns, number}
 use Rattle.scl_graph_laws.specs.Alike.{Both}
 use Rattle.scl_graph_laws.specs.Standing.{standing, IsStep, IsOfText}
@@ -32,7 +32,7 @@ use Rattle.scl_graph_laws.specs.Settling.{Settling}
 use Rattle.scl_graph_laws.specs.Mirrors.{Mirrors, HasNode, HasNodes, HasFork, leads}
 use Rattle.scl_graph_laws.specs.Keeps.{Corresponds}
 use Rattle.scl_graph_laws.proofs.Moving.{standing_in, moved_alike, moved_length, moved_within}
-use Rattle.scl_graph_laws.proofs.Agreeing.{SameDeed, Agree, agree_if, GoesTo, agree_onward}
+use Rattle.scl_graph_laws.proofs.Agreeing.{SameChange, Agree, agree_if, GoesTo, agree_onward}
 use Rattle.scl_graph_laws.proofs.Assigning.{agree_assign}
 use Rattle.scl_graph_laws.proofs.Targets.{step_is, is_a_join, is_a_depth, goes_to}
 use Rattle.scl_graph_laws.proofs.Forking.{Entered, branches_enter, leave_alike, leave_within, all_ended_alike}
@@ -46,10 +46,10 @@ status_is s t = standing_in s.threads t
 
 module _ (p : Numbered) (q : Program) (graph : Mirrors p q) (settling : Settling p.root) (s : State)
     (kinds : map kind_of s.variables ≡ map (λ x. x.kind) p.variables) (t : ℕ) where
-  abbrev Alike : Option Deed → Option Effect → Type 0
+  abbrev Alike : Option ThreadChange → Option Effect → Type 0
   Alike d e = Agree p.root s.variables d e
 
-  at_node : (n : ℕ) (r : Step) (d : Option Deed) → HasNode q n t r → Alike d (node_effect q (control_of s) t r)
+  at_node : (n : ℕ) (r : Step) (d : Option ThreadChange) → HasNode q n t r → Alike d (node_effect q (control_of s) t r)
       → Alike d (status_effect q (control_of s) t (status.At n))
   at_node n r d h same = subst (λ o. Alike d (option_and_then (node_effect q (control_of s) t) o)) (sym (step_is q n t r h)) same
 
@@ -124,10 +124,10 @@ module _ (p : Numbered) (q : Program) (graph : Mirrors p q) (settling : Settling
   first (Fork n branches rest) place is = fork n branches rest place
 
   resume : (n : ℕ) (rest : Block) → Place p.root t (Pause n rest)
-      → Alike (deed_of p s t (Resuming n rest)) (status_effect q (control_of s) t (status.At (suc n)))
+      → Alike (change_of p s t (Resuming n rest)) (status_effect q (control_of s) t (status.At (suc n)))
   resume n rest place =
       let nodes : HasNodes q n t (node_step.Surf (suc n)) (node_step.Depth (leads p.root rest)) = graph.nodes t (Pause n rest) place in
-      at_node (suc n) (node_step.Depth (leads p.root rest)) (deed_of p s t (Resuming n rest)) nodes.second
+      at_node (suc n) (node_step.Depth (leads p.root rest)) (change_of p s t (Resuming n rest)) nodes.second
       (agree_onward q p.root t rest s.variables (onward rest (after_pause t n rest place)) Keep Keep refl refl)
 
   leave : (threads : List ℕ) (rest : Block) → GoesTo q p.root t rest
@@ -145,29 +145,29 @@ module _ (p : Numbered) (q : Program) (graph : Mirrors p q) (settling : Settling
       }))
 
   join : (n : ℕ) (branches : Branches) (rest : Block) → Place p.root t (Fork n branches rest)
-      → Alike (deed_of p s t (Forked n branches rest)) (status_effect q (control_of s) t (status.Waiting (suc n)))
+      → Alike (change_of p s t (Forked n branches rest)) (status_effect q (control_of s) t (status.Waiting (suc n)))
   join n branches rest place =
       let has : HasFork q n t (threads_of branches) (leads p.root rest) = graph.nodes t (Fork n branches rest) place in
       let threads : List ℕ = threads_of branches in
-      let deed : Option Deed = option_map (joined t threads) (settled p.root rest) in
-      subst (λ o. Alike (deed_of p s t (Forked n branches rest)) (only_if (all_ended (control_of s) o) (join_effect q t o (step_at q (suc n)))))
+      let change : Option ThreadChange = option_map (joined t threads) (settled p.root rest) in
+      subst (λ o. Alike (change_of p s t (Forked n branches rest)) (only_if (all_ended (control_of s) o) (join_effect q t o (step_at q (suc n)))))
       (sym has.joined)
-      (subst (λ o. Alike (deed_of p s t (Forked n branches rest)) (only_if (all_ended (control_of s) (Some threads)) (join_effect q t (Some threads) o)))
+      (subst (λ o. Alike (change_of p s t (Forked n branches rest)) (only_if (all_ended (control_of s) (Some threads)) (join_effect q t (Some threads) o)))
       (sym (step_is q (suc n) t (node_step.Join (leads p.root rest)) has.nodes.second))
       (agree_if p.root s.variables (all_finished s threads) (all_ended (control_of s) (Some threads))
-      (sym (all_ended_alike (control_of s) s (status_is s) threads)) deed (leaves q t (leads p.root rest) threads)
+      (sym (all_ended_alike (control_of s) s (status_is s) threads)) change (leaves q t (leads p.root rest) threads)
       (λ h. leave threads rest (onward rest (after_fork t n branches rest place)))))
 
-  deed : (d : Doing) → IsOfText p.root t d → Alike (deed_of p s t d) (status_effect q (control_of s) t (standing d))
-  deed Away at = tt
-  deed (Todo todo) at = first todo at.0 at.1
-  deed (Forked n branches rest) at = join n branches rest at
-  deed (Resting n rest) at = tt
-  deed (Resuming n rest) at = resume n rest at
-  deed Finished at = tt
+  change : (d : Doing) → IsOfText p.root t d → Alike (change_of p s t d) (status_effect q (control_of s) t (standing d))
+  change Away at = tt
+  change (Todo todo) at = first todo at.0 at.1
+  change (Forked n branches rest) at = join n branches rest at
+  change (Resting n rest) at = tt
+  change (Resuming n rest) at = resume n rest at
+  change Finished at = tt
 
-  effects_agree : IsOfText p.root t (doing s t) → Alike (deed_of p s t (doing s t)) (effect q (control_of s) t)
-  effects_agree at = subst (λ r. Alike (deed_of p s t (doing s t)) (status_effect q (control_of s) t r)) (sym (status_is s t)) (deed (doing s t) at)
+  effects_agree : IsOfText p.root t (doing s t) → Alike (change_of p s t (doing s t)) (effect q (control_of s) t)
+  effects_agree at = subst (λ r. Alike (change_of p s t (doing s t)) (status_effect q (control_of s) t r)) (sym (status_is s t)) (change (doing s t) at)
 
   -- ---- who is enabled
 
@@ -192,7 +192,7 @@ corresponds_is p s c h =
     ap (λ v. made v (map standing s.threads)) (sym h.variables) ∙ ap (made c.variables) (sym h.statuses)
 
 module _ (p : Numbered) (s : State) (h : Corresponds p s (control_of s)) where
-  after_alike : (d : Deed) (e : Effect) → SameDeed p.root s.variables d e → Corresponds p (after d s) (after_nodes e (control_of s))
+  after_alike : (d : ThreadChange) (e : Effect) → SameChange p.root s.variables d e → Corresponds p (after d s) (after_nodes e (control_of s))
   after_alike d e same = record {
     variables = same.change;
     statuses = ap (λ m. nodes_moved m (map standing s.threads)) same.moves ∙ sym (moved_alike d.moves s.threads);
@@ -201,7 +201,7 @@ module _ (p : Numbered) (s : State) (h : Corresponds p s (control_of s)) where
     places = moved_within p.root d.moves s.threads same.within h.places;
   }
 
-  pub after_both : (d : Option Deed) (e : Option Effect) → Agree p.root s.variables d e
+  pub after_both : (d : Option ThreadChange) (e : Option Effect) → Agree p.root s.variables d e
       → Both (Corresponds p) (option_map (λ d. after d s) d) (option_map (λ e. after_nodes e (control_of s)) e)
   after_both None None same = tt
   after_both (Some d) (Some e) same = after_alike d e same
@@ -214,4 +214,4 @@ steps_alike p q graph settling s c t h =
     let is : control_of s ≡ c = corresponds_is p s c h in
     let here : Corresponds p s (control_of s) = subst (λ c. Corresponds p s c) (sym is) h in
     subst (λ c. Both (Corresponds p) (step p t s) (step_of_nodes q t c)) is
-    (after_both p s here (deed_of p s t (doing s t)) (effect q (control_of s) t) (effects_agree p q graph settling s h.kinds t (h.places t)))
+    (after_both p s here (change_of p s t (doing s t)) (effect q (control_of s) t) (effects_agree p q graph settling s h.kinds t (h.places t)))

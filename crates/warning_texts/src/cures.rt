@@ -1,33 +1,37 @@
 //! What helps where a warning is told.
 
 use crate::allowance::code_text;
-use crate::scene::WarnedText;
+use crate::warned_text::WarnedText;
 use chart_warnings::Warning;
 use std::alloc::{AllocError, Global};
 
 /// What helps, and how to say that it is meant. Err: memory was refused.
 pub(crate) fn cure_of(
     alloc: Global,
-    scene: WarnedText<'_>,
+    warned: WarnedText<'_>,
     warning: Warning,
 ) -> Result<String, AllocError> {
-    let cure = change_of(alloc, scene, warning)?;
+    let cure = change_of(alloc, warned, warning)?;
     let code = code_text(warning);
     format!(in alloc; "{cure}; or say that it is meant: `// sct: allow {code}` at its line")
 }
 
 // What may be written otherwise.
-fn change_of(alloc: Global, scene: WarnedText<'_>, warning: Warning) -> Result<String, AllocError> {
+fn change_of(
+    alloc: Global,
+    warned: WarnedText<'_>,
+    warning: Warning,
+) -> Result<String, AllocError> {
     match warning {
-        Warning::StaysOn { output, .. } => setting(alloc, scene, output),
+        Warning::StaysOn { output, .. } => setting(alloc, warned, output),
         other => String::from_str(alloc, fixed_change(other)),
     }
 }
 
 // That an abort sets an output.
-fn setting(alloc: Global, scene: WarnedText<'_>, output: usize) -> Result<String, AllocError> {
-    let name = scene.variable(alloc, output)?;
-    let rest = scene.rest(output);
+fn setting(alloc: Global, warned: WarnedText<'_>, output: usize) -> Result<String, AllocError> {
+    let name = warned.variable(alloc, output)?;
+    let rest = warned.rest(output);
     format!(in alloc; "set it in the effects of the transition, as `do {name} = {rest}`")
 }
 

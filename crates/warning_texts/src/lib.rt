@@ -6,8 +6,8 @@ mod cures;
 mod lines;
 mod places;
 mod report;
-mod scene;
 mod telling;
+mod warned_text;
 mod words;
 
 pub use telling::warnings_told;

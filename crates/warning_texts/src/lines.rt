@@ -3,14 +3,14 @@
 ghost use Rattle.std.specs.Prelude.{◌≡◌, drop, take};
 ghost use Rattle.warning_texts.specs.Lines.{are_lines, behind_feeds, first_line, left_behind, line_of};
 
-use diagnostics::spot_of;
+use diagnostics::line_column_of;
 
 /// The line in which a place of a text stands.
 pub(crate) fn line_of(text: &str, at: usize) -> &[u8]
     ensures { result.now ≡ line_of text.now at }
 {
-    let spot = spot_of(text, at);
-    let rest = behind_feeds(text.as_bytes(), spot.line - 1);
+    let line_column = line_column_of(text, at);
+    let rest = behind_feeds(text.as_bytes(), line_column.line - 1);
     first_line(rest)
 }
 

@@ -1,7 +1,7 @@
 //! The report of a warning.
 
 ghost use Rattle.std.specs.Prelude.{IfOk, IsTrue, string_bytes};
-ghost use Rattle.diagnostics.specs.Spots.{place_shown};
+ghost use Rattle.diagnostics.specs.LinesColumns.{place_shown};
 ghost use Rattle.warning_texts.specs.Allowance.{code_text};
 ghost use Rattle.warning_texts.specs.Lines.{are_lines};
 ghost use Rattle.warning_texts.specs.Reports.{IsReport};
@@ -9,10 +9,10 @@ ghost use Rattle.warning_texts.specs.Reports.{IsReport};
 use crate::allowance::code_text;
 use crate::cures::cure_of;
 use crate::lines::are_lines;
-use crate::scene::WarnedText;
+use crate::warned_text::WarnedText;
 use crate::words::cause_of;
 use chart_warnings::Warning;
-use diagnostics::{marked_line, spot_of, spot_text};
+use diagnostics::{line_column_of, line_column_text, marked_line};
 use std::alloc::{AllocError, Global};
 
 /// The lines of a report.
@@ -22,32 +22,32 @@ const LINES: usize = 4;
 /// warned of, the line of the text with a mark under the place, and what helps. Err: memory was refused.
 pub(crate) fn report_of(
     alloc: Global,
-    scene: WarnedText<'_>,
+    warned: WarnedText<'_>,
     warning: Warning,
     at: usize,
 ) -> Result<String, AllocError>
-    ensures { IfOk result (λ report. IsReport scene.entry.name.now
-        (record { place = place_shown scene.entry.text.now at; code = code_text warning }) (string_bytes report)) }
+    ensures { IfOk result (λ report. IsReport warned.entry.name.now
+        (record { place = place_shown warned.entry.text.now at; code = code_text warning }) (string_bytes report)) }
 {
-    let name = scene.name;
-    let place = spot_text(alloc, spot_of(scene.text, at))?;
+    let name = warned.name;
+    let place = line_column_text(alloc, line_column_of(warned.text, at))?;
     let code = code_text(warning);
-    let said = said_of(alloc, scene, warning, at)?;
+    let said = said_of(alloc, warned, warning, at)?;
     format!(in alloc; "{name}{place}: {code}: {said}")
 }
 
 // What is said of a warning behind its code.
 fn said_of(
     alloc: Global,
-    scene: WarnedText<'_>,
+    warned: WarnedText<'_>,
     warning: Warning,
     at: usize,
 ) -> Result<String, AllocError>
     ensures { IfOk result (λ said. IsTrue (are_lines 4 (string_bytes said))) }
 {
-    let cause = cause_of(alloc, scene, warning)?;
-    let marked = marked_line(alloc, scene.text, at, spot_of(scene.text, at))?;
-    let cure = cure_of(alloc, scene, warning)?;
+    let cause = cause_of(alloc, warned, warning)?;
+    let marked = marked_line(alloc, warned.text, at, line_column_of(warned.text, at))?;
+    let cure = cure_of(alloc, warned, warning)?;
     let said = format!(in alloc; "{cause}\n{marked}help: {cure}\n")?;
     of_four_lines(alloc, said)
 }

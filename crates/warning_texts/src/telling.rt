@@ -9,7 +9,7 @@ ghost use Rattle.warning_texts.specs.Inside.Gaining.{Gains};
 use crate::allowance::is_allowed;
 use crate::places::places_of;
 use crate::report::report_of;
-use crate::scene::WarnedText;
+use crate::warned_text::WarnedText;
 use chart_drafts::{DraftChart, read_checked};
 use chart_reader::chart_of;
 use chart_warnings::{Warning, warnings_of};
@@ -39,28 +39,28 @@ fn told_of(alloc: Global, name: &str, text: &str, draft: &DraftChart) -> Result<
     let chart = chart_of(alloc, draft)?;
     let warnings = warnings_of(alloc, &chart)?;
     let places = places_of(alloc, draft)?;
-    let scene = WarnedText {
+    let warned = WarnedText {
         name,
         text,
         draft,
         places: &places,
     };
-    tell_all(alloc, scene, warnings.as_slice())
+    tell_all(alloc, warned, warnings.as_slice())
 }
 
 // The reports of these warnings, one behind the other.
 #[tactic(auto, using(crate::proofs::Joining::begins))]
 fn tell_all(
     alloc: Global,
-    scene: WarnedText<'_>,
+    warned: WarnedText<'_>,
     warnings: &[Warning],
 ) -> Result<String, AllocError>
-    ensures { IfOk result (λ told. AreReports scene.entry.name.now
-        (heads_of scene.entry.text.now scene.entry.places.now warnings.now) (string_bytes told)) }
+    ensures { IfOk result (λ told. AreReports warned.entry.name.now
+        (heads_of warned.entry.text.now warned.entry.places.now warnings.now) (string_bytes told)) }
 {
     let mut told = String::new(alloc);
     for warning in warnings {
-        tell(alloc, scene, *warning, &mut told)?;
+        tell(alloc, warned, *warning, &mut told)?;
     }
     Ok(told)
 }
@@ -69,18 +69,18 @@ fn tell_all(
 #[tactic(auto, using(crate::proofs::Joining::none_gained, crate::proofs::Joining::one_gained))]
 fn tell(
     alloc: Global,
-    scene: WarnedText<'_>,
+    warned: WarnedText<'_>,
     warning: Warning,
     told: &mut String,
 ) -> Result<(), AllocError>
-    ensures { OnOk result (Gains scene.entry.name.now
-        (heads_at scene.entry.text.now (place_of scene.entry.places.now warning) warning)
+    ensures { OnOk result (Gains warned.entry.name.now
+        (heads_at warned.entry.text.now (place_of warned.entry.places.now warning) warning)
         (string_bytes told.old) (string_bytes told.new)) }
 {
-    let at = scene.places.place_of(warning);
-    if is_allowed(scene.text, at, warning) {
+    let at = warned.places.place_of(warning);
+    if is_allowed(warned.text, at, warning) {
         return Ok(());
     }
-    let report = report_of(alloc, scene, warning, at)?;
+    let report = report_of(alloc, warned, warning, at)?;
     told.push_str(report.as_str())
 }

@@ -10,7 +10,7 @@ use Rattle.scl.specs.declared.statement.Statement.TheViews.{out-Statement}
 use Rattle.scl.specs.Block.{Block, End, Assign, Label, Goto, Pause, If, Fork, Branches, NoMore, Branch}
 use Rattle.scl.specs.Numbering.{in_row, piece_of, branches_from, thread_body}
 use Rattle.scl_graph.specs.Graph.{end}
-use Rattle.scl_graph.specs.declared.spots.Spot.{Spot}
+use Rattle.scl_graph.specs.declared.numbers_ahead.NumbersAhead.{NumbersAhead}
 use Rattle.scl_graph.specs.Inside.Totals.{branches_totals, numbers, totals_of_all}
 use Rattle.scl_graph.specs.declared.landing.Landing.{Landing}
 use Rattle.scl_graph.specs.declared.landing.Landing.TheVariants as lands
@@ -36,7 +36,7 @@ landing_in [] n g behind = behind
 landing_in (s ∷ rest) n g behind = landing_at (out-Statement s) n g (landing_in rest n g behind)
 
 -- what stands behind a statement, at which `ahead` stands: at the rest, whose first numbers are these
-abbrev pub landing_behind : Statement-F Statement → List Statement → Spot → Landing → Landing → Landing
+abbrev pub landing_behind : Statement-F Statement → List Statement → NumbersAhead → Landing → Landing → Landing
 landing_behind (tree.Label name) rest next ahead behind = ahead
 landing_behind other rest next ahead behind = landing_in rest next.node next.goto behind
 
@@ -128,33 +128,33 @@ pub record Gathers (found : List ℕ → Option Landing) (count last : ℕ) (beh
   pub most : length new ≤ length old + count
   pub within : (most : ℕ) → last ≤ most → IsWithin most behind → AreWithin most old → AreWithin most new
 
-abbrev pub text : List Statement → Spot → Block
+abbrev pub text : List Statement → NumbersAhead → Block
 text statements at = (in_row (map piece_of statements)).made (numbers at) (End 0)
 
 -- the labels of a thread itself in these statements, behind which that stands
-abbrev pub IsGathered : List Statement → Spot → Landing → Noted → Noted → Type 0
+abbrev pub IsGathered : List Statement → NumbersAhead → Landing → Noted → Noted → Type 0
 IsGathered statements at behind old new =
     Gathers (own_label (text statements at) behind) (own_count (text statements at)) (at.node + (totals_of_all statements).nodes) behind old new
 
 -- the labels of the threads that are forked in these statements
-abbrev pub AreForkedGathered : List Statement → Spot → Noted → Noted → Type 0
+abbrev pub AreForkedGathered : List Statement → NumbersAhead → Noted → Noted → Type 0
 AreForkedGathered statements at old new =
     Gathers (lower_label (text statements at)) (lower_count (text statements at)) (at.base + (totals_of_all statements).lower) (lands.Node 0) old new
 
 -- the labels of these branches and of the threads below them
-abbrev pub branches : List (List Statement) → Spot → Branches
+abbrev pub branches : List (List Statement) → NumbersAhead → Branches
 branches bodies at = branches_from (map (map piece_of) bodies) (numbers at)
 
-abbrev pub AreBranchesGathered : List (List Statement) → Spot → Noted → Noted → Type 0
+abbrev pub AreBranchesGathered : List (List Statement) → NumbersAhead → Noted → Noted → Type 0
 AreBranchesGathered bodies at old new =
     Gathers (label_among (branches bodies at)) (count_among (branches bodies at)) (at.base + (branches_totals bodies).lower) (lands.Node 0) old new
 
 -- what a thread has to do whose text begins at this place
-abbrev pub body : List Statement → Spot → Block
+abbrev pub body : List Statement → NumbersAhead → Block
 body statements at = thread_body (in_row (map piece_of statements)) at.node (numbers at)
 
 -- the labels of this thread and of those below it
-abbrev pub IsThreadGathered : List Statement → Spot → Noted → Noted → Type 0
+abbrev pub IsThreadGathered : List Statement → NumbersAhead → Noted → Noted → Type 0
 IsThreadGathered statements at old new =
     Gathers (thread_label (body statements at)) (own_count (body statements at) + lower_count (body statements at)) (at.base + (totals_of_all statements).lower)
     (lands.Node 0) old new

@@ -10,7 +10,7 @@ use Rattle.scl_graph.specs.Loops.{HasNoEmptyLoop, IsFirstEmptyLoop}
 use Rattle.scl_graph.specs.declared.fault.GraphFault.{GraphFault}
 use Rattle.scl_graph.specs.declared.fault.GraphFault.TheVariants as fault
 use Rattle.scl_graph.specs.declared.hops.Hop.{Hop}
-use Rattle.scl_graph.specs.declared.spots.Spot.{Spot}
+use Rattle.scl_graph.specs.declared.numbers_ahead.NumbersAhead.{NumbersAhead}
 use Rattle.scl_graph.specs.declared.totals.Totals.{Totals}
 use Rattle.scl_graph.specs.declared.numbers.NodeCounts.{NodeCounts as SmallCounts}
 use Rattle.scl_graph.specs.declared.numbers.NodeNumbers.{NodeNumbers}
@@ -27,7 +27,7 @@ abbrev pub root_of : List Statement → Block
 root_of statements = (numbered_of [] statements).root
 
 -- where its text begins, if it counts this
-abbrev pub start : Totals → Spot
+abbrev pub start : Totals → NumbersAhead
 start c = record { node = 0; thread = 1; base = suc c.nodes; goto = 0 }
 
 abbrev pub small_start : SmallCounts → NodeNumbers

@@ -3,13 +3,13 @@ use Rattle.std.specs.Prelude.{ℕ, suc, ◌+◌, ◌≤◌, List, map}
 use Rattle.scl.specs.declared.statement.Statement.{Statement}
 use Rattle.scl.specs.Numbering.{Counts, Numbers, in_row, all_branch_counts, piece_of}
 use Rattle.scl_graph.specs.declared.totals.Totals.{Totals}
-use Rattle.scl_graph.specs.declared.spots.Spot.{Spot}
+use Rattle.scl_graph.specs.declared.numbers_ahead.NumbersAhead.{NumbersAhead}
 
 abbrev pub total_limit : ℕ
 total_limit = 4611686018427387904
 
-abbrev pub spot_limit : ℕ
-spot_limit = 18446744073709551615
+abbrev pub number_limit : ℕ
+number_limit = 18446744073709551615
 
 -- none of them is above the limit
 pub record AreCounted (c : Totals) : Type 0 where
@@ -37,43 +37,43 @@ as_branch c = record { nodes = 0; threads = suc c.threads; lower = suc c.nodes +
 abbrev pub branches_totals : List (List Statement) → Totals
 branches_totals branches = totals (all_branch_counts (map (λ b. map piece_of b) branches))
 
-abbrev pub numbers : Spot → Numbers
+abbrev pub numbers : NumbersAhead → Numbers
 numbers at = record { node = at.node; thread = at.thread; base = at.base; goto = at.goto }
 
 -- the numbers behind what counts this
-abbrev pub past : Spot → Totals → Spot
+abbrev pub past : NumbersAhead → Totals → NumbersAhead
 past at c =
     record { node = at.node + c.nodes; thread = at.thread + c.threads; base = at.base + c.lower; goto = at.goto + c.jumps }
 
 -- the numbers behind so many nodes of the thread
-abbrev pub after : ℕ → Spot → Spot
+abbrev pub after : ℕ → NumbersAhead → NumbersAhead
 after n at = record { node = n + at.node; thread = at.thread; base = at.base; goto = at.goto }
 
 -- within a branch whose text counts this
-abbrev pub inside : Spot → Totals → Spot
+abbrev pub inside : NumbersAhead → Totals → NumbersAhead
 inside at c = record { node = at.base; thread = suc at.thread; base = at.base + suc c.nodes; goto = at.goto }
 
 -- behind such a branch
-abbrev pub past_branch : Spot → Totals → Spot
+abbrev pub past_branch : NumbersAhead → Totals → NumbersAhead
 past_branch at c = past at (as_branch c)
 
 -- there are numbers for what counts this
-pub record HasRoom (at : Spot) (c : Totals) : Type 0 where
+pub record HasRoom (at : NumbersAhead) (c : Totals) : Type 0 where
   pub counted : AreCounted c
-  pub node : at.node + c.nodes ≤ spot_limit
-  pub thread : at.thread + c.threads ≤ spot_limit
-  pub base : at.base + c.lower ≤ spot_limit
-  pub goto : at.goto + c.jumps ≤ spot_limit
+  pub node : at.node + c.nodes ≤ number_limit
+  pub thread : at.thread + c.threads ≤ number_limit
+  pub base : at.base + c.lower ≤ number_limit
+  pub goto : at.goto + c.jumps ≤ number_limit
 
 -- there are numbers for such a branch
-pub record HasBranchRoom (at : Spot) (c : Totals) : Type 0 where
-  pub thread : at.thread + suc c.threads ≤ spot_limit
-  pub base : at.base + (suc c.nodes + c.lower) ≤ spot_limit
-  pub goto : at.goto + c.jumps ≤ spot_limit
+pub record HasBranchRoom (at : NumbersAhead) (c : Totals) : Type 0 where
+  pub thread : at.thread + suc c.threads ≤ number_limit
+  pub base : at.base + (suc c.nodes + c.lower) ≤ number_limit
+  pub goto : at.goto + c.jumps ≤ number_limit
 
 -- there are numbers for these branches
-pub record HasBranchesRoom (at : Spot) (branches : List (List Statement)) : Type 0 where
+pub record HasBranchesRoom (at : NumbersAhead) (branches : List (List Statement)) : Type 0 where
   pub counted : AreCounted (branches_totals branches)
-  pub thread : at.thread + (branches_totals branches).threads ≤ spot_limit
-  pub base : at.base + (branches_totals branches).lower ≤ spot_limit
-  pub goto : at.goto + (branches_totals branches).jumps ≤ spot_limit
+  pub thread : at.thread + (branches_totals branches).threads ≤ number_limit
+  pub base : at.base + (branches_totals branches).lower ≤ number_limit
+  pub goto : at.goto + (branches_totals branches).jumps ≤ number_limit

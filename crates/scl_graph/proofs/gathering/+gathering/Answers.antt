@@ -3,12 +3,12 @@ use Rattle.std.proofs.lemmas.List.{drop_all, take_rest}
 use Rattle.scl.specs.declared.statement.Statement.{Statement}
 use Rattle.scl.specs.declared.statement.Statement.TheViews.{out-Statement}
 use Rattle.scl_graph.specs.declared.landing.Landing.{Landing}
-use Rattle.scl_graph.specs.declared.spots.Spot.{Spot}
+use Rattle.scl_graph.specs.declared.numbers_ahead.NumbersAhead.{NumbersAhead}
 use Rattle.scl_graph.specs.Inside.Totals.{HasRoom, after, past, totals_of, totals_of_all}
 use Rattle.scl_graph.specs.Inside.Gathering.{IsGathered, Noted, landing_behind, landing_in}
 use Rattle.scl_graph.proofs.Laid.{ok_then, split_at}
 use Rattle.scl_graph.proofs.Gathered.{gathered_if, gathered_more, gathered_none, lands_behind}
-use Rattle.scl_graph.proofs.SpotRooms.{spot_room_more}
+use Rattle.scl_graph.proofs.NumberRooms.{numbers_room_more}
 use Rattle.scl_graph.proofs.gathering.+gathering.Goals as goal
 
 pub gather-loop-i-init : goal.gather-loop-i-init
@@ -20,7 +20,7 @@ gather-loop-i-preserved t c =
     let s : Statement = c.index-statements-i.result in
     let i : ℕ = c.loop-i.i in
     let rest : List Statement = drop (i + 1) xs in
-    let here : Spot = c.loop-i.here in
+    let here : NumbersAhead = c.loop-i.here in
     let behind : Landing = c.args.behind.now in
     let old : Noted = c.loop-i.labels in
     let middle : Noted = c.gather_statement.new.labels in
@@ -33,15 +33,15 @@ gather-loop-i-preserved t c =
     ∙ ap (λ zs. landing_behind (out-Statement s) zs c.past-next.result c.loop-i.ahead behind) (take_rest xs (i + 1))
     ∙ ap (λ m. landing_behind (out-Statement s) rest m c.loop-i.ahead behind) next
     ∙ lands_behind s rest here c.loop-i.ahead behind ahead in
-    let Room : Spot → Type 0 = λ m. HasRoom m (totals_of_all rest) in
+    let Room : NumbersAhead → Type 0 = λ m. HasRoom m (totals_of_all rest) in
     let Fits : List Statement → Type 0 = λ zs. HasRoom here (totals_of_all zs) in
     let One : Landing → Type 0 = λ w. IsGathered (s ∷ []) here w old middle in
     record {
-      room = subst Room (sym next) (spot_room_more here s rest (subst Fits split c.loop-i.invariant.room));
+      room = subst Room (sym next) (numbers_room_more here s rest (subst Fits split c.loop-i.invariant.room));
       ahead = leads ∙ ap (λ m. landing_in rest m.node m.goto behind) (sym next);
       gathered = λ new h.
           let Whole : List Statement → Type 0 = λ zs. IsGathered zs here behind old new in
-          let Others : Spot → Type 0 = λ m. IsGathered rest m behind middle new in
+          let Others : NumbersAhead → Type 0 = λ m. IsGathered rest m behind middle new in
           c.loop-i.invariant.gathered new
           (subst Whole (sym split) (gathered_more s rest here behind old middle new (subst One leads c.in_ok-gather_statement.ensures)
           (subst Others next h)));
@@ -57,7 +57,7 @@ gather-returns t c =
 pub gather_statement-returns-in_ok-gather-in-If : goal.gather_statement-returns-in_ok-gather-in-If
 gather_statement-returns-in_ok-gather-in-If t c =
     let s : Statement = c.args.statement.now in
-    let at : Spot = c.args.at in
+    let at : NumbersAhead = c.args.at in
     let behind : Landing = c.args.behind.now in
     let a : List Statement = c.in-If.first in
     let b : List Statement = c.in-If.second in
@@ -69,10 +69,10 @@ gather_statement-returns-in_ok-gather-in-If t c =
     c.past-further.ensures
     ∙ ap (λ k. past k c.known_totals.result) within
     ∙ ap (past (after 1 at)) (c.known_totals.ensures.totals ∙ ap totals_of_all c.as_slice-first.ensures) in
-    let FirstAt : Spot → Type 0 = λ k. IsGathered a k behind x y in
+    let FirstAt : NumbersAhead → Type 0 = λ k. IsGathered a k behind x y in
     let FirstOf : List Statement → Type 0 = λ zs. IsGathered zs c.after_a_node-inside.result behind x y in
     let first : IsGathered a (after 1 at) behind x y = subst FirstAt within (subst FirstOf c.as_slice-first.ensures c.in_ok-gather-in-If.ensures) in
-    let SecondAt : Spot → Type 0 = λ k. IsGathered b k behind y z in
+    let SecondAt : NumbersAhead → Type 0 = λ k. IsGathered b k behind y z in
     let SecondOf : List Statement → Type 0 = λ zs. IsGathered zs c.past-further.result behind y z in
     ok_then c.gather-in-If.result
     (λ v. IsGathered c.as_slice-second.result.now c.past-further.result behind y z)

@@ -3,14 +3,14 @@ use Rattle.std.proofs.lemmas.List.{drop_all}
 use Rattle.scl.specs.declared.statement.Statement.{Statement}
 use Rattle.scl_graph.specs.declared.landing.Landing.{Landing}
 use Rattle.scl_graph.specs.declared.landing.Landing.TheVariants as lands
-use Rattle.scl_graph.specs.declared.spots.Spot.{Spot}
+use Rattle.scl_graph.specs.declared.numbers_ahead.NumbersAhead.{NumbersAhead}
 use Rattle.scl_graph.specs.declared.totals.Totals.{Totals}
 use Rattle.scl_graph.specs.Inside.Totals.{HasBranchesRoom, HasRoom, after, inside, past, past_branch, totals_of, totals_of_all}
 use Rattle.scl_graph.specs.Inside.Tallies.{fork_tally, tally_of}
 use Rattle.scl_graph.specs.Inside.Gathering.{AreBranchesGathered, AreForkedGathered, IsGathered, Noted}
 use Rattle.scl_graph.proofs.Laid.{ok_then, split_at}
 use Rattle.scl_graph.proofs.GatheredBelow.{branches_gathered_more, branches_gathered_none, lower_fork, lower_if, lower_more, lower_none}
-use Rattle.scl_graph.proofs.SpotRooms.{spot_fork_room, spot_further_room, spot_room_more}
+use Rattle.scl_graph.proofs.NumberRooms.{numbers_fork_room, numbers_further_room, numbers_room_more}
 use Rattle.scl_graph.proofs.Tallied.{branch_part, fork_is}
 use Rattle.scl_graph.proofs.gathering.+gathering_forked.Goals as goal
 
@@ -23,24 +23,24 @@ gather_forked-loop-i-preserved t c =
     let s : Statement = c.index-statements-i.result in
     let i : ℕ = c.loop-i.i in
     let rest : List Statement = drop (i + 1) xs in
-    let here : Spot = c.loop-i.here in
+    let here : NumbersAhead = c.loop-i.here in
     let x : Noted = c.loop-i.labels in
     let y : Noted = c.gather_forked_by.new.labels in
     let split : drop i xs ≡ s ∷ rest = split_at xs i s c.loop-i-test.true c.index-statements-i.is in
     let next : c.past-here.result ≡ past here (totals_of s) = c.past-here.ensures ∙ ap (past here) c.known_statement_totals.ensures in
-    let Room : Spot → Type 0 = λ m. HasRoom m (totals_of_all rest) in
+    let Room : NumbersAhead → Type 0 = λ m. HasRoom m (totals_of_all rest) in
     let Fits : List Statement → Type 0 = λ zs. HasRoom here (totals_of_all zs) in
     record {
-      room = subst Room (sym next) (spot_room_more here s rest (subst Fits split c.loop-i.invariant.room));
+      room = subst Room (sym next) (numbers_room_more here s rest (subst Fits split c.loop-i.invariant.room));
       gathered = λ new h.
           let Whole : List Statement → Type 0 = λ zs. AreForkedGathered zs here x new in
-          let Others : Spot → Type 0 = λ m. AreForkedGathered rest m y new in
+          let Others : NumbersAhead → Type 0 = λ m. AreForkedGathered rest m y new in
           c.loop-i.invariant.gathered new (subst Whole (sym split) (lower_more s rest here x y new c.in_ok-gather_forked_by.ensures (subst Others next h)));
     }
 
 pub gather_forked-returns : goal.gather_forked-returns
 gather_forked-returns t c =
-    let here : Spot = c.loop-i.here in
+    let here : NumbersAhead = c.loop-i.here in
     let labels : Noted = c.loop-i.labels in
     let Left : List Statement → Type 0 = λ zs. AreForkedGathered zs here labels labels in
     c.loop-i.invariant.gathered labels (subst Left (sym (drop_all c.loop-i.i c.args.statements.now c.loop-i-test.false)) (lower_none here labels))
@@ -48,7 +48,7 @@ gather_forked-returns t c =
 pub gather_forked_by-returns-in_ok-gather_forked-in-If : goal.gather_forked_by-returns-in_ok-gather_forked-in-If
 gather_forked_by-returns-in_ok-gather_forked-in-If t c =
     let s : Statement = c.args.statement.now in
-    let at : Spot = c.args.at in
+    let at : NumbersAhead = c.args.at in
     let a : List Statement = c.in-If.first in
     let b : List Statement = c.in-If.second in
     let x : Noted = c.args.labels.now in
@@ -59,10 +59,10 @@ gather_forked_by-returns-in_ok-gather_forked-in-If t c =
     c.past-further.ensures
     ∙ ap (λ k. past k c.known_totals.result) within
     ∙ ap (past (after 1 at)) (c.known_totals.ensures.totals ∙ ap totals_of_all c.as_slice-first.ensures) in
-    let FirstAt : Spot → Type 0 = λ k. AreForkedGathered a k x y in
+    let FirstAt : NumbersAhead → Type 0 = λ k. AreForkedGathered a k x y in
     let FirstOf : List Statement → Type 0 = λ zs. AreForkedGathered zs c.after_a_node-inside.result x y in
     let first : AreForkedGathered a (after 1 at) x y = subst FirstAt within (subst FirstOf c.as_slice-first.ensures c.in_ok-gather_forked-in-If.ensures) in
-    let SecondAt : Spot → Type 0 = λ k. AreForkedGathered b k y z in
+    let SecondAt : NumbersAhead → Type 0 = λ k. AreForkedGathered b k y z in
     let SecondOf : List Statement → Type 0 = λ zs. AreForkedGathered zs c.past-further.result y z in
     ok_then c.gather_forked-in-If.result
     (λ v. AreForkedGathered c.as_slice-second.result.now c.past-further.result y z)
@@ -72,11 +72,11 @@ gather_forked_by-returns-in_ok-gather_forked-in-If t c =
 
 pub gather_forked_by-loop-place-init : goal.gather_forked_by-loop-place-init
 gather_forked_by-loop-place-init t c =
-    let at : Spot = c.args.at in
+    let at : NumbersAhead = c.args.at in
     let x : Noted = c.args.labels.now in
     let Room : List (List Statement) → Type 0 = λ zs. HasBranchesRoom at zs in
     record {
-      room = subst Room (sym c.as_slice-bodies.ensures) (spot_fork_room at c.args.statement.now c.in-Fork.branches c.in-Fork.is c.requires.room);
+      room = subst Room (sym c.as_slice-bodies.ensures) (numbers_fork_room at c.args.statement.now c.in-Fork.branches c.in-Fork.is c.requires.room);
       gathered = λ new h.
           let Of : List (List Statement) → Type 0 = λ zs. AreBranchesGathered zs at x new in
           lower_fork c.args.statement.now at x new c.in-Fork.branches c.in-Fork.is (subst Of c.as_slice-bodies.ensures h);
@@ -84,7 +84,7 @@ gather_forked_by-loop-place-init t c =
 
 pub gather_forked_by-loop-place-preserved : goal.gather_forked_by-loop-place-preserved
 gather_forked_by-loop-place-preserved t c =
-    let here : Spot = c.loop-place.here in
+    let here : NumbersAhead = c.loop-place.here in
     let items : List (List Statement) = c.as_slice-bodies.result.now in
     let i : ℕ = c.loop-place.place in
     let b : List Statement = c.index-bodies-place.result in
@@ -96,29 +96,29 @@ gather_forked_by-loop-place-preserved t c =
     let counted : c.known_totals-totals.result ≡ totals_of_all b = c.known_totals-totals.ensures.totals ∙ ap totals_of_all c.as_slice-body.ensures in
     let inner : c.inside-inside.result ≡ inside here (totals_of_all b) = c.inside-inside.ensures ∙ ap (inside here) counted in
     let next : c.past_branch-here.result ≡ past_branch here (totals_of_all b) = c.past_branch-here.ensures ∙ ap (past_branch here) counted in
-    let EndAt : Spot → Totals → Landing = λ m k. lands.Node (m.node + k.nodes) in
+    let EndAt : NumbersAhead → Totals → Landing = λ m k. lands.Node (m.node + k.nodes) in
     let OneOf : List Statement → Type 0 = λ zs. IsGathered zs c.inside-inside.result (EndAt c.inside-inside.result c.known_totals-totals.result) w x in
-    let OneAt : Spot → Type 0 = λ m. IsGathered b m (EndAt m c.known_totals-totals.result) w x in
+    let OneAt : NumbersAhead → Type 0 = λ m. IsGathered b m (EndAt m c.known_totals-totals.result) w x in
     let OneEnd : Totals → Type 0 = λ k. IsGathered b (inside here (totals_of_all b)) (EndAt (inside here (totals_of_all b)) k) w x in
     let one : IsGathered b (inside here (totals_of_all b)) (EndAt (inside here (totals_of_all b)) (totals_of_all b)) w x =
     subst OneEnd counted (subst OneAt inner (subst OneOf c.as_slice-body.ensures c.in_ok-gather-in-Fork.ensures)) in
-    let NestedAt : Spot → Type 0 = λ m. AreForkedGathered b m x y in
+    let NestedAt : NumbersAhead → Type 0 = λ m. AreForkedGathered b m x y in
     let NestedOf : List Statement → Type 0 = λ zs. AreForkedGathered zs c.inside-inside.result x y in
     let nested : AreForkedGathered b (inside here (totals_of_all b)) x y = subst NestedAt inner
     (subst NestedOf c.as_slice-body.ensures c.in_ok-gather_forked-in-Fork.ensures) in
     let Fits : List (List Statement) → Type 0 = λ zs. HasBranchesRoom here zs in
-    let Room : Spot → Type 0 = λ m. HasBranchesRoom m rest in
+    let Room : NumbersAhead → Type 0 = λ m. HasBranchesRoom m rest in
     record {
-      room = subst Room (sym next) (spot_further_room here b rest (subst Fits split c.loop-place.invariant.room));
+      room = subst Room (sym next) (numbers_further_room here b rest (subst Fits split c.loop-place.invariant.room));
       gathered = λ new h.
           let Whole : List (List Statement) → Type 0 = λ zs. AreBranchesGathered zs here w new in
-          let Others : Spot → Type 0 = λ m. AreBranchesGathered rest m y new in
+          let Others : NumbersAhead → Type 0 = λ m. AreBranchesGathered rest m y new in
           c.loop-place.invariant.gathered new (subst Whole (sym split) (branches_gathered_more b rest here w x y new one nested (subst Others next h)));
     }
 
 pub gather_forked_by-returns-after-loop-place : goal.gather_forked_by-returns-after-loop-place
 gather_forked_by-returns-after-loop-place t c =
-    let here : Spot = c.loop-place.here in
+    let here : NumbersAhead = c.loop-place.here in
     let labels : Noted = c.loop-place.labels in
     let Left : List (List Statement) → Type 0 = λ zs. AreBranchesGathered zs here labels labels in
     c.loop-place.invariant.gathered labels (subst Left (sym (drop_all c.loop-place.place c.as_slice-bodies.result.now c.loop-place-test.false))

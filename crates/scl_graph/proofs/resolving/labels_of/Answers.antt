@@ -1,7 +1,7 @@
 use Rattle.std.proofs.Common.{◌≡◌, ℕ, suc, ◌+◌, List, [], ap, sym, subst, arith}
 use Rattle.scl.specs.declared.statement.Statement.{Statement}
 use Rattle.scl_graph.specs.declared.landing.Landing.TheVariants as lands
-use Rattle.scl_graph.specs.declared.spots.Spot.{Spot}
+use Rattle.scl_graph.specs.declared.numbers_ahead.NumbersAhead.{NumbersAhead}
 use Rattle.scl_graph.specs.declared.totals.Totals.{Totals}
 use Rattle.scl_graph.specs.Inside.Gathering.{AreForkedGathered, IsGathered, IsThreadGathered, Noted}
 use Rattle.scl_graph.specs.Inside.Resolving.{start}
@@ -20,7 +20,7 @@ returns c =
     let nodes : t.nodes ≡ k.nodes = ap (λ r. r.nodes) is in
     let node : t.nodes ≡ 0 + k.nodes = omega (arith, nodes) in
     let base : t.nodes + 1 ≡ suc k.nodes = omega (arith, nodes) in
-    let At : ℕ → Spot = λ n. record { node = 0; thread = 1; base = n; goto = 0 } in
+    let At : ℕ → NumbersAhead = λ n. record { node = 0; thread = 1; base = n; goto = 0 } in
     let From : Noted → Type 0 = λ l. IsGathered b (At (t.nodes + 1)) (lands.Node t.nodes) l middle in
     let To : ℕ → Type 0 = λ n. IsGathered b (At (t.nodes + 1)) (lands.Node n) [] middle in
     let Own : ℕ → Type 0 = λ n. IsGathered b (At n) (lands.Node (0 + k.nodes)) [] middle in

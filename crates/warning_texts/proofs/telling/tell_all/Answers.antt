@@ -5,12 +5,12 @@ use Rattle.warning_texts.proofs.telling.tell_all.Goals as goal
 
 pub loop-warning-preserved : goal.loop-warning-preserved
 loop-warning-preserved c =
-    more_told c.args.scene.name.now c.args.scene.text.now c.args.scene.places.now c.args.warnings.now c.loop-warning.warning-index
-    (heads_of c.args.scene.text.now c.args.scene.places.now c.args.warnings.now) _ (string_bytes c.loop-warning.told)
+    more_told c.args.warned.name.now c.args.warned.text.now c.args.warned.places.now c.args.warnings.now c.loop-warning.warning-index
+    (heads_of c.args.warned.text.now c.args.warned.places.now c.args.warnings.now) _ (string_bytes c.loop-warning.told)
     (string_bytes c.tell.new.told) c.loop-warning-test.true c.loop-warning.invariant c.in_ok-tell.ensures
 
 pub returns : goal.returns
 returns c =
-    all_told c.args.scene.name.now c.args.scene.text.now c.args.scene.places.now c.args.warnings.now c.loop-warning.warning-index
-    (heads_of c.args.scene.text.now c.args.scene.places.now c.args.warnings.now) (string_bytes c.loop-warning.told)
+    all_told c.args.warned.name.now c.args.warned.text.now c.args.warned.places.now c.args.warnings.now c.loop-warning.warning-index
+    (heads_of c.args.warned.text.now c.args.warned.places.now c.args.warnings.now) (string_bytes c.loop-warning.told)
     c.loop-warning-test.false c.loop-warning.invariant

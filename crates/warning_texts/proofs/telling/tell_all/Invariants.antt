@@ -5,5 +5,5 @@ use Rattle.warning_texts.proofs.telling.tell_all.Given as goal
 
 abbrev pub invariant-loop-warning : goal.invariant-loop-warning
 invariant-loop-warning l =
-    Goes l.scene.name.now (heads_of l.scene.text.now l.scene.places.now (drop l.warning-index l.warnings))
-    (heads_of l.scene.text.now l.scene.places.now l.warnings) (string_bytes l.told)
+    Goes l.warned.name.now (heads_of l.warned.text.now l.warned.places.now (drop l.warning-index l.warnings))
+    (heads_of l.warned.text.now l.warned.places.now l.warnings) (string_bytes l.told)

@@ -22,7 +22,7 @@ impl TablePosition {
         })
     }
 
-    // What is inside a superstate of this scene.
+    // What is inside a superstate of this position.
     pub(crate) fn within(&self, alloc: Global) -> Result<TablePosition, AllocError>
         ensures { IfOk result (λ at. at ≡ within self.now) }
     {

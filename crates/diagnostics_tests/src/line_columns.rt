@@ -1,6 +1,6 @@
 //! Lines and columns.
 
-use diagnostics::spot_of;
+use diagnostics::line_column_of;
 use std::test::Fail;
 
 #[test]
@@ -21,8 +21,12 @@ fn characters_are_counted(rt: HostRuntime) -> Result<(), Fail> {
         (14, 4, 2),
         (99, 4, 2),
     ] {
-        let spot = spot_of(text, at);
-        assert_eq!(rt; (spot.line, spot.column), (line, column), "at {at}");
+        let line_column = line_column_of(text, at);
+        assert_eq!(rt;
+            (line_column.line, line_column.column),
+            (line, column),
+            "at {at}"
+        );
     }
     Ok(())
 }

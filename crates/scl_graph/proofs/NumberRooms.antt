@@ -4,15 +4,15 @@ use Rattle.scl.specs.declared.statement.Statement.{Statement}
 use Rattle.scl.specs.declared.statement.Statement.TheOpen as tree
 use Rattle.scl.specs.declared.statement.Statement.TheVariants as variant
 use Rattle.scl.specs.Numbering.{piece, piece_of}
-use Rattle.scl_graph.specs.declared.spots.Spot.{Spot}
+use Rattle.scl_graph.specs.declared.numbers_ahead.NumbersAhead.{NumbersAhead}
 use Rattle.scl_graph.specs.declared.totals.Totals.{Totals}
 use Rattle.scl_graph.specs.Inside.Totals.{HasBranchRoom, HasBranchesRoom, HasRoom, inside, past, past_branch, totals, totals_of, totals_of_all}
 use Rattle.scl_graph.proofs.Laid.{split_at}
 use Rattle.scl_graph.proofs.Pieces.{piece_of_fork}
 
 -- what has room for statements has room for the first of them
-pub spot_room_first : (at : Spot) (s : Statement) (rest : List Statement) → HasRoom at (totals_of_all (s ∷ rest)) → HasRoom at (totals_of s)
-spot_room_first at s rest h =
+pub numbers_room_first : (at : NumbersAhead) (s : Statement) (rest : List Statement) → HasRoom at (totals_of_all (s ∷ rest)) → HasRoom at (totals_of s)
+numbers_room_first at s rest h =
     let small : _ = h.counted in
     record {
       counted = record {
@@ -27,16 +27,17 @@ spot_room_first at s rest h =
       goto = omega (arith, h.goto);
     }
 
-pub spot_room_at : (at : Spot) (xs : List Statement) (i : ℕ) (s : Statement) → HasRoom at (totals_of_all (drop i xs)) → i < length xs → s ≡ get_or xs i s
+pub numbers_room_at : (at : NumbersAhead) (xs : List Statement) (i : ℕ) (s : Statement) → HasRoom at (totals_of_all (drop i xs)) → i < length xs →
+    s ≡ get_or xs i s
     → HasRoom at (totals_of s)
-spot_room_at at xs i s room lt is =
+numbers_room_at at xs i s room lt is =
     let Fits : List Statement → Type 0 = λ zs. HasRoom at (totals_of_all zs) in
-    spot_room_first at s (drop (i + 1) xs) (subst Fits (split_at xs i s lt is) room)
+    numbers_room_first at s (drop (i + 1) xs) (subst Fits (split_at xs i s lt is) room)
 
 -- and behind it
-pub spot_room_more : (at : Spot) (s : Statement) (rest : List Statement) → HasRoom at (totals_of_all (s ∷ rest))
+pub numbers_room_more : (at : NumbersAhead) (s : Statement) (rest : List Statement) → HasRoom at (totals_of_all (s ∷ rest))
     → HasRoom (past at (totals_of s)) (totals_of_all rest)
-spot_room_more at s rest h =
+numbers_room_more at s rest h =
     let nodes : _ = h.node in
     let threads : _ = h.thread in
     let base : _ = h.base in
@@ -56,12 +57,13 @@ spot_room_more at s rest h =
     }
 
 -- a branch and what follows it have room where all have
-pub spot_branch_room : (at : Spot) (b : List Statement) (bodies : List (List Statement)) → HasBranchesRoom at (b ∷ bodies) → HasBranchRoom at (totals_of_all b)
-spot_branch_room at b bodies h = record { thread = omega (arith, h.thread); base = omega (arith, h.base); goto = omega (arith, h.goto) }
+pub numbers_branch_room : (at : NumbersAhead) (b : List Statement) (bodies : List (List Statement)) → HasBranchesRoom at (b ∷ bodies) →
+    HasBranchRoom at (totals_of_all b)
+numbers_branch_room at b bodies h = record { thread = omega (arith, h.thread); base = omega (arith, h.base); goto = omega (arith, h.goto) }
 
-pub spot_inner_room : (at : Spot) (b : List Statement) (bodies : List (List Statement)) → HasBranchesRoom at (b ∷ bodies)
+pub numbers_inner_room : (at : NumbersAhead) (b : List Statement) (bodies : List (List Statement)) → HasBranchesRoom at (b ∷ bodies)
     → HasRoom (inside at (totals_of_all b)) (totals_of_all b)
-spot_inner_room at b bodies h =
+numbers_inner_room at b bodies h =
     record {
       counted = record {
         nodes = omega (arith, h.counted.lower);
@@ -75,9 +77,9 @@ spot_inner_room at b bodies h =
       goto = omega (arith, h.goto);
     }
 
-pub spot_further_room : (at : Spot) (b : List Statement) (bodies : List (List Statement)) → HasBranchesRoom at (b ∷ bodies)
+pub numbers_further_room : (at : NumbersAhead) (b : List Statement) (bodies : List (List Statement)) → HasBranchesRoom at (b ∷ bodies)
     → HasBranchesRoom (past_branch at (totals_of_all b)) bodies
-spot_further_room at b bodies h =
+numbers_further_room at b bodies h =
     record {
       counted = record {
         nodes = omega (arith, h.counted.nodes);
@@ -91,9 +93,9 @@ spot_further_room at b bodies h =
     }
 
 -- the branches of a fork have room where the fork has
-pub spot_fork_room : (at : Spot) (s : Statement) (bodies : List (List Statement)) → s ≡ variant.Fork bodies → HasRoom at (totals_of s)
+pub numbers_fork_room : (at : NumbersAhead) (s : Statement) (bodies : List (List Statement)) → s ≡ variant.Fork bodies → HasRoom at (totals_of s)
     → HasBranchesRoom at bodies
-spot_fork_room at s bodies is room =
+numbers_fork_room at s bodies is room =
     let Fits : Totals → Type 0 = λ c. HasRoom at c in
     let h : HasRoom at (totals (piece (tree.Fork (map (map piece_of) bodies))).counts) = subst Fits
     (ap totals_of is ∙ ap (λ p. totals p.counts) (piece_of_fork bodies)) room in

@@ -1,7 +1,7 @@
 //! Lines and columns.
 
 ghost use Rattle.std.specs.Prelude.{◌≡◌, ◌<◌, ◌+◌, length, take};
-ghost use Rattle.diagnostics.specs.Spots.{begins_character, IsSpot};
+ghost use Rattle.diagnostics.specs.LinesColumns.{begins_character, IsLineColumn};
 
 /// A place in a text: its line and its column, each from 1. Columns count characters; a tab is one.
 #[derive(Clone, Copy, Debug, PartialEq, Eq)]
@@ -22,34 +22,34 @@ fn begins_character(byte: u8) -> bool
 
 // The place behind one byte more of a text.
 #[tactic(auto, using(crate::proofs::LineColumns::line_fits, crate::proofs::LineColumns::column_fits))]
-fn behind_byte(spot: LineColumn, text: &[u8], i: usize) -> LineColumn
+fn behind_byte(line_column: LineColumn, text: &[u8], i: usize) -> LineColumn
     requires within { i < length text.now }
-    requires is { IsSpot (take i text.now) spot }
-    ensures { IsSpot (take (i + 1) text.now) result }
+    requires is { IsLineColumn (take i text.now) line_column }
+    ensures { IsLineColumn (take (i + 1) text.now) result }
 {
     let byte = text[i];
     if byte == b'\n' {
-        let line = spot.line + 1;
+        let line = line_column.line + 1;
         return LineColumn { line, column: 1 };
     }
     if begins_character(byte) {
-        let column = spot.column + 1;
+        let column = line_column.column + 1;
         return LineColumn {
-            line: spot.line,
+            line: line_column.line,
             column,
         };
     }
-    spot
+    line_column
 }
 
 /// The place of the byte of this number, from 0; of the end, where the text has no more than that.
-pub fn spot_of(text: &str, at: usize) -> LineColumn
-    ensures { IsSpot (take at text.now) result }
+pub fn line_column_of(text: &str, at: usize) -> LineColumn
+    ensures { IsLineColumn (take at text.now) result }
 {
     let bytes = text.as_bytes();
-    let mut spot = START;
+    let mut line_column = START;
     for i in 0..at.min(bytes.len()) {
-        spot = behind_byte(spot, bytes, i);
+        line_column = behind_byte(line_column, bytes, i);
     }
-    spot
+    line_column
 }

@@ -14,7 +14,7 @@ pub struct Write {
 
 /// What a step does: it writes a variable or none, and regions come to stand elsewhere, from left to right.
 #[derive(Debug, Drop)]
-pub struct Deed {
+pub struct RegionChange {
     pub write: Option<Write>,
     pub moves: Items<Move>,
 }
