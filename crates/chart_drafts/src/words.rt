@@ -1,6 +1,6 @@
 //! The names and words of charts, one token each.
 
-ghost use Rattle.std.specs.Prelude.{◌≡◌, IsFalse, MatchOption, MatchResult};
+ghost use Rattle.std.specs.Prelude.{◌≡◌, [], ◌∷◌, IsFalse, MatchOption, MatchResult};
 ghost use Rattle.grammar.specs.Read.{read, starts};
 ghost use Rattle.sc_text.specs.Classes.{AName, class_of, same_class};
 ghost use Rattle.sc_text.specs.Expression.{text_tokens, after};
@@ -48,9 +48,28 @@ fn name_of(kind: TokenKind) -> Option<Name>
     }
 }
 
+/// Whether a name is next.
+pub fn name_follows(tokens: &[Token]) -> bool
+    ensures { result ≡ starts text_tokens (AName ∷ []) tokens.now }
+{
+    match tokens {
+        [] => false,
+        [next, ..] => is_name(next.kind),
+    }
+}
+
+fn is_name(kind: TokenKind) -> bool
+    ensures { result ≡ same_class AName (class_of kind) }
+{
+    match kind {
+        TokenKind::Name(_) => true,
+        TokenKind::Number(_) | TokenKind::Word(_) | TokenKind::Sign(_) => false,
+    }
+}
+
 /// A name and the semicolon behind it.
 #[tactic(auto, using(crate::proofs::Parts::before_stops_first, crate::proofs::Parts::before_stops_second, crate::proofs::Parts::before_gives), unfolding(crate::specs::ChartText::last_name))]
-pub(crate) fn last_name(ahead: &mut Ahead, end: usize) -> Result<Named, ReadFault>
+pub fn last_name(ahead: &mut Ahead, end: usize) -> Result<Named, ReadFault>
     ensures { MatchResult result
         (λ x. Gives (read last_name ahead.old.tokens.now) x ahead.new.tokens.now)
         (λ fault. Stops end (read last_name ahead.old.tokens.now) fault) }
@@ -148,7 +167,7 @@ fn kind_of(kind: TokenKind) -> Kind
 
 /// The word of a termination, and its place.
 #[tactic(auto, using(crate::proofs::Parts::token_fails, crate::proofs::Parts::token_gives))]
-pub(crate) fn join_word(ahead: &mut Ahead, end: usize) -> Result<(TransitionKind, usize), ReadFault>
+pub fn join_word(ahead: &mut Ahead, end: usize) -> Result<(TransitionKind, usize), ReadFault>
     ensures { MatchResult result
         (λ x. Gives (read (moment (the_word Word.Join)) ahead.old.tokens.now) x ahead.new.tokens.now)
         (λ fault. Stops end (read (moment (the_word Word.Join)) ahead.old.tokens.now) fault) }

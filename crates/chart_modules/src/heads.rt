@@ -10,9 +10,8 @@ ghost use Rattle.chart_modules.specs.Phrases.{some_parameters, parameters, last_
 ghost use Rattle.chart_modules.specs.Phrases.{head, opened};
 
 use crate::parts::{ModuleHead, Parameter, ParameterRole};
-use crate::phrases::name_follows;
 use crate::words::is_word;
-use chart_drafts::text_parts::{Ahead, declared_kind, name, skip_sign};
+use chart_drafts::text_parts::{Ahead, declared_kind, name, name_follows, skip_sign};
 use sc_text::ahead::{sign_follows, word_follows, wrong};
 use sc_text::{ReadFault, Sign, Token, TokenKind, Word};
 use sqlite_items::Items;

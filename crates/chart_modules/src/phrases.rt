@@ -1,44 +1,22 @@
 //! Reading what a use is.
 
-ghost use Rattle.std.specs.Prelude.{◌≡◌, [], ◌∷◌, MatchResult};
+ghost use Rattle.std.specs.Prelude.{◌≡◌, MatchResult};
 ghost use Rattle.grammar.specs.Grammar.{is_in};
 ghost use Rattle.grammar.specs.Read.{read, starts};
-ghost use Rattle.sc_text.specs.Classes.{AName, class_of, same_class};
+ghost use Rattle.sc_text.specs.Classes.{class_of};
 ghost use Rattle.sc_text.specs.Expression.{text_tokens};
 ghost use Rattle.sc_text.specs.Reading.{Stops};
-ghost use Rattle.chart_drafts.specs.ChartText.{last_name};
 ghost use Rattle.chart_drafts.specs.Phrase.{Gives};
 ghost use Rattle.chart_modules.specs.Phrases.{argument_classes, argument, next_argument, some_arguments, arguments};
 ghost use Rattle.chart_modules.specs.Phrases.{last_arguments, all_arguments, using};
 
 use crate::parts::ModuleUse;
-use chart_drafts::text_parts::{Ahead, name, skip_sign};
+use chart_drafts::text_parts::{Ahead, last_name, name, skip_sign};
 use drafts::Named;
 use sc_text::ahead::{sign_follows, word_follows, wrong};
 use sc_text::{ReadFault, Sign, Token, TokenKind, Word};
 use sqlite_items::Items;
 use std::alloc::Global;
-
-/// Whether a name is next.
-pub(crate) fn name_follows(tokens: &[Token]) -> bool
-    ensures { result ≡ starts text_tokens (AName ∷ []) tokens.now }
-{
-    match tokens {
-        [] => false,
-        [next, ..] => is_name(next.kind),
-    }
-}
-
-fn is_name(kind: TokenKind) -> bool
-    ensures { result ≡ same_class AName (class_of kind) }
-{
-    match kind {
-        TokenKind::Name(_) => true,
-        TokenKind::Number(_) => false,
-        TokenKind::Word(_) => false,
-        TokenKind::Sign(_) => false,
-    }
-}
 
 // Whether a token is a name or a literal.
 fn is_argument(kind: TokenKind) -> bool
@@ -148,18 +126,6 @@ fn all_arguments(alloc: Global, ahead: &mut Ahead, end: usize) -> Result<Items<T
     skip_sign(ahead, end, Sign::OpenParenthesis)?;
     let arguments = last_arguments(alloc, ahead, end)?;
     Ok(arguments)
-}
-
-// A name and the semicolon behind it.
-#[tactic(auto, using(chart_drafts::proofs::Parts::before_stops_first, chart_drafts::proofs::Parts::before_stops_second, chart_drafts::proofs::Parts::before_gives), unfolding(chart_drafts::specs::ChartText::last_name))]
-fn last_name(ahead: &mut Ahead, end: usize) -> Result<Named, ReadFault>
-    ensures { MatchResult result
-        (λ x. Gives (read last_name ahead.old.tokens.now) x ahead.new.tokens.now)
-        (λ fault. Stops end (read last_name ahead.old.tokens.now) fault) }
-{
-    let named = name(ahead, end)?;
-    skip_sign(ahead, end, Sign::Semicolon)?;
-    Ok(named)
 }
 
 /// A use behind its word, with the semicolon that ends it.

@@ -11,9 +11,9 @@ ghost use Rattle.extended_drafts.specs.ExtendedText.{item_first, item_value, las
 ghost use Rattle.extended_drafts.specs.ExtendedText.{plain_body, plain, worded_body, worded, item};
 
 use crate::draft::{DraftItem, ItemBody};
-use crate::words::{last_name, name_follows};
 use chart_drafts::text_parts::{
-    Ahead, declared_kind, declared_role, name, placed, role_follows, skip_sign,
+    Ahead, declared_kind, declared_role, last_name, name, name_follows, placed, role_follows,
+    skip_sign,
 };
 use drafts::{Declaration, Named, TextExpression};
 use sc_graph::Role;

@@ -19,7 +19,6 @@ mod simple_targets;
 mod targets;
 mod transitions;
 mod whole;
-mod words;
 
 pub use checked::{extended_told_flaws, read_checked_extended};
 pub use draft::{

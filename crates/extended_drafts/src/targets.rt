@@ -8,8 +8,7 @@ ghost use Rattle.extended_drafts.specs.Draft.{lead_of};
 ghost use Rattle.extended_drafts.specs.ExtendedText.{two_names, two_more, lead, last_lead, leading};
 
 use crate::draft::{DraftLead, HistoryWords};
-use crate::words::name_follows;
-use chart_drafts::text_parts::{Ahead, name, skip_sign};
+use chart_drafts::text_parts::{Ahead, name, name_follows, skip_sign};
 use drafts::Named;
 use sc_text::{ReadFault, Sign};
 

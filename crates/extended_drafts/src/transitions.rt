@@ -12,10 +12,10 @@ ghost use Rattle.extended_drafts.specs.ExtendedText.{transition, transitions, le
 
 use crate::draft::{DraftCount, DraftDelay, DraftWay};
 use crate::effects::outcome;
-use crate::words::{join_word, name_follows};
 use chart_drafts::DraftTransition;
 use chart_drafts::text_parts::{
-    Ahead, name, placed, skip_sign, tested_word, tested_word_follows, trigger,
+    Ahead, join_word, name, name_follows, placed, skip_sign, tested_word, tested_word_follows,
+    trigger,
 };
 use drafts::TextExpression;
 use sc_text::ahead::{behind, word_follows};
