@@ -18,8 +18,8 @@ mod table_positions;
 mod tabling;
 mod turns;
 
-pub use change::{RegionChange, Write};
 pub use evaluating::value_of;
+pub use region_change::{RegionChange, Write};
 pub use running::Ran;
 pub use standing::{Configuration, Move, Standing};
 pub use table::{RegionRow, StateRow, StatesRows, SubtreeRows, Table, TablePosition};
