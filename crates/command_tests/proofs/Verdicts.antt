@@ -1,13 +1,11 @@
 -- From what was found in files to what a test comes to.
 use Rattle.std.proofs.Common.{◌≡◌, ◌≢◌, ℕ, Bool, true, Option, List, [], ◌++◌, codes, refl, sym, subst, inl, inr}
 use Rattle.bytecode.specs.Image.{Image}
-use Rattle.command_files.proofs.Held.{no_compiled}
 use Rattle.command_files.specs.declared.fault.LoadFault.{LoadFault}
 use Rattle.command_files.specs.FaultText.{fault_text, shown_name}
 use Rattle.command_files.specs.Files.{Contents, HasBytes, IsFree, IsTaken, Stores}
 use Rattle.command_files.specs.Images.{FileLacksImage}
-use Rattle.command_files.specs.Sources.{BytesLackCompiled}
-use Rattle.command_files.specs.Standing.{FileLacksSource, HasSource}
+use Rattle.command_files.specs.Standing.{FileLacksSource}
 use Rattle.command_files.specs.Storing.{IsNotStored}
 use Rattle.command_tests.specs.Inside.Judging.{Judges, JudgesOther, StopsSo}
 use Rattle.command_tests.specs.Inside.Saying.{SaysDifference}
@@ -17,7 +15,9 @@ use Rattle.controller_tests.proofs.Tested as tested
 use Rattle.controller_tests.specs.declared.difference.Difference.{Difference}
 use Rattle.controller_tests.specs.Outcome.{LacksTrace, MakesTrace, Misses, Stops}
 use Rattle.controller_tests.specs.Replay.{LacksTick, TellsStates}
-use Rattle.image_charts.specs.Charts.{IsChartOf, IsNoChart, IsNotChartOf, NamedStates}
+use Rattle.image_charts.proofs.TextImages.{no_compiled_in}
+use Rattle.image_charts.specs.Charts.{NamedStates}
+use Rattle.image_charts.specs.Written.{HasNoChart, IsNoTextBeside, IsTextBeside, MakesImage, MakesNoImage}
 use Rattle.node_states.specs.Active.{active_states}
 use Rattle.trace_player.specs.declared.player.PlayFault.{PlayFault}
 use Rattle.trace_player.specs.declared.player.PlayFault.TheVariants as play_fault
@@ -29,12 +29,22 @@ use Rattle.trace_player.specs.Trace.{Good}
 pub no_source : (files : Option Contents) (name : List ℕ) (f : LoadFault) → FileLacksSource files name f → LacksTicks files name f
 no_source files name f none = inl (inl none)
 
-pub no_image : (files : Option Contents) (name bytes : List ℕ) (f : LoadFault) → HasSource files name bytes → BytesLackCompiled bytes f
-    → LacksTicks files name f
-no_image files name bytes f held none = inl (no_compiled files name bytes f held none)
+pub no_image : (files : Option Contents) (name bytes seen : List ℕ) (f : LoadFault) → HasBytes files name bytes → seen ≡ bytes
+    → MakesNoImage seen f → LacksTicks files name f
+no_image files name bytes seen f held same none = inl (no_compiled_in files name bytes seen f held same none)
 
 pub no_ticks : (files : Option Contents) (name : List ℕ) (f : LoadFault) → FileLacksImage files (ticks_name name) f → LacksTicks files name f
 no_ticks files name f none = inr none
+
+-- ---- there are ticks
+
+pub has_ticks : (files middle : Option Contents) (name bytes seen : List ℕ) (image : Image) (ticks : List ℕ) → HasBytes files name bytes
+    → seen ≡ bytes → MakesImage seen image → middle ≡ files → HasBytes middle (ticks_name name) ticks → HasTicks files name bytes image ticks
+has_ticks files middle name bytes seen image ticks held same makes stay there = record {
+  held = held;
+  makes = subst (λ b. MakesImage b image) same makes;
+  ticks_held = subst (λ m. HasBytes m (ticks_name name) ticks) stay there;
+}
 
 -- ---- the states that are active
 
@@ -46,15 +56,15 @@ pub tells_none : (s : NamedStates) (image : Image) (ticks said : List ℕ) (line
     → TellsThem s image ticks line said
 tells_none s image ticks said line none lacks = inr (none, lacks)
 
-pub tells_chart : (s : NamedStates) (name bytes : List ℕ) (image : Image) (ticks said : List ℕ) (line : ℕ) → IsChartOf bytes image s
+pub tells_chart : (s : NamedStates) (name bytes : List ℕ) (image : Image) (ticks said : List ℕ) (line : ℕ) → IsTextBeside bytes image s
     → TellsThem s image ticks line said → TellsActive name bytes image ticks line said
 tells_chart s name bytes image ticks said line is tells = inl (record { states = s; is = is; tells = tells })
 
-pub no_chart : (name bytes : List ℕ) (image : Image) (ticks said : List ℕ) (line : ℕ) → said ≡ [] → IsNoChart bytes
+pub no_chart : (name bytes : List ℕ) (image : Image) (ticks said : List ℕ) (line : ℕ) → said ≡ [] → HasNoChart bytes
     → TellsActive name bytes image ticks line said
 no_chart name bytes image ticks said line none is = inr (none, inl is)
 
-pub no_states : (name bytes : List ℕ) (image : Image) (ticks said : List ℕ) (line : ℕ) (f : LoadFault) → said ≡ [] → IsNotChartOf name bytes image f
+pub no_states : (name bytes : List ℕ) (image : Image) (ticks said : List ℕ) (line : ℕ) (f : LoadFault) → said ≡ [] → IsNoTextBeside name bytes image f
     → IsReal f → TellsActive name bytes image ticks line said
 no_states name bytes image ticks said line f none is real = inr (none, inr (f, is, real))
 

@@ -4,7 +4,8 @@ use Rattle.bytecode.specs.Image.{Image}
 use Rattle.command_files.specs.declared.fault.LoadFault.{LoadFault}
 use Rattle.command_files.specs.FaultText.{fault_text}
 use Rattle.controller_tests.specs.Replay.{LacksTick, TellsStates}
-use Rattle.image_charts.specs.Charts.{IsChartOf, IsNoChart, IsNotChartOf, NamedStates}
+use Rattle.image_charts.specs.Charts.{NamedStates}
+use Rattle.image_charts.specs.Written.{HasNoChart, IsNoTextBeside, IsTextBeside}
 use Rattle.node_states.specs.Active.{active_states}
 
 -- a fault that is no refusal of memory, which is told by a number of its own
@@ -17,15 +18,15 @@ TellsThem s image ticks line said =
     TellsStates image s.paths (λ c. active_states s.compiled.nodes s.compiled.states c) ticks line said
     ⊎ ((said ≡ []) × LacksTick image ticks line)
 
--- these bytes are the text of a chart, of which that is told
+-- these bytes are the text of a chart, or of an extended chart, of whose author's states that is told
 pub record TellsOfChart (bytes : List ℕ) (image : Image) (ticks : List ℕ) (line : ℕ) (said : List ℕ) : Type 0 where
   pub states : NamedStates
-  pub is : IsChartOf bytes image states
+  pub is : IsTextBeside bytes image states
   pub tells : TellsThem states image ticks line said
 
 -- the bytes of the file of this name have no states: they are no chart, or for some fault not that of the image
 abbrev pub HasNoStates : List ℕ → List ℕ → Image → Type 0
-HasNoStates name bytes image = IsNoChart bytes ⊎ ((f : LoadFault) × IsNotChartOf name bytes image f × IsReal f)
+HasNoStates name bytes image = HasNoChart bytes ⊎ ((f : LoadFault) × IsNoTextBeside name bytes image f × IsReal f)
 
 -- what is told of the states: of a text that has none nothing
 abbrev pub TellsActive : List ℕ → List ℕ → Image → List ℕ → ℕ → List ℕ → Type 0

@@ -5,14 +5,14 @@ use Rattle.command_files.specs.declared.fault.LoadFault.{LoadFault}
 use Rattle.command_files.specs.FaultText.{fault_text, shown_name}
 use Rattle.command_files.specs.Files.{Contents, HasBytes, IsFree, IsTaken, Stores}
 use Rattle.command_files.specs.Images.{FileLacksImage}
-use Rattle.command_files.specs.Sources.{FileLacksCompiled, SpellsImage}
-use Rattle.command_files.specs.Standing.{HasSource}
+use Rattle.command_files.specs.Sources.{FileLacksCompiled}
 use Rattle.command_files.specs.Storing.{IsNotStored}
 use Rattle.command_tests.specs.States.{IsReal, TellsActive}
 use Rattle.controller_tests.specs.declared.difference.Difference.{Difference}
 use Rattle.controller_tests.specs.Names.{beside}
 use Rattle.controller_tests.specs.Outcome.{MakesTrace, Misses, Passes, Stops}
 use Rattle.controller_tests.specs.Told.{IsToldOf}
+use Rattle.image_charts.specs.Written.{MakesImage}
 use Rattle.trace_player.specs.declared.player.PlayFault.{PlayFault}
 use Rattle.trace_player.specs.FaultText.{play_fault_text}
 use Rattle.trace_player.specs.Trace.{Good}
@@ -23,10 +23,10 @@ ticks_name name = beside name (codes ".ticks")
 abbrev pub trace_name : List ℕ → List ℕ
 trace_name name = beside name (codes ".trace")
 
--- the source in the file of this name is the text of a program, whose image this is, and beside it there are these ticks
+-- the bytes of the file of this name are the text of a program, whose image this is, and beside it there are these ticks
 pub record HasTicks (files : Option Contents) (name bytes : List ℕ) (image : Image) (ticks : List ℕ) : Type 0 where
-  pub held : HasSource files name bytes
-  pub spelt : SpellsImage bytes image
+  pub held : HasBytes files name bytes
+  pub makes : MakesImage bytes image
   pub ticks_held : HasBytes files (ticks_name name) ticks
 
 -- ---- it passes

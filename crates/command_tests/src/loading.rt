@@ -6,13 +6,14 @@ ghost use Rattle.command_files.specs.Images.{FileLacksImage};
 ghost use Rattle.command_tests.specs.Verdict.{HasTicks, LacksTicks};
 ghost use Rattle.controller_tests.specs.Names.{beside};
 
-use command_files::{Files, LoadFault, bytes_of, compile_bytes, source_of};
+use command_files::{Files, LoadFault, bytes_of};
 use controller_tests::beside;
+use image_charts::compile_written;
 use sqlite_items::Boxed;
 use std::alloc::Global;
 use verifier::Verified;
 
-/// A program's text with its image, and the ticks that are played by it.
+/// What is written as a program's text, with its image, and the ticks that are played by it.
 #[derive(Drop)]
 pub(crate) struct Test {
     pub(crate) bytes: Vec<u8>,
@@ -38,7 +39,7 @@ fn bytes_beside<F: Files>(
 }
 
 /// The test of the program in the file of this name. Err: there is no image of it, or there are no ticks beside it.
-#[tactic(auto, using(crate::proofs::Verdicts::no_source, crate::proofs::Verdicts::no_image, crate::proofs::Verdicts::no_ticks))]
+#[tactic(auto, using(crate::proofs::Verdicts::no_source, crate::proofs::Verdicts::no_image, crate::proofs::Verdicts::no_ticks, crate::proofs::Verdicts::has_ticks))]
 pub(crate) fn load_test<F: Files>(
     alloc: Global,
     name: &str,
@@ -50,8 +51,8 @@ pub(crate) fn load_test<F: Files>(
     ensures none_missed { OnOk result (F.failures files.new ≡ F.failures files.old) }
     ensures missed { F.failures files.old ≤ F.failures files.new }
 {
-    let bytes = source_of(alloc, files, name)?;
-    let compiled = compile_bytes(alloc, &bytes)?;
+    let bytes = bytes_of(alloc, files, name)?;
+    let compiled = compile_written(alloc, &bytes)?;
     let image = Boxed::new(alloc, compiled)?;
     let ticks = bytes_beside(alloc, name, ".ticks", files)?;
     Ok(Test {

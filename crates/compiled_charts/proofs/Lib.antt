@@ -1,6 +1,6 @@
 mod Marks
 mod Row
 mod StateTotals
-mod ActiveStates
+pub mod ActiveStates
 mod LayeredCharts
 mod Kept

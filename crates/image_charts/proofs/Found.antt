@@ -1,5 +1,5 @@
 -- What was found of a text and an image.
-use Rattle.std.proofs.Common.{◌≡◌, ◌≢◌, ◌∙◌, ℕ, true, List, ◌++◌, String, Global, map, string_bytes, refl, ap, subst, sym}
+use Rattle.std.proofs.Common.{◌≡◌, ◌≢◌, ◌∙◌, ℕ, true, Option, List, ◌++◌, String, Global, map, string_bytes, refl, ap}
 use Rattle.std.specs.Prelude.{Result, Ok, Err, OnOk}
 use Rattle.std.specs.Str.{IsUtf8}
 use Rattle.json.specs.Print.{quoted}
@@ -7,6 +7,7 @@ use Rattle.serde_json.specs.Written.{members_text}
 use Rattle.sc_graph.specs.declared.control.Control.{Control}
 use Rattle.core_charts.specs.Chart.{Chart}
 use Rattle.chart_reader.specs.Read.{IsRead}
+use Rattle.author_states.specs.Author.{AuthorsStates}
 use Rattle.bytecode.specs.Image.{Image}
 use Rattle.compiler.specs.Charts.{ChartLacksImage}
 use Rattle.compiler.specs.declared.fault.CompileFault.{CompileFault}
@@ -19,14 +20,15 @@ use Rattle.command_files.specs.declared.fault.LoadFault.TheVariants as fault
 use Rattle.state_traces.specs.Lines.{paths_at, states_member}
 use Rattle.state_traces.specs.Listed.{states_text}
 use Rattle.state_traces.proofs.Listed.{told_by}
-use Rattle.image_charts.specs.Charts.{IsChartOf, IsNotChartOf, NamedStates, state_words}
-use Rattle.image_charts.specs.Inside.Beside.{Differ, HasImage, LacksIt}
+use Rattle.image_charts.specs.Charts.{IsNotChartOf, NamedStates, state_words}
+use Rattle.image_charts.specs.Inside.Beside.{Differ, LacksIt, TellsOfChart}
+use Rattle.image_charts.specs.Written.{TellsOf, told_by}
 
 -- the chart of an image, compiled
-pub has_image : (image : Image) (chart : Chart) (compiled : CompiledChart) (states : NamedStates) → IsCompiledChart chart compiled
-    → compiled.image ≡ image → states ≡ record { compiled = compiled; paths = paths_of chart } → HasImage chart image states
-has_image image chart compiled states is same made =
-    subst (HasImage chart image) (sym made) (record { compiled = is; same = same; paths = refl })
+pub tells_of_chart : (image : Image) (chart : Chart) (authors : Option AuthorsStates) (compiled : CompiledChart) (states : NamedStates)
+    → IsCompiledChart chart compiled → compiled.image ≡ image → states ≡ told_by authors (record { compiled = compiled; paths = paths_of chart })
+    → TellsOfChart chart image authors states
+tells_of_chart image chart authors compiled states is same told = record { compiled = compiled; is = is; same = same; told = told }
 
 -- the chart has another image
 pub differ : (name : List ℕ) (image : Image) (chart : Chart) (compiled : CompiledChart) (f : LoadFault) → IsCompiledChart chart compiled
@@ -41,10 +43,13 @@ differ name image chart compiled (fault.Program f) is differs = absurd differs
 differ name image chart compiled (fault.File shown) is differs = absurd differs
 
 -- the text spells the chart of the image
-pub found : (bytes : List ℕ) (image : Image) (chart : Chart) (states : NamedStates) → IsUtf8 bytes → IsRead bytes chart → HasImage chart image states
-    → IsChartOf bytes image states
-found bytes image chart states text read has =
-    record { chart = chart; text = text; read = read; compiled = has.compiled; same = has.same; paths = has.paths }
+pub tells_of : (bytes : List ℕ) (image : Image) (chart : Chart) (authors : Option AuthorsStates) (states : NamedStates) → IsUtf8 bytes
+    → IsRead bytes chart → TellsOfChart chart image authors states → TellsOf bytes image authors states
+tells_of bytes image chart authors states text read of = record {
+  own = record { compiled = of.compiled; paths = paths_of chart };
+  is = record { chart = chart; text = text; read = read; compiled = of.is; same = of.same; paths = refl };
+  told = of.told;
+}
 
 -- the text spells a chart that has no image, or another one
 pub lacks : (name bytes : List ℕ) (image : Image) (chart : Chart) (f : LoadFault) → IsUtf8 bytes → IsRead bytes chart → LacksIt name chart image f

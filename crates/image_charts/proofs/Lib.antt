@@ -1,3 +1,6 @@
 mod Found
+pub mod TextImages
 pub mod Loading
 mod Same
+mod StoodFor
+pub mod Texts

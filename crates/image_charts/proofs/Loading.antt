@@ -3,12 +3,13 @@ use Rattle.std.proofs.Common.{◌≡◌, ℕ, List, Option, inl, inr, refl, subs
 use Rattle.bytecode.specs.Image.{Image}
 use Rattle.command_files.specs.declared.fault.LoadFault.{LoadFault}
 use Rattle.command_files.specs.declared.fault.LoadFault.TheVariants as load
-use Rattle.command_files.specs.Counting.{files_failed}
-use Rattle.command_files.specs.Files.{Contents}
+use Rattle.command_files.proofs.Sourced.{no_source_in}
+use Rattle.command_files.specs.Files.{Contents, HasBytes}
 use Rattle.command_files.specs.Images.{IsLoaded, FileLacksImage}
 use Rattle.command_files.specs.Standing.{FileLacksSource, HasSource}
-use Rattle.image_charts.specs.Charts.{IsChartOf, IsNotChartOf, NamedStates}
+use Rattle.image_charts.specs.Charts.{IsNotChartOf, NamedStates}
 use Rattle.image_charts.specs.Files.{FilesLackStates, HasStates}
+use Rattle.image_charts.specs.Written.{IsNoTextBeside, IsTextBeside}
 
 -- there is no image
 pub no_image : (files : Option Contents) (name chart : List ℕ) (f : LoadFault) → FileLacksImage files name f → FilesLackStates files name chart f
@@ -44,23 +45,28 @@ another files name chart bytes image (load.Program f) loaded held not =
 another files name chart bytes image (load.Source shown) loaded held not =
     inr (inr (record { image = image; loaded = loaded; bytes = bytes; held = held; not = not }))
 
--- no file failed where its bytes are not the chart
-pub quiet : (chart bytes : List ℕ) (image : Image) (f : LoadFault) → IsNotChartOf chart bytes image f → files_failed f ≡ 0
-quiet chart bytes image load.Memory not = refl
-quiet chart bytes image (load.File shown) not = absurd not
-quiet chart bytes image (load.Image f) not = refl
-quiet chart bytes image (load.Rule f) not = refl
-quiet chart bytes image (load.Text f) not = refl
-quiet chart bytes image (load.Program f) not = refl
-quiet chart bytes image (load.Source shown) not = refl
+-- what is written stands for no source, or for another one
+another_text : (files : Option Contents) (name chart written : List ℕ) (image : Image) (f : LoadFault) → IsLoaded files name image
+    → HasBytes files chart written → IsNoTextBeside chart written image f → FilesLackStates files name chart f
+another_text files name chart written image f loaded held (inl why) =
+    unread files name chart f (no_source_in files chart written written f held refl why)
+another_text files name chart written image f loaded held (inr other) =
+    another files name chart other.source image f loaded (record { written = written; held = held; stands = other.stands }) other.not
 
--- there is an image, and its chart; what files hold in between is what they held
-pub has_states : (files middle : Option Contents) (name chart bytes : List ℕ) (image : Image) (states : NamedStates) → middle ≡ files
-    → IsLoaded files name image → HasSource middle chart bytes → IsChartOf bytes image states → HasStates files name chart image states
-has_states files middle name chart bytes image states same loaded held is =
-    record { loaded = loaded; bytes = bytes; held = subst (λ m. HasSource m chart bytes) same held; is = is }
+-- there is an image, and its text; what files hold in between is what they held, and the bytes that are seen are those that they hold
+pub has_states : (files middle : Option Contents) (name chart written seen : List ℕ) (image : Image) (states : NamedStates) → middle ≡ files
+    → seen ≡ written → IsLoaded files name image → HasBytes middle chart written → IsTextBeside seen image states
+    → HasStates files name chart image states
+has_states files middle name chart written seen image states same as loaded held is = record {
+  loaded = loaded;
+  written = written;
+  held = subst (λ m. HasBytes m chart written) same held;
+  is = subst (λ w. IsTextBeside w image states) as is;
+}
 
-pub another_behind : (files middle : Option Contents) (name chart bytes : List ℕ) (image : Image) (f : LoadFault) → middle ≡ files
-    → IsLoaded files name image → HasSource middle chart bytes → IsNotChartOf chart bytes image f → FilesLackStates files name chart f
-another_behind files middle name chart bytes image f same loaded held not =
-    another files name chart bytes image f loaded (subst (λ m. HasSource m chart bytes) same held) not
+pub another_behind : (files middle : Option Contents) (name chart written seen : List ℕ) (image : Image) (f : LoadFault) → middle ≡ files
+    → seen ≡ written → IsLoaded files name image → HasBytes middle chart written → IsNoTextBeside chart seen image f
+    → FilesLackStates files name chart f
+another_behind files middle name chart written seen image f same as loaded held not =
+    another_text files name chart written image f loaded (subst (λ m. HasBytes m chart written) same held)
+    (subst (λ w. IsNoTextBeside chart w image f) as not)

@@ -1,12 +1,14 @@
-//! Whether a text is the one that an image was compiled from.
+//! Whether a source is the one that an image was compiled from.
 
 ghost use Rattle.std.specs.Prelude.{◌≡◌, ◌↔◌, IfErr, IfOk, IsTrue};
 ghost use Rattle.std.specs.Str.{IsUtf8};
 ghost use Rattle.chart_reader.specs.Read.{IsRead};
-ghost use Rattle.image_charts.specs.Charts.{IsChartOf, IsNotChartOf, SpellsNoChart};
-ghost use Rattle.image_charts.specs.Inside.Beside.{Differ, HasImage, LacksIt};
+ghost use Rattle.image_charts.specs.Charts.{IsNotChartOf, SpellsNoChart};
+ghost use Rattle.image_charts.specs.Inside.Beside.{Differ, LacksIt, TellsOfChart};
+ghost use Rattle.image_charts.specs.Written.{TellsOf};
 
 use crate::states::ChartStates;
+use author_states::AuthorStates;
 use bytecode::{Image, encode};
 use chart_reader::read_chart;
 use command_files::{LoadFault, shown_name};
@@ -50,15 +52,17 @@ fn compare(alloc: Global, name: &str, image: &Image, other: &Image) -> Result<()
     Ok(())
 }
 
-// A chart that is compiled, where this is its image. Err: it has none, or another one.
-#[tactic(auto, using(crate::proofs::Found::has_image, crate::proofs::Found::differ))]
+// What is told of a chart where this is its image: its states, or those of the author of an extended chart which is
+// reduced to it. Err: it has no image, or another one.
+#[tactic(auto, using(crate::proofs::Found::tells_of_chart, crate::proofs::Found::differ))]
 fn beside(
     alloc: Global,
     name: &str,
     chart: &Chart,
     image: &Verified,
+    authors: Option<AuthorStates>,
 ) -> Result<ChartStates, LoadFault>
-    ensures found { IfOk result (HasImage chart.now image.now) }
+    ensures found { IfOk result (TellsOfChart chart.now image.now authors) }
     ensures fault { IfErr result (LacksIt name.now chart.now image.now) }
 {
     let compiled = match compile_chart(alloc, chart) {
@@ -66,25 +70,27 @@ fn beside(
         Err(fault) => return Err(LoadFault::Program(fault)),
     };
     compare(alloc, name, compiled.image().image(), image.image())?;
-    Ok(ChartStates::of(alloc, chart, compiled)?)
+    Ok(ChartStates::of(alloc, chart, compiled, authors)?)
 }
 
-/// The chart that the bytes of the file of this name spell, where this is its image. Err: the bytes are no text (E01
-/// at its first place); the text spells no chart, or one that has no image; or the chart has another image.
-#[tactic(auto, using(crate::proofs::Found::found, crate::proofs::Found::lacks))]
-pub fn chart_of(
+/// What is told of the chart that this source spells, which is of the file of this name, where this is its image: its
+/// states, or those of the author of an extended chart which is reduced to it. Err: the bytes are no text (E01 at its
+/// first place); the text spells no chart, or one that has no image; or the chart has another image.
+#[tactic(auto, using(crate::proofs::Found::tells_of, crate::proofs::Found::lacks))]
+pub(crate) fn chart_of(
     alloc: Global,
     name: &str,
-    bytes: &[u8],
+    source: &[u8],
     image: &Verified,
+    authors: Option<AuthorStates>,
 ) -> Result<ChartStates, LoadFault>
-    ensures found { IfOk result (IsChartOf bytes.now image.now) }
-    ensures fault { IfErr result (IsNotChartOf name.now bytes.now image.now) }
+    ensures found { IfOk result (TellsOf source.now image.now authors) }
+    ensures fault { IfErr result (IsNotChartOf name.now source.now image.now) }
 {
-    let chart = match chart_in(alloc, bytes) {
+    let chart = match chart_in(alloc, source) {
         Ok(chart) => chart,
         Err(fault) => return Err(LoadFault::Text(fault)),
     };
-    let states = beside(alloc, name, &chart, image)?;
+    let states = beside(alloc, name, &chart, image, authors)?;
     Ok(states)
 }

@@ -1,24 +1,26 @@
-//! Which states of a chart are active.
+//! Which states of a text are active.
 
 ghost use Rattle.std.specs.Prelude.{◌≡◌, IfOk};
+ghost use Rattle.image_charts.specs.Written.{told_by};
 ghost use Rattle.state_paths.specs.Paths.{paths_of};
 
+use crate::written::Written;
+use author_states::AuthorStates;
 use compiled_charts::Compiled;
 use core_charts::Chart;
 use sc_graph::Control;
 use simulation::States;
 use sqlite_items::Items;
-use state_paths::paths_of;
 use state_traces::{Words, put_states, quoted_all};
 use std::alloc::{AllocError, Global};
 use std::marker::Model;
 use verifier::Verified;
 
-/// A compiled chart, and the paths of its states. Contracts see both.
+/// A compiled chart, whose nodes stand for the states that the author of its text wrote, and the paths of these.
+/// Contracts see both.
 #[derive(Drop)]
 pub struct ChartStates {
-    compiled: Compiled,
-    paths: Vec<String>,
+    written: Written,
     shown: Vec<String>,
 }
 
@@ -29,30 +31,33 @@ impl Model for ChartStates {
 
     ghost Value = { NamedStates };
 
-    ghost view = { λ s. record { compiled = s.compiled; paths = map string_bytes s.paths.items } };
+    ghost view = { λ s. s.written };
 
-    ghost invariant = { λ s. map string_bytes s.shown.items ≡ map quoted (map string_bytes s.paths.items) };
+    ghost invariant = { λ s. map string_bytes s.shown.items ≡ map quoted s.written.paths };
 }
 
 impl ChartStates {
-    /// A chart that is compiled, with the paths of its states.
-    pub fn of(alloc: Global, chart: &Chart, compiled: Compiled) -> Result<ChartStates, AllocError>
-        ensures { IfOk result (λ states. states ≡ record { compiled = compiled; paths = paths_of chart.now }) }
+    /// What is told of a chart that is compiled: its states, or those of the author of an extended chart which is
+    /// reduced to it.
+    pub fn of(
+        alloc: Global,
+        chart: &Chart,
+        compiled: Compiled,
+        authors: Option<AuthorStates>,
+    ) -> Result<ChartStates, AllocError>
+        ensures { IfOk result (λ states. states
+            ≡ told_by authors (record { compiled = compiled; paths = paths_of chart.now })) }
     {
-        let paths = paths_of(alloc, chart)?;
-        let shown = quoted_all(alloc, &paths)?;
-        Ok(ChartStates {
-            compiled,
-            paths,
-            shown,
-        })
+        let written = Written::of(alloc, chart, compiled, authors)?;
+        let shown = quoted_all(alloc, written.paths())?;
+        Ok(ChartStates { written, shown })
     }
 
     /// The image of the chart.
     pub fn image(&self) -> &Verified
         ensures { result.now ≡ self.now.compiled.image }
     {
-        self.compiled.image()
+        self.written.compiled().image()
     }
 }
 
@@ -62,7 +67,7 @@ impl Words for ChartStates {
     ghost words = { λ s. state_words s };
 
     fn put(&self, alloc: Global, line: &mut Vec<u8>, control: &Control) -> Result<(), AllocError> {
-        let active = self.compiled.active(alloc, control)?;
+        let active = self.written.compiled().active(alloc, control)?;
         put_states(line, &self.shown, active.as_slice())
     }
 }
@@ -75,10 +80,10 @@ impl States for ChartStates {
     ghost active = { λ s c. active_states s.compiled.nodes s.compiled.states c };
 
     fn paths(&self) -> &[String] {
-        &self.paths
+        self.written.paths()
     }
 
     fn active(&self, alloc: Global, control: &Control) -> Result<Items<u32>, AllocError> {
-        self.compiled.active(alloc, control)
+        self.written.compiled().active(alloc, control)
     }
 }

@@ -1,31 +1,33 @@
 -- From what was found in the bytes of a file to the image that is stepped.
-use Rattle.std.proofs.Common.{◌≡◌, ℕ, List, Option, None, inl, inr}
+use Rattle.std.proofs.Common.{◌≡◌, ℕ, List, Option, None, inl, inr, subst}
 use Rattle.bytecode.specs.Image.{Image}
-use Rattle.command_files.proofs.Held.{compiled, no_compiled}
 use Rattle.command_files.specs.declared.fault.LoadFault.{LoadFault}
-use Rattle.command_files.specs.Files.{Contents}
-use Rattle.command_files.specs.Standing.{FileLacksSource, HasSource}
-use Rattle.command_files.specs.Sources.{BytesLackCompiled, IsCompiledFrom, SpellsImage}
-use Rattle.image_charts.specs.Charts.{IsNotChartOf}
+use Rattle.command_files.specs.Files.{Contents, HasBytes}
+use Rattle.command_files.specs.Standing.{FileLacksSource}
+use Rattle.command_files.specs.Sources.{IsCompiledFrom}
+use Rattle.image_charts.proofs.TextImages.{no_compiled_in}
+use Rattle.image_charts.specs.Written.{IsNoTextBeside, MakesImage, MakesNoImage}
 use Rattle.line_causes.specs.declared.cause.Cause.{Cause}
 use Rattle.simulation.specs.Lines as typed
 use Rattle.trace_player.specs.declared.player.PlayFault.{PlayFault}
 use Rattle.sct_command.specs.Simulating.{LacksModel, Simulates, StopsSimulation}
 
-pub compiled_from : (files : Option Contents) (name bytes : List ℕ) (image : Image) → HasSource files name bytes → SpellsImage bytes image
-    → IsCompiledFrom files name image
-compiled_from files name bytes image held is = compiled files name bytes image held is
-
 pub no_source : (files : Option Contents) (name : List ℕ) (f : LoadFault) → FileLacksSource files name f → LacksModel files name f
 no_source files name f none = inl (inl none)
 
-pub no_image : (files : Option Contents) (name bytes : List ℕ) (f : LoadFault) → HasSource files name bytes → BytesLackCompiled bytes f
-    → LacksModel files name f
-no_image files name bytes f held none = inl (no_compiled files name bytes f held none)
+pub no_image : (files : Option Contents) (name bytes seen : List ℕ) (f : LoadFault) → HasBytes files name bytes → seen ≡ bytes
+    → MakesNoImage seen f → LacksModel files name f
+no_image files name bytes seen f held same none = inl (no_compiled_in files name bytes seen f held same none)
 
-pub no_states : (files : Option Contents) (name bytes : List ℕ) (image : Image) (f : LoadFault) → HasSource files name bytes
-    → SpellsImage bytes image → IsNotChartOf name bytes image f → LacksModel files name f
-no_states files name bytes image f held is none = inr (record { image = image; bytes = bytes; held = held; is = is; none = none })
+pub no_states : (files : Option Contents) (name bytes seen other : List ℕ) (image : Image) (f : LoadFault) → HasBytes files name bytes
+    → seen ≡ bytes → other ≡ bytes → MakesImage seen image → IsNoTextBeside name other image f → LacksModel files name f
+no_states files name bytes seen other image f held same same' makes none = inr (record {
+  image = image;
+  bytes = bytes;
+  held = held;
+  makes = subst (λ b. MakesImage b image) same makes;
+  none = subst (λ b. IsNoTextBeside name b image f) same' none;
+})
 
 -- ---- what stepping comes to
 

@@ -2,10 +2,9 @@
 use Rattle.std.specs.Prelude.{ℕ, ◌≡◌, ◌⊎◌, Option, None, List}
 use Rattle.bytecode.specs.Image.{Image}
 use Rattle.command_files.specs.declared.fault.LoadFault.{LoadFault}
-use Rattle.command_files.specs.Files.{Contents}
-use Rattle.command_files.specs.Sources.{FileLacksCompiled, IsCompiledFrom, SpellsImage}
-use Rattle.command_files.specs.Standing.{HasSource}
-use Rattle.image_charts.specs.Charts.{IsNotChartOf}
+use Rattle.command_files.specs.Files.{Contents, HasBytes}
+use Rattle.command_files.specs.Sources.{FileLacksCompiled, IsCompiledFrom}
+use Rattle.image_charts.specs.Written.{IsNoTextBeside, MakesImage}
 use Rattle.line_causes.specs.declared.cause.Cause.{Cause}
 use Rattle.simulation.specs.Lines as typed
 use Rattle.trace_player.specs.declared.player.PlayFault.{PlayFault}
@@ -30,9 +29,9 @@ pub record StopsSimulation (files : Option Contents) (name : List ℕ) (input ol
 pub record LacksStates (files : Option Contents) (name : List ℕ) (f : LoadFault) : Type 0 where
   pub image : Image
   pub bytes : List ℕ
-  pub held : HasSource files name bytes
-  pub is : SpellsImage bytes image
-  pub none : IsNotChartOf name bytes image f
+  pub held : HasBytes files name bytes
+  pub makes : MakesImage bytes image
+  pub none : IsNoTextBeside name bytes image f
 
 -- there is no program in this file, or it has no image, or no states
 abbrev pub LacksModel : Option Contents → List ℕ → LoadFault → Type 0

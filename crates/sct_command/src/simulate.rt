@@ -8,17 +8,17 @@ ghost use Rattle.sct_command.specs.Failing.{files_failed, reads_failed, writes_f
 ghost use Rattle.sct_command.specs.Simulating.{LacksModel, RefusesSimulation, Simulates};
 
 use crate::fault::Fault;
-use command_files::{Files, LoadFault, compile_bytes, source_of};
-use image_charts::{ChartStates, states_in};
+use command_files::{Files, LoadFault, bytes_of};
+use image_charts::{ChartStates, compile_written, states_in};
 use sc_values::{Sink, Source};
 use simulation::simulate;
 use sqlite_items::Boxed;
 use std::alloc::Global;
 use verifier::Verified;
 
-// The image of the program in this file, and of a chart its states. Err: there is no program in the file, or it has no
-// image.
-#[tactic(auto, using(crate::proofs::Simulated::no_source, crate::proofs::Simulated::no_image, crate::proofs::Simulated::no_states, crate::proofs::Told::quiet_bytes))]
+// The image of the program in this file, and of a chart, or of an extended chart, the states that its author wrote. Err:
+// there is no program in the file, or it has no image.
+#[tactic(auto, using(crate::proofs::Simulated::no_source, crate::proofs::Simulated::no_image, crate::proofs::Simulated::no_states))]
 fn load_model<F: Files>(
     alloc: Global,
     name: &str,
@@ -31,8 +31,8 @@ fn load_model<F: Files>(
     ensures failed { IfErr result (λ fault. F.failures files.new
         ≡ F.failures files.old + files_count.files_failed fault) }
 {
-    let bytes = source_of(alloc, files, name)?;
-    let compiled = compile_bytes(alloc, &bytes)?;
+    let bytes = bytes_of(alloc, files, name)?;
+    let compiled = compile_written(alloc, &bytes)?;
     let image = Boxed::new(alloc, compiled)?;
     let states = states_in(alloc, name, &bytes, image.get())?;
     Ok((image, states))

@@ -1,6 +1,7 @@
--- A chart beside an image: whether it is its own.
-use Rattle.std.specs.Prelude.{ℕ, ◌≡◌, ◌≢◌, List, string_bytes}
+-- A chart beside an image: whether it is its own, and what is told of it then.
+use Rattle.std.specs.Prelude.{ℕ, ◌≡◌, ◌≢◌, Option, List, string_bytes}
 use Rattle.core_charts.specs.Chart.{Chart}
+use Rattle.author_states.specs.Author.{AuthorsStates}
 use Rattle.bytecode.specs.Image.{Image}
 use Rattle.compiler.specs.Charts.{ChartLacksImage}
 use Rattle.state_paths.specs.Paths.{paths_of}
@@ -9,12 +10,14 @@ use Rattle.command_files.specs.declared.fault.LoadFault.{LoadFault}
 use Rattle.command_files.specs.declared.fault.LoadFault.TheVariants as fault
 use Rattle.command_files.specs.FaultText.{shown_name}
 use Rattle.image_charts.specs.Charts.{NamedStates}
+use Rattle.image_charts.specs.Written.{told_by}
 
--- the chart has this image, and these states
-pub record HasImage (chart : Chart) (image : Image) (states : NamedStates) : Type 0 where
-  pub compiled : IsCompiledChart chart states.compiled
-  pub same : states.compiled.image ≡ image
-  pub paths : states.paths ≡ paths_of chart
+-- the chart has this image, and these states are told of it
+pub record TellsOfChart (chart : Chart) (image : Image) (authors : Option AuthorsStates) (states : NamedStates) : Type 0 where
+  pub compiled : CompiledChart
+  pub is : IsCompiledChart chart compiled
+  pub same : compiled.image ≡ image
+  pub told : states ≡ told_by authors (record { compiled = compiled; paths = paths_of chart })
 
 -- the chart has another image
 pub record HasAnother (chart : Chart) (image : Image) : Type 0 where

@@ -1,0 +1,84 @@
+//! The states that the author of a text wrote: of a chart its own; of an extended chart those for which states of the
+//! chart stand to which it is reduced.
+
+ghost use Rattle.std.specs.Prelude.{◌≡◌, IfOk, map, string_bytes};
+ghost use Rattle.image_charts.specs.Written.{told_by, told_of_author};
+ghost use Rattle.state_paths.specs.Paths.{paths_of};
+
+use author_states::AuthorStates;
+use compiled_charts::Compiled;
+use core_charts::Chart;
+use state_paths::paths_of;
+use std::alloc::{AllocError, Global};
+use std::marker::Model;
+
+/// A compiled chart, whose nodes stand for the states that the author of its text wrote, and the paths of these.
+#[derive(Drop)]
+pub(crate) struct Written {
+    compiled: Compiled,
+    paths: Vec<String>,
+}
+
+impl Model for Written {
+    ghost use Rattle.std.specs.Prelude.{map, string_bytes};
+    ghost use Rattle.image_charts.specs.Charts.{NamedStates};
+
+    ghost Value = { NamedStates };
+
+    ghost view = { λ w. record { compiled = w.compiled; paths = map string_bytes w.paths.items } };
+}
+
+impl Written {
+    /// Those of the author of an extended chart that is reduced to a chart which is compiled so, or else of the chart.
+    pub(crate) fn of(
+        alloc: Global,
+        chart: &Chart,
+        compiled: Compiled,
+        authors: Option<AuthorStates>,
+    ) -> Result<Written, AllocError>
+        ensures { IfOk result (λ written. written
+            ≡ told_by authors (record { compiled = compiled; paths = paths_of chart.now })) }
+    {
+        match authors {
+            Some(states) => Ok(Written::of_author(alloc, compiled, states)?),
+            None => {
+                let paths = paths_of(alloc, chart)?;
+                Ok(Written { compiled, paths })
+            }
+        }
+    }
+
+    // Those of an author, for which states of a chart stand that is compiled so. Err: no memory holds so many; or it was
+    // refused.
+    fn of_author(
+        alloc: Global,
+        compiled: Compiled,
+        states: AuthorStates,
+    ) -> Result<Written, AllocError>
+        ensures { IfOk result (λ written. written ≡ told_of_author states compiled) }
+    {
+        let nodes = states.past(alloc, compiled.nodes())?;
+        let paths = states.into_paths();
+        let Ok(count) = u32::try_from(paths.len()) else {
+            return Err(AllocError);
+        };
+        Ok(Written {
+            compiled: compiled.standing_for(count, nodes),
+            paths,
+        })
+    }
+
+    /// The compiled chart.
+    pub(crate) fn compiled(&self) -> &Compiled
+        ensures { result.now ≡ self.now.compiled }
+    {
+        &self.compiled
+    }
+
+    /// The paths of the states.
+    pub(crate) fn paths(&self) -> &[String]
+        ensures { map string_bytes result.now ≡ self.now.paths }
+    {
+        &self.paths
+    }
+}
