@@ -25,8 +25,8 @@ fn told_of(
     }
 }
 
-/// The paths of the states that the author of the text of this name wrote which are active where the tick of the line of
-/// this number ends, a line for each. A text without states says nothing.
+/// The paths of those states that the author of the text of this name wrote which are active where the tick of the line
+/// of this number ends, a line for each. A text without states says nothing.
 #[tactic(auto, using(crate::proofs::Verdicts::tells_chart, crate::proofs::Verdicts::no_chart, crate::proofs::Verdicts::no_states))]
 pub(crate) fn active_said(
     alloc: Global,

@@ -45,10 +45,10 @@ differ name image chart compiled (fault.File shown) is differs = absurd differs
 -- the text spells the chart of the image
 pub tells_of : (bytes : List ℕ) (image : Image) (chart : Chart) (authors : Option AuthorsStates) (states : NamedStates) → IsUtf8 bytes
     → IsRead bytes chart → TellsOfChart chart image authors states → TellsOf bytes image authors states
-tells_of bytes image chart authors states text read of = record {
-  own = record { compiled = of.compiled; paths = paths_of chart };
-  is = record { chart = chart; text = text; read = read; compiled = of.is; same = of.same; paths = refl };
-  told = of.told;
+tells_of bytes image chart authors states text read tells = record {
+  own = record { compiled = tells.compiled; paths = paths_of chart };
+  is = record { chart = chart; text = text; read = read; compiled = tells.is; same = tells.same; paths = refl };
+  told = tells.told;
 }
 
 -- the text spells a chart that has no image, or another one

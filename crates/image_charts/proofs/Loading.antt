@@ -57,16 +57,16 @@ another_text files name chart written image f loaded held (inr other) =
 pub has_states : (files middle : Option Contents) (name chart written seen : List ℕ) (image : Image) (states : NamedStates) → middle ≡ files
     → seen ≡ written → IsLoaded files name image → HasBytes middle chart written → IsTextBeside seen image states
     → HasStates files name chart image states
-has_states files middle name chart written seen image states same as loaded held is = record {
+has_states files middle name chart written seen image states same again loaded held is = record {
   loaded = loaded;
   written = written;
   held = subst (λ m. HasBytes m chart written) same held;
-  is = subst (λ w. IsTextBeside w image states) as is;
+  is = subst (λ w. IsTextBeside w image states) again is;
 }
 
 pub another_behind : (files middle : Option Contents) (name chart written seen : List ℕ) (image : Image) (f : LoadFault) → middle ≡ files
     → seen ≡ written → IsLoaded files name image → HasBytes middle chart written → IsNoTextBeside chart seen image f
     → FilesLackStates files name chart f
-another_behind files middle name chart written seen image f same as loaded held not =
+another_behind files middle name chart written seen image f same again loaded held not =
     another_text files name chart written image f loaded (subst (λ m. HasBytes m chart written) same held)
-    (subst (λ w. IsNoTextBeside chart w image f) as not)
+    (subst (λ w. IsNoTextBeside chart w image f) again not)

@@ -71,18 +71,18 @@ module _ (a : AuthorsStates) (own : NamedStates) (c : Control) (m : ℕ) where
   author_stood_for : IsTold (told_by (Some a) own) c m → IsStoodFor (Some a) own c m
   author_stood_for told =
       let on : is_active (author_nodes a.stand own.compiled.nodes) c m ≡ true =
-          is_wanted (is_active (author_nodes a.stand own.compiled.nodes) c) 0 (length a.paths) m told in
+      is_wanted (is_active (author_nodes a.stand own.compiled.nodes) c) 0 (length a.paths) m told in
       let past : is_active (composed own.compiled.nodes a.stand) c m ≡ true =
-          subst (λ ns. is_active ns c m ≡ true) (same_row a.stand own.compiled.nodes) on in
+      subst (λ ns. is_active ns c m ≡ true) (same_row a.stand own.compiled.nodes) on in
       let behind : IsActiveBehind own.compiled.nodes a.stand c m = active_behind own.compiled.nodes a.stand c m past in
       record { state = behind.core_state; active = behind.active; stands = behind.stands_for }
 
   author_told : m < length a.paths → IsStoodFor (Some a) own c m → IsTold (told_by (Some a) own) c m
   author_told within stood =
       let past : is_active (composed own.compiled.nodes a.stand) c m ≡ true =
-          active_past own.compiled.nodes a.stand c m (record { core_state = stood.state; active = stood.active; stands_for = stood.stands }) in
+      active_past own.compiled.nodes a.stand c m (record { core_state = stood.state; active = stood.active; stands_for = stood.stands }) in
       let on : is_active (author_nodes a.stand own.compiled.nodes) c m ≡ true =
-          subst (λ ns. is_active ns c m ≡ true) (sym (same_row a.stand own.compiled.nodes)) past in
+      subst (λ ns. is_active ns c m ≡ true) (sym (same_row a.stand own.compiled.nodes)) past in
       among (is_active (author_nodes a.stand own.compiled.nodes) c) 0 (length a.paths) m (omega arith) (omega (arith, within)) on
 
 own_stood_for : (own : NamedStates) (c : Control) (m : ℕ) → IsTold own c m → IsStoodFor None own c m

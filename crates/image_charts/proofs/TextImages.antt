@@ -12,13 +12,13 @@ use Rattle.command_files.specs.Standing.{AreAsWritten, AreReduced, StandsFor}
 use Rattle.image_charts.specs.Written.{MakesImage, MakesNoImage}
 
 pub own_image : (written : List ℕ) (image : Image) → AreAsWritten written written → SpellsImage written image → MakesImage written image
-own_image written image as is = record { source = written; stands = inl as; spelt = is }
+own_image written image itself is = record { source = written; stands = inl itself; spelt = is }
 
 pub reduced_image : (written source : List ℕ) (image : Image) → AreReduced written source → SpellsImage source image → MakesImage written image
 reduced_image written source image reduced is = record { source = source; stands = inr reduced; spelt = is }
 
 pub no_own_image : (written : List ℕ) (f : LoadFault) → AreAsWritten written written → BytesLackCompiled written f → MakesNoImage written f
-no_own_image written f as none = inr (record { source = written; stands = inl as; none = none })
+no_own_image written f itself none = inr (record { source = written; stands = inl itself; none = none })
 
 pub no_reduced_image : (written source : List ℕ) (f : LoadFault) → AreReduced written source → BytesLackCompiled source f → MakesNoImage written f
 no_reduced_image written source f reduced none = inr (record { source = source; stands = inr reduced; none = none })

@@ -15,7 +15,7 @@ use Rattle.image_charts.specs.Written.{IsNoTextBeside, IsTextBeside, TellsOf}
 
 pub own_text : (written : List ℕ) (image : Image) (states : NamedStates) → AreAsWritten written written → TellsOf written image None states
     → IsTextBeside written image states
-own_text written image states as tells = record { source = written; authors = None; stands = as; tells = tells }
+own_text written image states itself tells = record { source = written; authors = None; stands = itself; tells = tells }
 
 pub extended_text : (written source : List ℕ) (authors : AuthorsStates) (image : Image) (states : NamedStates) → IsAuthored written source authors
     → TellsOf source image (Some authors) states → IsTextBeside written image states
@@ -26,7 +26,7 @@ extended_text written source authors image states authored tells =
 
 pub not_own : (name written : List ℕ) (image : Image) (f : LoadFault) → AreAsWritten written written → IsNotChartOf name written image f
     → IsNoTextBeside name written image f
-not_own name written image f as not = inr (record { source = written; stands = inl as; not = not })
+not_own name written image f itself not = inr (record { source = written; stands = inl itself; not = not })
 
 pub not_extended : (name written source : List ℕ) (authors : AuthorsStates) (image : Image) (f : LoadFault) → IsAuthored written source authors
     → IsNotChartOf name source image f → IsNoTextBeside name written image f

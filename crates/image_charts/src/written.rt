@@ -48,8 +48,8 @@ impl Written {
         }
     }
 
-    // Those of an author, for which states of a chart stand that is compiled so. Err: no memory holds so many; or it was
-    // refused.
+    // Those of an author, for which states of a chart stand that is compiled so. Err: no memory holds so many; or it
+    // was refused.
     fn of_author(
         alloc: Global,
         compiled: Compiled,

@@ -16,8 +16,8 @@ use sqlite_items::Boxed;
 use std::alloc::Global;
 use verifier::Verified;
 
-// The image of the program in this file, and of a chart, or of an extended chart, the states that its author wrote. Err:
-// there is no program in the file, or it has no image.
+// The image of the program in this file, and of a chart, or of an extended chart, the states that its author wrote.
+// Err: there is no program in the file, or it has no image.
 #[tactic(auto, using(crate::proofs::Simulated::no_source, crate::proofs::Simulated::no_image, crate::proofs::Simulated::no_states))]
 fn load_model<F: Files>(
     alloc: Global,
