@@ -7,7 +7,7 @@ use Rattle.std.proofs.lemmas.Bool.{cases_eq}
 use Rattle.std.proofs.lemmas.List.Elements.{Contains-append_cases, Contains-append_right}
 use Rattle.std.proofs.lemmas.Option.{same_Some}
 use Rattle.sc_graph.specs.declared.control.Control.{Control}
-use Rattle.author_states.specs.Author.{AuthorsStates, author_nodes}
+use Rattle.author_states.specs.Author.{AuthorsStates, author_nodes, author_state}
 use Rattle.compiled_charts.proofs.ActiveStates.{IsActiveBehind, active_behind, active_past}
 use Rattle.node_states.specs.Active.{is_active, numbers_where}
 use Rattle.node_states.specs.StandsFor.{composed}
@@ -63,7 +63,7 @@ module _ (wanted : ℕ → Bool) where
 same_row : (stand nodes : List (Option ℕ)) → author_nodes stand nodes ≡ composed nodes stand
 same_row stand [] = refl
 same_row stand (None ∷ nodes) = ap (λ ns. None ∷ ns) (same_row stand nodes)
-same_row stand (Some n ∷ nodes) = ap (λ ns. _ ∷ ns) (same_row stand nodes)
+same_row stand (Some n ∷ nodes) = ap (λ ns. author_state stand n ∷ ns) (same_row stand nodes)
 
 -- ---- what is told
 
