@@ -19,7 +19,7 @@ use Rattle.command_files.specs.declared.fault.LoadFault.{LoadFault}
 use Rattle.command_files.specs.declared.fault.LoadFault.TheVariants as fault
 use Rattle.state_traces.specs.Lines.{paths_at, states_member}
 use Rattle.state_traces.specs.Listed.{states_text}
-use Rattle.state_traces.proofs.Listed.{told_by}
+use Rattle.state_traces.proofs.Listed.{told_by as listed}
 use Rattle.image_charts.specs.Charts.{IsNotChartOf, NamedStates, state_words}
 use Rattle.image_charts.specs.Inside.Beside.{Differ, LacksIt, TellsOfChart}
 use Rattle.image_charts.specs.Written.{TellsOf, told_by}
@@ -69,7 +69,7 @@ states_told : (s : NamedStates) (c : Control) (shown : List (List ℕ)) (active 
     → active ≡ active_states s.compiled.nodes s.compiled.states c → shown ≡ map quoted s.paths
     → line' ≡ line ++ states_text shown active → line' ≡ line ++ members_text true (state_words s c)
 states_told s c shown active line line' is same put =
-    put ∙ ap (λ t. line ++ t) (told_by shown s.paths active same) ∙ ap (λ ns. line ++ members_text true (states_member (paths_at s.paths ns))) is
+    put ∙ ap (λ t. line ++ t) (listed shown s.paths active same) ∙ ap (λ ns. line ++ members_text true (states_member (paths_at s.paths ns))) is
 
 pub states_put : {A E : Type 0} (r : Result A E) (s : NamedStates) (c : Control) (shown : List (List ℕ)) (active line line' : List ℕ)
     → active ≡ active_states s.compiled.nodes s.compiled.states c → shown ≡ map quoted s.paths
