@@ -1,5 +1,8 @@
 pub mod Greatest
 pub mod ByRank
+pub mod OneEnd
+pub mod AssignmentsSwap
+pub mod ApartTogether
 pub mod LowLines
 pub mod LinesAhead
 pub mod GreatestPriority

@@ -1,6 +1,9 @@
 -- All that was proved, passed on from one place, so that the check reads each file.
 use Rattle.std.proofs.Common.{◌≡◌, ℕ, refl}
 pub use Rattle.reaction_laws.proofs.ByRank.{ranks_lead_to_ends}
+pub use Rattle.reaction_laws.proofs.OneEnd.{one_end}
+pub use Rattle.reaction_laws.proofs.AssignmentsSwap.{assignments_swap}
+pub use Rattle.reaction_laws.proofs.ApartTogether.{are_apart, forks_none}
 pub use Rattle.reaction_laws.proofs.LayeredRuns.{layered_ticks_end}
 pub use Rattle.reaction_laws.proofs.SeenTheSame.{reactions_alike}
 pub use Rattle.reaction_laws.proofs.RanksReact.{has_reaction}

@@ -1,4 +1,5 @@
 pub mod Ranked
+pub mod OneEnd
 pub mod Bounded
 pub mod Alike
 pub mod Reacts
