@@ -1,16 +1,15 @@
 -- Two regions of a chart that have their turn together lie in different regions of one superstate, or of the chart: neither lies in the other.
-use Rattle.std.proofs.Common.{◌≡◌, ◌≢◌, ℕ, zero, suc, ◌<◌, ◌⊎◌, inl, inr, ⊎_elim, Bool, true, false, not, ◌&&◌, List, [], ◌∷◌, length, Contains, refl, sym}
+use Rattle.std.proofs.Common.{◌≡◌, ◌≢◌, ℕ, ◌⊎◌, inl, inr, ⊎_elim, Bool, true, false, not, ◌&&◌, List, [], ◌∷◌, Contains, refl, sym}
 use Rattle.std.proofs.Common.{ap, subst, ◌∙◌, arith}
-use Rattle.std.specs.List.{list_all}
 use Rattle.core_charts.specs.declared.region.Transition.{Transition}
 use Rattle.chart_machine.specs.declared.standing.Configuration.{Configuration}
 use Rattle.chart_machine.specs.declared.standing.Standing.{Standing}
 use Rattle.chart_machine.specs.declared.standing.Standing.TheVariants as at
 use Rattle.chart_machine.specs.declared.table.Table.{Table}
-use Rattle.chart_machine.specs.Turns.{standing_of, guards, is_guarded, has_work, inside, inside_is_done, is_enabled, LiesIn, itself, deeper, SideBySide}
+use Rattle.chart_machine.specs.Turns.{standing_of, guards, is_guarded, has_work, inside, inside_is_done, is_enabled, LiesIn, itself, deeper}
 use Rattle.chart_machine.specs.Turns.{ForkedApart, holder_of}
 use Rattle.chart_machine_laws.specs.Tree.{IsThere, IsTree, LiesUnder, around, holder}
-use Rattle.chart_machine_laws.proofs.LyingIn.{none_in, head_in, tail_in, head_or_tail, outwards, inwards, lies_in_outer, around_outer, apart_inside}
+use Rattle.chart_machine_laws.proofs.LyingIn.{none_in, head_in, tail_in, head_or_tail, inwards, lies_in_outer, around_outer, apart_inside}
 use Rattle.tick_laws.proofs.Lists.{same_or_not, list_all_at}
 use Rattle.abort_expansion_laws.proofs.InsideAround.{one_in_other}
 use Rattle.abort_expansion_laws.proofs.KnownVariables.{both_true, not_so}

@@ -1,5 +1,5 @@
 -- Two assignments that may stand in either order give the same in either order.
-use Rattle.std.proofs.Common.{◌≡◌, ◌≢◌, ℕ, zero, suc, ◌<◌, ◌⊎◌, inl, inr, ⊎_elim, Bool, true, false, not, ◌&&◌, Option, Some, None, List, [], ◌∷◌, ◌++◌}
+use Rattle.std.proofs.Common.{◌≡◌, ◌≢◌, ℕ, ◌<◌, ◌⊎◌, inl, inr, ⊎_elim, Bool, true, false, not, ◌&&◌, Option, Some, None, List, [], ◌∷◌, ◌++◌}
 use Rattle.std.proofs.Common.{length, nat_eq, option_and_then, unwrap_or, slice_get, slice_set, Contains, if◌then◌else◌, refl, sym, ap}
 use Rattle.std.proofs.Common.{subst, ◌∙◌, neg_ℤ, set-set}
 use Rattle.std.specs.Int.{w32}
@@ -20,7 +20,7 @@ use Rattle.sc_values.specs.declared.expression.Expr.{Expr}
 use Rattle.sc_values.specs.declared.expression.Expr.TheOpen.{Expr-F}
 use Rattle.sc_values.specs.declared.expression.Expr.TheOpen as tree
 use Rattle.sc_values.specs.declared.expression.Expr.TheViews.{roll-Expr, out-Expr, out-roll-Expr}
-use Rattle.sc_values.specs.Access.{Access, Reads, Precedes, init_update, init_read, update_read, two_inits, two_updates, MayPrecede, one_literal}
+use Rattle.sc_values.specs.Access.{Access, Reads, Precedes, init_update, init_read, update_read, two_inits, two_updates, MayPrecede}
 use Rattle.sc_values.specs.Access.{same_literal}
 use Rattle.sc_values.specs.Assignment.{Assignment, Inits, Combines, reads, is_read, is_variable, combination_of, assignment_of, assignment_of_root}
 use Rattle.sc_values.specs.Assignment.{access_of_assignment}
@@ -30,7 +30,7 @@ use Rattle.sc_values.specs.Operator.{kind_of, kind_combined, unary_value, binary
 use Rattle.sc_values.proofs.Evaluating.{tree_value}
 use Rattle.sc_values.proofs.Induction.{induct, value-load, value-unary, value-binary}
 use Rattle.sc_values.proofs.Literals.{literal_from_same, literal_value}
-use Rattle.sc_values.proofs.Loading.{SameAt, value_same, loads-load, loads-unary, loads-binary}
+use Rattle.sc_values.proofs.Loading.{value_same, loads-load, loads-unary, loads-binary}
 use Rattle.sc_values.proofs.Merge.{combined_kind, combined_turn, one_combination}
 use Rattle.sc_graph.specs.Steps.{takes_kind}
 use Rattle.tick_laws.proofs.Lists.{same_or_not, and_then_some, contains_none, contains_cons, contains_head, contains_tail, get_set_other, get_set_same}

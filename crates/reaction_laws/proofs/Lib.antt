@@ -2,7 +2,14 @@ pub mod Greatest
 pub mod ByRank
 pub mod OneEnd
 pub mod AssignmentsSwap
+pub mod WritesSwap
 pub mod ApartTogether
+pub mod StepsSwap
+pub mod MovesInside
+pub mod EnclosedStill
+pub mod StandsStill
+pub mod SitsStill
+pub mod SitsAtStart
 pub mod LowLines
 pub mod LinesAhead
 pub mod GreatestPriority
@@ -13,6 +20,7 @@ pub mod RunsComplete
 pub mod LayeredRuns
 pub mod SeenTheSame
 pub mod RanksReact
+pub mod OneReaction
 pub mod RaiseNodes
 pub mod CaughtThreads
 pub mod NoResumes

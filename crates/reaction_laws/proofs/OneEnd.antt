@@ -1,11 +1,11 @@
 -- In two admissible complete runs the step of the thread of the greatest rank is pulled to the front, again and again: so both end alike.
-use Rattle.std.proofs.Common.{◌≡◌, ◌≢◌, ℕ, zero, suc, ◌≤◌, ◌⊎◌, inl, inr, ⊎_elim, true, false, Option, Some, None, option_and_then, List, [], ◌∷◌, ◌++◌}
+use Rattle.std.proofs.Common.{◌≡◌, ◌≢◌, ℕ, zero, suc, ◌≤◌, ◌⊎◌, ⊎_elim, true, false, Option, Some, None, option_and_then, List, [], ◌∷◌, ◌++◌}
 use Rattle.std.proofs.Common.{length, refl, sym, ap, subst, ◌∙◌, arith}
 use Rattle.std.proofs.lemmas.Bool.{cases_Bool, cases_eq}
 use Rattle.std.proofs.lemmas.Option.{none-some, same_Some}
 use Rattle.sc_values.specs.Access.{Access, MayPrecede}
-use Rattle.sc_values.specs.Runs.{Machine, replay, IsOver, Act, act_of, acts, acts_after, Ends}
-use Rattle.sc_values.proofs.Order.{EachIsOpen, Orderly, Passes, PassesAll, TakesNone, clear_past, to_front, orderly_from_admissible}
+use Rattle.sc_values.specs.Runs.{Machine, replay, IsOver, Act, act_of, acts, acts_after}
+use Rattle.sc_values.proofs.Order.{EachIsOpen, Orderly, PassesAll, TakesNone, clear_past, to_front, orderly_from_admissible}
 use Rattle.reaction_laws.proofs.Greatest.{Leads, NoneOf, leader}
 use Rattle.reaction_laws.specs.OneEnd.{KeepsApart, RankedSteps, RanksGiveOneEnd}
 

@@ -3,10 +3,15 @@ use Rattle.std.proofs.Common.{◌≡◌, ℕ, refl}
 pub use Rattle.reaction_laws.proofs.ByRank.{ranks_lead_to_ends}
 pub use Rattle.reaction_laws.proofs.OneEnd.{one_end}
 pub use Rattle.reaction_laws.proofs.AssignmentsSwap.{assignments_swap}
+pub use Rattle.reaction_laws.proofs.WritesSwap.{changes_swap}
 pub use Rattle.reaction_laws.proofs.ApartTogether.{are_apart, forks_none}
+pub use Rattle.reaction_laws.proofs.StepsSwap.{keeps_apart}
+pub use Rattle.reaction_laws.proofs.SitsStill.{sits_apart}
+pub use Rattle.reaction_laws.proofs.SitsAtStart.{sits_initially, sits_at_start}
 pub use Rattle.reaction_laws.proofs.LayeredRuns.{layered_ticks_end}
 pub use Rattle.reaction_laws.proofs.SeenTheSame.{reactions_alike}
 pub use Rattle.reaction_laws.proofs.RanksReact.{has_reaction}
+pub use Rattle.reaction_laws.proofs.OneReaction.{one_reaction}
 pub use Rattle.reaction_laws.proofs.CappedRanks.{capped_are_ranks}
 pub use Rattle.reaction_laws.proofs.GraphRuns.{goes_to_nodes, comes_own}
 pub use Rattle.reaction_laws.proofs.StillAtJoins.{has_stepped}

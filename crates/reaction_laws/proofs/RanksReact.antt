@@ -30,7 +30,7 @@ one_fewer m n same = omega (same, arith)
 
 -- ---- a list of ends that goes on by one
 
-reaction_on : (r : Reactive) (done : List Inputs) (ends : List r.machine.Configuration) (c : r.machine.Configuration) (next : Inputs)
+pub reaction_on : (r : Reactive) (done : List Inputs) (ends : List r.machine.Configuration) (c : r.machine.Configuration) (next : Inputs)
     (d : r.machine.Configuration) → Reaction r done c ends → Ends r.machine (r.start next (last_of c ends)) d →
     Reaction r (done ++ next ∷ []) c (ends ++ d ∷ [])
 reaction_on r [] [] c next d h e = (e, tt)
@@ -38,11 +38,11 @@ reaction_on r (inputs ∷ done) (x ∷ ends) c next d h e = (h.0, reaction_on r 
 reaction_on r [] (x ∷ ends) c next d h e = absurd h
 reaction_on r (inputs ∷ done) [] c next d h e = absurd h
 
-last_on : {A : Type 0} (ends : List A) (c d : A) → last_of c (ends ++ d ∷ []) ≡ d
+pub last_on : {A : Type 0} (ends : List A) (c d : A) → last_of c (ends ++ d ∷ []) ≡ d
 last_on [] c d = refl
 last_on (x ∷ ends) c d = last_on ends x d
 
-all_on : (P : Inputs → Type 0) (done : List Inputs) (next : Inputs) → AllOf P done → P next → AllOf P (done ++ next ∷ [])
+pub all_on : (P : Inputs → Type 0) (done : List Inputs) (next : Inputs) → AllOf P done → P next → AllOf P (done ++ next ∷ [])
 all_on P [] next h here = (here, tt)
 all_on P (inputs ∷ done) next h here = (h.0, all_on P done next h.1 here)
 
