@@ -1,5 +1,4 @@
 mod Accepted
-mod Coming
 mod Made
 mod Playing
 mod Ruled

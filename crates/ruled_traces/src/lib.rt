@@ -7,9 +7,9 @@ mod laws;
 mod naming;
 mod place;
 mod player;
+mod ruled;
 mod rules;
 mod session;
-mod turns;
 
 pub use answer::Bad;
 pub use laws::{resumed_traces, without_rules};

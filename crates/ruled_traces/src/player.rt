@@ -7,8 +7,8 @@ ghost use Rattle.trace_player.specs.Trace.{Good};
 ghost use Rattle.ruled_traces.specs.Trace.{Leaves, Plays};
 
 use crate::place::RunPlace;
+use crate::ruled::begin;
 use crate::rules::Rules;
-use crate::turns::begin;
 use sc_values::{Sink, Source};
 use std::alloc::Global;
 use trace_player::{PlayFault, Streams};

@@ -4,8 +4,9 @@ ghost use Rattle.std.specs.Prelude.{◌≡◌, ◌≤◌, IfOk, IfErr, length};
 ghost use Rattle.sc_graph.specs.Tick.{Rests, AreAccepted};
 ghost use Rattle.trace_lines.specs.Lines.{line_limit};
 ghost use Rattle.trace_player.specs.Trace.{Reacts, Shows, next_number};
-ghost use Rattle.ruled_traces.specs.Trace.{Makes};
-ghost use Rattle.ruled_traces.specs.Inside.Faults.{Says, Tells};
+ghost use Rattle.played_lines.specs.Played.{Tells};
+ghost use Rattle.ruled_traces.specs.Trace.{EndsAt, Makes};
+ghost use Rattle.ruled_traces.specs.Inside.Faults.{Says};
 
 use crate::answer::{Bad, fault_of, write_answer};
 use crate::naming::all_named;
@@ -92,7 +93,7 @@ pub(crate) fn react<'x>(
     ensures rests { IfOk result (λ r. Rests room.entry.program r.0.control) }
     ensures makes { IfOk result (λ r. Makes rules room.entry place line.now r.0 shown.new.items) }
     ensures room { IfOk result (λ r. r.1 ≡ room.entry) }
-    ensures fault { IfErr result (Tells rules room.entry.program (next_number place.lines) line.now) }
+    ensures fault { IfErr result (Tells (EndsAt rules room.entry.program (next_number place.lines) line.now)) }
 {
     let RunPlace {
         lines,

@@ -1,4 +1,3 @@
-mod Coming
 mod Lines
 pub mod Listed
 mod Plain

@@ -6,7 +6,7 @@ mod line;
 mod player;
 mod session;
 mod states;
-mod turns;
+mod telling;
 mod words;
 
 pub use laws::without_words;

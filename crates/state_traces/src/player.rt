@@ -5,7 +5,7 @@ ghost use Rattle.sc_values.specs.Streams.{IsNotReadBehind};
 ghost use Rattle.trace_player.specs.Trace.{Good, greatest};
 ghost use Rattle.state_traces.specs.Trace.{Leaves, Plays};
 
-use crate::turns::begin;
+use crate::telling::begin;
 use crate::words::Words;
 use sc_values::{Sink, Source};
 use std::alloc::Global;

@@ -4,8 +4,8 @@ ghost use Rattle.std.specs.Prelude.{◌≡◌, ◌≤◌, IfOk, IfErr, length};
 ghost use Rattle.std.specs.Result.{IsErrOf};
 ghost use Rattle.sc_graph.specs.Tick.{Rests, AreAccepted};
 ghost use Rattle.trace_lines.specs.Lines.{line_limit};
-ghost use Rattle.trace_player.specs.Trace.{Reacts};
-ghost use Rattle.trace_player.specs.Faults.{Tells};
+ghost use Rattle.trace_player.specs.Trace.{EndsAt, Reacts};
+ghost use Rattle.played_lines.specs.Played.{Tells};
 ghost use Rattle.state_traces.specs.Trace.{Shows};
 
 use crate::line::write_line;
@@ -54,7 +54,7 @@ pub(crate) fn react<'x, W: Words>(
     ensures shows { IfOk result (λ r.
         Shows (W.words words.now) room.entry number control line.now r.0 shown.new.items) }
     ensures room { IfOk result (λ r. r.1 ≡ room.entry) }
-    ensures fault { IfErr result (Tells room.entry.program number line.now) }
+    ensures fault { IfErr result (Tells (EndsAt room.entry.program number line.now)) }
 {
     let inputs = match interface.read_line_in(alloc, line_room, line) {
         Ok(inputs) => inputs,

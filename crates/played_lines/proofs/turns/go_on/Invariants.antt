@@ -1,19 +1,16 @@
 use Rattle.std.proofs.Common.{◌≡◌, ◌-◌}
-use Rattle.sc_graph.specs.Tick.{Rests}
 use Rattle.sc_values.specs.Streams.{StaysOpen}
 use Rattle.trace_lines.specs.Lines.{ahead}
-use Rattle.state_traces.proofs.Playing.{Played}
-use Rattle.state_traces.proofs.turns.go_on.Given as goal
+use Rattle.played_lines.proofs.Played.{Played}
+use Rattle.played_lines.proofs.turns.go_on.Given as goal
 
 abbrev pub invariant-loop-turn : goal.invariant-loop-turn
 invariant-loop-turn g l = record {
   played :
-      Played (g.W.Words.words l.words) l.fn.room (g.P.Channels.seen l.fn.channels).source.to_come
-      (ahead l.lines (g.P.Channels.seen l.channels).source.to_come) l.number l.control
+      Played g.L.LinePlayer.makes g.L.LinePlayer.ends l.fn.player (g.P.Channels.seen l.fn.channels).source.to_come
+      (ahead l.lines (g.P.Channels.seen l.channels).source.to_come) l.player
       (g.P.Channels.seen l.fn.channels).sink.taken (g.P.Channels.seen l.channels).sink.taken;
-  interface : l.interface ≡ l.room.program.variables;
-  rests : Rests l.room.program l.control;
-  room : l.room ≡ l.fn.room;
+  ready : g.L.LinePlayer.is_ready l.player;
   none_read : (g.P.Channels.seen l.channels).source.failures ≡ (g.P.Channels.seen l.fn.channels).source.failures;
   none_write : (g.P.Channels.seen l.channels).sink.failures ≡ (g.P.Channels.seen l.fn.channels).sink.failures;
   going : StaysOpen (g.P.Channels.seen l.fn.channels).source.progress (g.P.Channels.seen l.channels).source.progress;
