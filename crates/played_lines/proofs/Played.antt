@@ -52,7 +52,8 @@ module _ {A : Type 0} (makes : Making A) (ends : Ending A) (from : A) (start old
       }
 
   -- the trace of the lines so far
-  so_far : (now : Option (List ℕ)) (at : A) (new : Option (List ℕ)) (a : Played makes ends from start now at old new) → Goes makes ends from a.done a.out Good at
+  so_far : (now : Option (List ℕ)) (at : A) (new : Option (List ℕ)) (a : Played makes ends from start now at old new)
+      → Goes makes ends from a.done a.out Good at
   so_far now at new a =
       subst (λ xs. Goes makes ends from xs a.out Good at) (append-nil a.done)
       (subst (λ ys. Goes makes ends from (a.done ++ []) ys Good at) (append-nil a.out) (a.goes [] [] Good at (refl, refl)))

@@ -27,7 +27,7 @@ pub fn play_from<L: LinePlayer, P: Channels>(
     go_on(player, &mut lines, &mut line, &mut shown, channels)
 }
 
-// Plays the lines of an input, none of which was read. They are put into `line`, and what is shown of them into `shown`.
+// Plays the lines of an input, none of which was read. Each is put into `line`, and what is shown of it into `shown`.
 fn go_on<L: LinePlayer, P: Channels>(
     player: L,
     lines: &mut Lines,

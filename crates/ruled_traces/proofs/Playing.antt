@@ -1,5 +1,6 @@
 -- What played lines are, as a trace under rules.
 use Rattle.std.proofs.Common.{◌≡◌, ℕ, Option, Result, Ok, Err, List, [], ◌∷◌, ◌++◌, refl, ap, ◌∙◌, subst}
+use Rattle.sc_graph.specs.Tick.{Rests}
 use Rattle.bytecode.specs.Image.{Image}
 use Rattle.trace_player.specs.declared.player.PlayFault.{PlayFault}
 use Rattle.trace_player.specs.declared.player.PlayFault.TheVariants as play_fault
@@ -110,6 +111,40 @@ module _ {A : Type 0} (stands : A → Standing) (rules : Rules) (image : Image) 
           fault = leaves before.source.to_come before.sink.taken after.sink.taken f came.fault;
           failures = failed before after f came.failures;
         }
+
+-- the image stays
+image_kept : {A : Type 0} (stands : A → Standing) (rules : Rules) (image : Image) (p q : A) (lines out : List (List ℕ)) (end : End)
+    → played.Goes (makes stands rules image) (ends stands rules image) p lines out end q → (stands q).image ≡ (stands p).image
+image_kept stands rules image p q [] [] end goes = ap (λ at. (stands at).image) goes.1
+image_kept stands rules image p q [] (shown ∷ out) end goes = absurd goes
+image_kept stands rules image p q (line ∷ lines) [] end goes = ap (λ at. (stands at).image) goes.1
+image_kept stands rules image p q (line ∷ lines) (shown ∷ out) end goes =
+    let leads : Leads (stands p) line (stands goes.0) shown = goes.1 in
+    image_kept stands rules image goes.0 q lines out end goes.2 ∙ leads.image
+
+pub rests_there : {A : Type 0} (first : A) (stands : A → Standing) (rules : Rules) (image : Image) → (stands first).image ≡ image
+    → (before after : Seen) (last : A) → played_came.CameTo (makes stands rules image) (ends stands rules image) first before after (Ok last)
+    → Rests (stands last).image.program (stands last).place.control → Rests image.program (stands last).place.control
+rests_there first stands rules image here before after last came rests =
+    let whole = came.whole in
+    let plays = whole.1 in
+    subst (λ (i : Image). Rests i.program (stands last).place.control)
+    (image_kept stands rules image first last plays.lines whole.0 Good plays.trace ∙ here) rests
+
+-- what was told of the last player is told of its place
+pub came_to : {A : Type 0} (first : A) (stands : A → Standing) (rules : Rules) (image : Image) (from : RunPlace) → (stands first).rules ≡ rules
+    → (stands first).image ≡ image → (stands first).place ≡ from → (before after : Seen) (last : A)
+    → played_came.CameTo (makes stands rules image) (ends stands rules image) first before after (Ok last)
+    → CameTo rules image from before after (Ok (stands last).place)
+came_to first stands rules image from same here there before after last came =
+    subst (λ at. CameTo rules image at before after (Ok (stands last).place)) there (came_well stands rules image first same here before after last came)
+
+pub came_from : {A : Type 0} (first : A) (stands : A → Standing) (rules : Rules) (image : Image) (from : RunPlace) → (stands first).rules ≡ rules
+    → (stands first).image ≡ image → (stands first).place ≡ from → (before after : Seen) (f : PlayFault)
+    → played_came.CameTo (makes stands rules image) (ends stands rules image) first before after (Err f)
+    → CameTo rules image from before after (Err f)
+came_from first stands rules image from same here there before after f came =
+    subst (λ at. CameTo rules image at before after (Err f)) there (came_off stands rules image first same here before after f came)
 
 -- memory was refused before the first line
 pub came_never : (rules : Rules) (image : Image) (from : RunPlace) (at : Seen) (f : PlayFault) (result : Result RunPlace PlayFault) → result ≡ Err f

@@ -9,7 +9,7 @@ use crate::rules::Rules;
 use crate::session::react;
 use played_lines::{LinePlayer, play_from};
 use sc_graph::Program;
-use std::alloc::Global;
+use std::alloc::{AllocError, Global};
 use tick_core::TickSpace;
 use trace_lines::{Interface, LineRoom};
 use trace_player::{Channels, PlayFault, next_number};
@@ -85,6 +85,33 @@ impl<'a, 'x> LinePlayer for Ruled<'a, 'x> {
 }
 
 impl<'a, 'x> Ruled<'a, 'x> {
+    // At this place. Err: memory was refused.
+    fn at(
+        alloc: Global,
+        verified: &'x Verified,
+        rules: Rules,
+        program: &'a Program,
+        interface: &'a Interface<'a>,
+        place: RunPlace,
+    ) -> Result<Ruled<'a, 'x>, AllocError>
+        ensures rules { IfOk result (λ p. p.rules ≡ rules) }
+        ensures program { IfOk result (λ p. p.program.now ≡ program.now) }
+        ensures interface { IfOk result (λ p. p.interface.now ≡ interface.now) }
+        ensures image { IfOk result (λ p. p.room ≡ verified.now) }
+        ensures place { IfOk result (λ p. p.place ≡ place) }
+    {
+        let room = TickSpace::of(alloc, verified)?;
+        Ok(Ruled {
+            alloc,
+            rules,
+            program,
+            interface,
+            line_room: LineRoom::new(alloc),
+            room,
+            place,
+        })
+    }
+
     // The place behind the last line.
     fn place(self) -> RunPlace
         ensures { result ≡ self.entry.place }
@@ -109,16 +136,7 @@ pub(crate) fn begin<P: Channels>(
 {
     let program = verified.image().program();
     let interface = Interface::of(alloc, program.variables())?;
-    let room = TickSpace::of(alloc, verified)?;
-    let first = Ruled {
-        alloc,
-        rules,
-        program,
-        interface: &interface,
-        line_room: LineRoom::new(alloc),
-        room,
-        place: from,
-    };
+    let first = Ruled::at(alloc, verified, rules, program, &interface, from)?;
     match play_from(alloc, first, channels) {
         Ok(last) => Ok(last.place()),
         Err(fault) => Err(fault),

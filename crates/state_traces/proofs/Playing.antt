@@ -140,6 +140,16 @@ module _ {A : Type 0} (stands : A → Standing) where
           failures = failed before after f came.failures;
         }
 
+pub came_well : {A : Type 0} (first : A) (stands : A → Standing) (words : Words) (image : Image) → IsFirst words image (stands first)
+    → (before after : Seen) (last : A) → played_came.CameTo (makes stands) (ends stands) first before after (Ok last)
+    → CameTo words image before after (Ok (stands last).ticks)
+came_well first stands words image begun before after last came = came_to stands words image first begun before after last came
+
+pub came_from : {A : Type 0} (first : A) (stands : A → Standing) (words : Words) (image : Image) → IsFirst words image (stands first)
+    → (before after : Seen) (f : PlayFault) → played_came.CameTo (makes stands) (ends stands) first before after (Err f)
+    → CameTo words image before after (Err f)
+came_from first stands words image begun before after f came = came_off stands words image first begun before after f came
+
 -- memory was refused before the first line
 pub came_never : (words : Words) (image : Image) (at : Seen) (f : PlayFault) (result : Result ℕ PlayFault) → result ≡ Err f → f ≡ play_fault.Memory
     → CameTo words image at at result

@@ -1,8 +1,6 @@
-use Rattle.std.proofs.Common.{ap, sym, refl, rules, Err, Ok}
+use Rattle.std.proofs.Common.{ap}
 use Rattle.std.proofs.lemmas.Result.{err_from_is_err_and}
-use Rattle.sc_graph.specs.declared.control.Control.{Control}
-use Rattle.state_traces.specs.Inside.Standing.{Standing}
-use Rattle.state_traces.proofs.Playing.{IsFirst, came_to, came_off, came_never}
+use Rattle.state_traces.proofs.Playing.{came_well, came_from, came_never}
 use Rattle.state_traces.proofs.telling.begin.Goals as goal
 
 pub returns-in_err-interface-clause-came : goal.returns-in_err-interface-clause-came
@@ -18,7 +16,22 @@ returns-in_err-first-clause-came g c =
     p.0 c.from_residual-in_err-first.result p.1 p.2
 
 pub returns-in-Ok-clause-came : goal.returns-in-Ok-clause-came
-returns-in-Ok-clause-came g c = ?
+returns-in-Ok-clause-came g c =
+    let w = g.W.Words.words c.args.words.now in
+    let i = c.args.verified.now in
+    let first = c.in_ok-first.first in
+    let facts = c.in_ok-first.ensures in
+    rw c.ticks.ensures
+    (came_well first (λ p. record { words = g.W.Words.words p.words.now; image = p.room; ticks = p.ticks; control = p.control }) w i
+    (record { words_are = ap g.W.Words.words facts.words; image_is = facts.image; ticks = facts.ticks; control = facts.control })
+    (g.P.Channels.seen c.args.channels.now) (g.P.Channels.seen c.play_from.new.channels) c.in-Ok.last c.in-Ok.ensures.came)
 
 pub returns-in-Err-clause-came : goal.returns-in-Err-clause-came
-returns-in-Err-clause-came g c = ?
+returns-in-Err-clause-came g c =
+    let w = g.W.Words.words c.args.words.now in
+    let i = c.args.verified.now in
+    let first = c.in_ok-first.first in
+    let facts = c.in_ok-first.ensures in
+    came_from first (λ p. record { words = g.W.Words.words p.words.now; image = p.room; ticks = p.ticks; control = p.control }) w i
+    (record { words_are = ap g.W.Words.words facts.words; image_is = facts.image; ticks = facts.ticks; control = facts.control })
+    (g.P.Channels.seen c.args.channels.now) (g.P.Channels.seen c.play_from.new.channels) c.in-Err.fault c.in-Err.ensures.came
