@@ -1,5 +1,5 @@
 -- What a result tells of the failures of a source and a sink, whatever else it gives.
-use Rattle.std.proofs.Common.{◌≡◌, Ok, Err, ap}
+use Rattle.std.proofs.Common.{Ok, Err}
 use Rattle.trace_player.specs.declared.player.PlayFault.{PlayFault}
 use Rattle.trace_player.specs.Channels.{Seen, TellsFailures}
 

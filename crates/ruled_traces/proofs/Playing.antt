@@ -10,7 +10,7 @@ use Rattle.played_lines.specs.Played as played
 use Rattle.played_lines.specs.Came as played_came
 use Rattle.played_lines.proofs.Coming.{none_came}
 use Rattle.played_lines.proofs.Failures.{none_failed, failed}
-use Rattle.ruled_traces.specs.Trace.{Goes, Makes, Plays, PlaysFirst, PlaysPart, PlaysUpTo, Leaves}
+use Rattle.ruled_traces.specs.Trace.{Goes, Makes, Plays, PlaysFirst, PlaysUpTo, Leaves}
 use Rattle.ruled_traces.specs.Inside.Playing.{CameTo}
 use Rattle.ruled_traces.specs.Inside.Standing.{Standing, Leads, Ends}
 use Rattle.ruled_traces.specs.declared.place.RunPlace.{RunPlace}

@@ -10,7 +10,7 @@ use Rattle.played_lines.specs.Played as played
 use Rattle.played_lines.specs.Came as played_came
 use Rattle.played_lines.proofs.Coming.{none_came}
 use Rattle.played_lines.proofs.Failures.{none_failed, failed}
-use Rattle.state_traces.specs.Trace.{Words, Goes, Trace, Plays, PlaysFirst, PlaysPart, Leaves}
+use Rattle.state_traces.specs.Trace.{Words, Goes, Trace, Plays, PlaysFirst, Leaves}
 use Rattle.state_traces.specs.Inside.Playing.{PlaysWhole, CameTo}
 use Rattle.state_traces.specs.Inside.Standing.{Standing, Tells, Ends}
 

@@ -1,11 +1,10 @@
 use Rattle.std.proofs.Common.{◌≡◌, ◌∙◌, ◌+◌, Err, ap, sym, subst, refl, rules, Some}
 use Rattle.std.specs.Io.KnownBytes.{IsAtEnd}
 use Rattle.std.proofs.lemmas.Result.{err_from_is_err_and}
-use Rattle.trace_lines.specs.Lines.{ahead, TakesLine, IsTooLong, line_limit}
+use Rattle.trace_lines.specs.Lines.{ahead, TakesLine, IsTooLong}
 use Rattle.trace_lines.specs.declared.lines.LinesFault.TheVariants as lines_fault
 use Rattle.trace_lines.specs.declared.lines.LineEnd.TheVariants as line_end
 use Rattle.trace_player.specs.Channels.{SourceSeen, SinkSeen, TakesAll, TakesPart}
-use Rattle.trace_player.specs.Trace.{NoObject}
 use Rattle.trace_player.proofs.Coming.{feed_of}
 use Rattle.trace_player.proofs.Failures.{open_not_behind, told_well, reads_same, writes_same, same_end}
 use Rattle.trace_player.proofs.Playing.{one_fault}
