@@ -20,8 +20,8 @@ returns-in-Ok-clause-came g c =
     facts.rules facts.image facts.place
     (g.P.Channels.seen c.args.channels.now) (g.P.Channels.seen c.play_from.new.channels) c.in-Ok.last c.in-Ok.ensures.came)
 
-pub returns-in-Err-clause-came : goal.returns-in-Err-clause-came
-returns-in-Err-clause-came g c =
+pub returns-clause-came : goal.returns-clause-came
+returns-clause-came g c =
     let facts = c.in_ok-first.ensures in
     came_from c.in_ok-first.first (λ p. record { rules = p.rules; image = p.room; place = p.place }) c.args.rules c.args.verified.now c.args.from
     facts.rules facts.image facts.place

@@ -26,8 +26,8 @@ returns-in-Ok-clause-came g c =
     (record { words_are = ap g.W.Words.words facts.words; image_is = facts.image; ticks = facts.ticks; control = facts.control })
     (g.P.Channels.seen c.args.channels.now) (g.P.Channels.seen c.play_from.new.channels) c.in-Ok.last c.in-Ok.ensures.came)
 
-pub returns-in-Err-clause-came : goal.returns-in-Err-clause-came
-returns-in-Err-clause-came g c =
+pub returns-clause-came : goal.returns-clause-came
+returns-clause-came g c =
     let w = g.W.Words.words c.args.words.now in
     let i = c.args.verified.now in
     let first = c.in_ok-first.first in
