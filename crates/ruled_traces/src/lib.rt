@@ -7,7 +7,7 @@ mod laws;
 mod naming;
 mod place;
 mod player;
-mod ruled;
+mod ruled_player;
 mod rules;
 mod session;
 

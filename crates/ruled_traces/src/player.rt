@@ -7,7 +7,7 @@ ghost use Rattle.trace_player.specs.Trace.{Good};
 ghost use Rattle.ruled_traces.specs.Trace.{Leaves, Plays};
 
 use crate::place::RunPlace;
-use crate::ruled::begin;
+use crate::ruled_player::begin;
 use crate::rules::Rules;
 use sc_values::{Sink, Source};
 use std::alloc::Global;

@@ -1,6 +1,6 @@
 use Rattle.std.proofs.lemmas.Result.{err_from_is_err_and}
 use Rattle.ruled_traces.proofs.Playing.{came_to, came_from, came_never, rests_there}
-use Rattle.ruled_traces.proofs.ruled.begin.Goals as goal
+use Rattle.ruled_traces.proofs.ruled_player.begin.Goals as goal
 
 pub returns-in_err-interface-clause-came : goal.returns-in_err-interface-clause-came
 returns-in_err-interface-clause-came g c =
