@@ -12,7 +12,7 @@ use std::sync::ledger::{Blank, Ledger};
 use std::test::Fail;
 
 // What std's readers and writers answer in these tests.
-#[derive(Clone, Copy, PartialEq, Eq)]
+#[derive(Clone, Copy)]
 enum Turn {
     // at most two bytes
     Two,
@@ -130,48 +130,59 @@ fn two_writes<L: Ledger>(taken: &mut Vec<u8>, second: Turn, blank: Blank) -> (bo
     (first, write_all(&mut sink, b"f").is_ok())
 }
 
-fn writes_of(taken: &mut Vec<u8>, second: Turn) -> (bool, bool) {
-    two_writes::<Brand>(taken, second, Blank::new(1))
+// Whether a sink over a writer takes `abcde` and then `f` so, and this is written.
+fn writes_so(alloc: Global, second: Turn, took: (bool, bool), written: &[u8]) -> bool {
+    let mut taken = Vec::new(alloc);
+    two_writes::<Brand>(&mut taken, second, Blank::new(1)) == took && taken.as_slice() == written
 }
 
 #[test]
 fn a_sink_takes_a_beginning_where_a_write_fails(rt: HostRuntime) {
-    let mut all = Vec::new(rt.alloc());
-    assert!(rt; writes_of(&mut all, Turn::Two) == (true, true));
-    assert_eq!(rt; all.as_slice(), b"abcdef".as_slice());
-    let mut begun = Vec::new(rt.alloc());
-    assert!(rt; writes_of(&mut begun, Turn::Fault) == (false, true));
-    assert_eq!(rt; begun.as_slice(), b"abf".as_slice());
-    let mut stopped = Vec::new(rt.alloc());
-    assert!(rt; writes_of(&mut stopped, Turn::Nothing) == (false, true));
-    assert_eq!(rt; stopped.as_slice(), b"abf".as_slice());
+    for (second, took, written) in [
+        (Turn::Two, (true, true), b"abcdef".as_slice()),
+        (Turn::Fault, (false, true), b"abf".as_slice()),
+        (Turn::Nothing, (false, true), b"abf".as_slice()),
+    ] {
+        assert!(rt; writes_so(rt.alloc(), second, took, written));
+    }
 }
 
-// What a sink over memory takes of `abcde` and then of `f`, and whether it took both whole.
-fn kept_of<L: Ledger>(alloc: Global, plan: Plan, blank: Blank) -> (Vec<u8>, bool, bool)
+// Whether a sink over memory takes `abcde` and then `f` so, and keeps this.
+fn keeps_so<L: Ledger>(
+    alloc: Global,
+    plan: Plan,
+    took: (bool, bool),
+    kept: &[u8],
+    blank: Blank,
+) -> bool
     requires { (blank.name ≡ L.name) × (blank.parts ≡ L.parts) × (0 < L.parts) }
 {
     let mut sink: ToVec<L> = ToVec::new(alloc, 2, plan, Failures::none(blank));
     let first = write_all(&mut sink, b"abcde").is_ok();
     let second = write_all(&mut sink, b"f").is_ok();
-    (sink.bytes, first, second)
+    (first, second) == took && sink.bytes.as_slice() == kept
 }
 
-fn kept(alloc: Global, plan: Plan) -> (Vec<u8>, bool, bool) {
-    kept_of::<Brand>(alloc, plan, Blank::new(1))
+fn keeps(alloc: Global, plan: Plan, took: (bool, bool), kept: &[u8]) -> bool {
+    keeps_so::<Brand>(alloc, plan, took, kept, Blank::new(1))
 }
 
 #[test]
 fn memory_fails_as_planned(rt: HostRuntime) {
-    let (bytes, first, second) = kept(rt.alloc(), Plan::Never);
-    assert!(rt; first && second);
-    assert_eq!(rt; bytes.as_slice(), b"abcdef".as_slice());
-    let (bytes, first, second) = kept(rt.alloc(), Plan::After(2));
-    assert!(rt; !first && second);
-    assert_eq!(rt; bytes.as_slice(), b"abcdf".as_slice());
-    let (bytes, first, second) = kept(rt.alloc(), Plan::After(3));
-    assert!(rt; first && !second);
-    assert_eq!(rt; bytes.as_slice(), b"abcde".as_slice());
+    for (plan, took, kept) in [
+        (Plan::Never, (true, true), b"abcdef".as_slice()),
+        (Plan::After(2), (false, true), b"abcdf".as_slice()),
+        (Plan::After(3), (true, false), b"abcde".as_slice()),
+    ] {
+        assert!(rt; keeps(rt.alloc(), plan, took, kept));
+    }
+}
+
+// What a read of a slice into so many bytes answers, the byte that it puts first, and how far the slice was read.
+fn read_of(source: &mut FromSlice<'_>, room: usize) -> (Result<usize, Failed>, u8, Progress) {
+    let mut buf = [b'-'; 8];
+    let read = source.read(&mut buf[..room.min(8)]);
+    (read, buf[0], source.progress)
 }
 
 #[test]
@@ -182,15 +193,14 @@ fn a_slice_fails_as_planned(rt: HostRuntime) {
         plan: Plan::After(1),
         progress: Progress::Open,
     };
-    let mut buf = [0; 8];
-    assert_eq!(rt; source.read(&mut buf), Ok(2));
-    assert_eq!(rt; source.read(&mut buf), Err(Failed));
-    assert_eq!(rt; source.read(&mut buf), Ok(1));
-    assert_eq!(rt; buf[0], b'c');
-    assert_eq!(rt; source.read(&mut buf[..0]), Ok(0));
-    assert_eq!(rt; source.progress, Progress::Open);
-    assert_eq!(rt; source.read(&mut buf), Ok(0));
-    assert_eq!(rt; source.progress, Progress::Ended);
-    assert_eq!(rt; source.read(&mut buf), Ok(0));
-    assert_eq!(rt; source.progress, Progress::Behind);
+    for (room, answer) in [
+        (8, (Ok(2), b'a', Progress::Open)),
+        (8, (Err(Failed), b'-', Progress::Open)),
+        (8, (Ok(1), b'c', Progress::Open)),
+        (0, (Ok(0), b'-', Progress::Open)),
+        (8, (Ok(0), b'-', Progress::Ended)),
+        (8, (Ok(0), b'-', Progress::Behind)),
+    ] {
+        assert!(rt; read_of(&mut source, room) == answer);
+    }
 }
