@@ -1,18 +1,17 @@
 //! How many observers there are.
-use crate::shows::{expect, shows};
-use crate::trials::{Trial, tries};
+use crate::shows::shows;
+use crate::trials::{Trial, is_shown};
 use probe::{NoSeat, Observer, Publisher, TickEnd};
 use std::alloc::Global;
 use std::sync::Wait;
-use std::test::Fail;
 
 // Takes all seats.
-fn all_seats(alloc: Global, publisher: &mut Publisher) -> Result<Vec<Observer>, Fail> {
+fn all_seats(alloc: Global, publisher: &mut Publisher) -> Option<Vec<Observer>> {
     let mut observers = Vec::new(alloc);
     for _ in 0..8 {
-        observers.push(publisher.observer()?)?;
+        observers.push(publisher.observer().ok()?).ok()?;
     }
-    Ok(observers)
+    Some(observers)
 }
 
 // Whether each of the observers shows the first tick.
@@ -29,23 +28,32 @@ pub(crate) fn eight_look<R: Wait>(
     rt: &R,
     alloc: Global,
     publisher: &mut Publisher,
-    end: TickEnd,
-) -> Result<bool, Fail> {
-    publisher.publish(rt, end)?;
-    let mut observers = all_seats(alloc, publisher)?;
+    end: &TickEnd,
+) -> bool {
+    let published = publisher.publish(rt, end.again()).is_ok();
+    let Some(mut observers) = all_seats(alloc, publisher) else {
+        return false;
+    };
     let refused = publisher.observer().is_err();
     let shown = all_show(observers.as_mut_slice());
     drop(observers.pop());
-    Ok(refused && shown && publisher.observer().is_ok())
+    published && refused && shown && publisher.observer().is_ok()
 }
 
 #[test]
-fn eight_have_seats(rt: HostRuntime) -> Result<(), Fail> {
-    tries(&rt, rt.alloc(), Trial::Seats)
+fn eight_have_seats(rt: HostRuntime) {
+    assert!(rt; is_shown(&rt, rt.alloc(), Trial::Seats));
+}
+
+// Whether the refusal of a seat prints so.
+fn is_told(alloc: Global, wanted: &str) -> bool {
+    match format!(in alloc; "{}", NoSeat) {
+        Ok(text) => text.as_str() == wanted,
+        Err(_) => false,
+    }
 }
 
 #[test]
-fn the_ninth_is_told_so(rt: HostRuntime) -> Result<(), Fail> {
-    let text = format!(in rt.alloc(); "{}", NoSeat)?;
-    expect(text.as_str() == "E54")
+fn the_ninth_is_told_so(rt: HostRuntime) {
+    assert!(rt; is_told(rt.alloc(), "E54"));
 }

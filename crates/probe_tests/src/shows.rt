@@ -2,30 +2,28 @@
 ghost use Rattle.probe.specs.Progress.{Extends};
 
 use probe::{Observer, Output, TickEnd};
-use sc_graph::{Control, Status};
+use sc_graph::Control;
 use sc_values::Value;
 use sqlite_items::Items;
 use std::alloc::Global;
-use std::test::Fail;
 use verifier::Verified;
 
 // The configuration with these numbers in the variables, and no thread.
-fn control_of(alloc: Global, numbers: &[i32]) -> Result<Control, Fail> {
+fn control_of(alloc: Global, numbers: &[i32]) -> Option<Control> {
     let mut variables = Items::new(alloc);
     for number in numbers {
-        variables.push(Value::Int(*number))?;
+        variables.push(Value::Int(*number)).ok()?;
     }
-    let statuses: Items<Status> = Items::new(alloc);
-    Ok(Control {
+    Some(Control {
         variables,
-        statuses,
+        statuses: Items::new(alloc),
     })
 }
 
-/// The end of a tick that leaves these numbers in the variables.
-pub(crate) fn end_with(alloc: Global, image: &Verified, numbers: &[i32]) -> Result<TickEnd, Fail> {
+/// The end of a tick that leaves these numbers in the variables. None: memory was refused.
+pub(crate) fn end_with(alloc: Global, image: &Verified, numbers: &[i32]) -> Option<TickEnd> {
     let control = control_of(alloc, numbers)?;
-    Ok(TickEnd::of(image, &control))
+    Some(TickEnd::of(image, &control))
 }
 
 // Whether an output is an integer with a name of one letter, this.
@@ -48,13 +46,4 @@ pub(crate) fn shows(observer: &mut Observer, ticks: u64, number: i32) -> bool
 {
     let seen = observer.look();
     seen.ticks == ticks && are(seen.outputs.outputs(), &[(b'x', number), (b'y', number)])
-}
-
-/// Fails where that is false.
-pub(crate) fn expect(holds: bool) -> Result<(), Fail> {
-    if holds {
-        Ok(())
-    } else {
-        Err(Fail::new("something else is shown"))
-    }
 }

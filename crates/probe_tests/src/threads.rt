@@ -1,9 +1,8 @@
 //! An observer in a thread of its own, while ticks are published.
 use crate::shows::shows;
-use crate::trials::{Trial, tries};
+use crate::trials::{Trial, is_shown};
 use probe::{Observer, Publisher, TickEnd};
 use std::sync::Wait;
-use std::test::Fail;
 use std::thread::{Threads, join};
 
 const TICKS: u64 = 10_000;
@@ -36,17 +35,19 @@ pub(crate) fn watched<R: Threads + Wait + Sync>(
     rt: &R,
     publisher: &mut Publisher,
     end: &TickEnd,
-) -> Result<bool, Fail> {
-    let mut observer = publisher.observer()?;
+) -> bool {
+    let Ok(mut observer) = publisher.observer() else {
+        return false;
+    };
     let (rises, all) = join(
         rt,
         || watch(&mut observer),
         || publish_all(rt, publisher, end),
     );
-    Ok(rises && all && shows(&mut observer, TICKS, 1))
+    rises && all && shows(&mut observer, TICKS, 1)
 }
 
 #[test]
-fn an_observer_in_a_thread_never_goes_back(rt: HostRuntime) -> Result<(), Fail> {
-    tries(&rt, rt.alloc(), Trial::Thread)
+fn an_observer_in_a_thread_never_goes_back(rt: HostRuntime) {
+    assert!(rt; is_shown(&rt, rt.alloc(), Trial::Thread));
 }

@@ -1,19 +1,17 @@
 //! What is written of an input, and what observers see of its ticks.
 ghost use Rattle.std.specs.Prelude.{◌≡◌, ◌<◌, ◌≤◌};
 
-use bytecode::decode;
-use probe::{NoSeat, Observer, Output, Publisher};
-use samples::ABRO;
+use probe::{Observer, Output, Publisher};
+use samples::{ABRO, valid};
 use sc_graph::ThreadId;
 use sc_values::{Failures, FromSlice, Plan, Progress, ToVec, Value};
 use std::alloc::Global;
 use std::marker::Brand;
 use std::sync::Wait;
 use std::sync::ledger::{Blank, Ledger};
-use std::test::Fail;
 use std::thread::Threads;
 use trace_player::{PlayFault, play_to};
-use verifier::{Verified, verify};
+use verifier::Verified;
 use worker_pool::Gate;
 
 // A gate for which every round of two claims is shared.
@@ -95,17 +93,21 @@ fn watched<R: Threads + Wait + Sync, L: Ledger>(
     wanted: Wanted<'_>,
     workers: u8,
     written: Blank,
-) -> Result<bool, NoSeat>
+) -> bool
     requires workers { (1 ≤ workers) × (workers ≤ 8) }
     requires written { (written.name ≡ L.name) × (written.parts ≡ L.parts) × (0 < L.parts) }
 {
-    let mut observer = publisher.observer()?;
-    let mut told = publisher.observer()?;
+    let Ok(mut observer) = publisher.observer() else {
+        return false;
+    };
+    let Ok(mut told) = publisher.observer() else {
+        return false;
+    };
     let opening = shows(&mut observer, 0, false);
     let played = plays::<R, L>(rt, alloc, image, publisher, wanted, workers, written);
     told.learn(publisher.tell());
     let (ticks, value) = (wanted.ticks, wanted.value);
-    Ok(opening && played && shows(&mut observer, ticks, value) && shows(&mut told, ticks, value))
+    opening && played && shows(&mut observer, ticks, value) && shows(&mut told, ticks, value)
 }
 
 // The same, with a publisher of its own, that is closed behind it.
@@ -116,43 +118,42 @@ fn tried<R: Threads + Wait + Sync, L: Ledger>(
     wanted: Wanted<'_>,
     workers: u8,
     written: Blank,
-) -> Result<bool, Fail>
+) -> bool
     requires workers { (1 ≤ workers) × (workers ≤ 8) }
     requires written { (written.name ≡ L.name) × (written.parts ≡ L.parts) × (0 < L.parts) }
 {
-    let mut publisher = Publisher::open(rt, alloc, image)?;
+    let Ok(mut publisher) = Publisher::open(rt, alloc, image) else {
+        return false;
+    };
     let seen = watched::<R, L>(rt, alloc, image, &mut publisher, wanted, workers, written);
     publisher.close(rt);
-    Ok(seen?)
+    seen
 }
 
-// Fails where it is not as wanted with each number of workers.
+// Whether it is as wanted with each number of workers.
 fn tries_over<R: Threads + Wait + Sync>(
     rt: &R,
     alloc: Global,
     image: &Verified,
     wanted: Wanted<'_>,
-) -> Result<(), Fail> {
+) -> bool {
+    let mut so = true;
     for workers in 1..=8 {
-        if !tried::<R, Brand>(rt, alloc, image, wanted, workers, Blank::new(1))? {
-            return Err(Fail::new("something else is written or seen"));
-        }
+        so = so && tried::<R, Brand>(rt, alloc, image, wanted, workers, Blank::new(1));
     }
-    Ok(())
+    so
 }
 
-/// Fails where it is not as wanted of ABRO, with each number of workers.
-pub(crate) fn tries<R: Threads + Wait + Sync>(
-    rt: &R,
-    alloc: Global,
-    wanted: Wanted<'_>,
-) -> Result<(), Fail> {
-    let image = verify(alloc, decode(alloc, &ABRO)?)?;
-    tries_over(rt, alloc, &image, wanted)
+/// Whether it is as wanted of ABRO, with each number of workers.
+pub(crate) fn tries<R: Threads + Wait + Sync>(rt: &R, alloc: Global, wanted: Wanted<'_>) -> bool {
+    match valid(alloc, &ABRO) {
+        Some(image) => tries_over(rt, alloc, image.get(), wanted),
+        None => false,
+    }
 }
 
 #[test]
-fn an_observer_sees_the_end_of_a_whole_trace(rt: HostRuntime) -> Result<(), Fail> {
+fn an_observer_sees_the_end_of_a_whole_trace(rt: HostRuntime) {
     let wanted = Wanted {
         input: "{}\n{\"A\":true}\n{\"B\":true}\n{\"R\":true}\n{\"A\":true}\n{\"A\":true,\"B\":true,\"R\":true}\n{\"A\":true,\"B\":true}\n",
         reads: Plan::Never,
@@ -169,16 +170,16 @@ fn an_observer_sees_the_end_of_a_whole_trace(rt: HostRuntime) -> Result<(), Fail
         ticks: 7,
         value: true,
     };
-    tries(&rt, rt.alloc(), wanted)
+    assert!(rt; tries(&rt, rt.alloc(), wanted));
 }
 
-// The first tick of ABRO, and no second one, for this second line.
+// Whether there is the first tick of ABRO, and no second one, for this second line.
 fn stops_at<R: Threads + Wait + Sync>(
     rt: &R,
     alloc: Global,
     input: &str,
     fault: PlayFault,
-) -> Result<(), Fail> {
+) -> bool {
     let wanted = Wanted {
         input,
         reads: Plan::Never,
@@ -192,11 +193,11 @@ fn stops_at<R: Threads + Wait + Sync>(
 }
 
 #[test]
-fn refused_inputs_make_no_tick(rt: HostRuntime) -> Result<(), Fail> {
-    stops_at(&rt, rt.alloc(), "{}\n{\"A\":1}\n{}\n", PlayFault::Input(2))
+fn refused_inputs_make_no_tick(rt: HostRuntime) {
+    assert!(rt; stops_at(&rt, rt.alloc(), "{}\n{\"A\":1}\n{}\n", PlayFault::Input(2)));
 }
 
 #[test]
-fn a_line_that_is_no_object_makes_no_tick(rt: HostRuntime) -> Result<(), Fail> {
-    stops_at(&rt, rt.alloc(), "{}\n[]\n{}\n", PlayFault::NotJson(2))
+fn a_line_that_is_no_object_makes_no_tick(rt: HostRuntime) {
+    assert!(rt; stops_at(&rt, rt.alloc(), "{}\n[]\n{}\n", PlayFault::NotJson(2)));
 }

@@ -1,16 +1,10 @@
 //! Ticks whose steps pass a gate that watches them.
-use crate::ticks::tick;
-use bytecode::Image;
-use samples::{branches, wrapping_sum, write_and_read};
+use crate::ticks::first_report;
+use samples::{MANY_BRANCHES, WRAPPING_SUM, WRITE_AND_READ};
 use sc_graph::ThreadId;
-use std::alloc::Global;
-use std::sync::Wait;
 use std::sync::atomic::{AtomicU64, Ordering};
-use std::test::Fail;
 use std::thread;
-use std::thread::Threads;
-use tick_core::{Control, Entry, Report};
-use verifier::{Verified, verify};
+use tick_core::{Entry, Report};
 use worker_pool::Gate;
 
 const TURNS: u64 = 10_000_000;
@@ -20,10 +14,8 @@ const TURNS: u64 = 10_000_000;
 struct Meeting {
     one: AtomicU64,
     two: AtomicU64,
-    // steps of these that bore worker 0
-    unborne: AtomicU64,
-    // how often nobody came
-    alone: AtomicU64,
+    // steps that bore worker 0, and first steps to which nobody came
+    missed: AtomicU64,
 }
 
 impl Meeting {
@@ -31,8 +23,7 @@ impl Meeting {
         Meeting {
             one: AtomicU64::new(0),
             two: AtomicU64::new(0),
-            unborne: AtomicU64::new(0),
-            alone: AtomicU64::new(0),
+            missed: AtomicU64::new(0),
         }
     }
 
@@ -46,22 +37,21 @@ impl Meeting {
             }
             thread::yield_now();
         }
-        self.alone.fetch_add(1, Ordering::SeqCst);
+        self.missed.fetch_add(1, Ordering::SeqCst);
     }
 
     // Whether both came, and met.
     fn met(&self) -> bool {
         self.one.load(Ordering::SeqCst) > 0
             && self.two.load(Ordering::SeqCst) > 0
-            && self.unborne.load(Ordering::SeqCst) == 0
-            && self.alone.load(Ordering::SeqCst) == 0
+            && self.missed.load(Ordering::SeqCst) == 0
     }
 }
 
 impl Gate for Meeting {
     fn passing(&self, worker: u8, thread: ThreadId) {
         if worker == 0 {
-            self.unborne.fetch_add(1, Ordering::SeqCst);
+            self.missed.fetch_add(1, Ordering::SeqCst);
         }
         match thread {
             1 => self.meets(&self.one, &self.two),
@@ -89,7 +79,10 @@ impl Counting {
     }
 
     /// Whether the report counts the same.
-    pub(crate) fn agrees(&self, report: &Report) -> bool {
+    pub(crate) fn agrees(&self, report: Option<Report>) -> bool {
+        let Some(report) = report else {
+            return false;
+        };
         let by = report.by;
         let first = u64::from(by[1]);
         let second = u64::from(by[2]);
@@ -111,30 +104,6 @@ impl Gate for Counting {
     }
 }
 
-// The report of the first tick of an image by so many workers.
-fn first_report<R: Threads + Wait + Sync, G: Gate + Sync>(
-    rt: &R,
-    alloc: Global,
-    image: Image,
-    workers: u8,
-    gate: &G,
-) -> Result<Report, Fail> {
-    let image = verify(alloc, image)?;
-    report_of(rt, alloc, &image, workers, gate)
-}
-
-fn report_of<R: Threads + Wait + Sync, G: Gate + Sync>(
-    rt: &R,
-    alloc: Global,
-    image: &Verified,
-    workers: u8,
-    gate: &G,
-) -> Result<Report, Fail> {
-    let control = Control::initial(alloc, image.image().program())?;
-    let (_end, report) = tick(rt, alloc, image, &control, "", workers, gate)?;
-    Ok(report)
-}
-
 // The worker of the first step of a thread.
 fn worker_of(history: &[Entry], thread: ThreadId) -> u8 {
     for entry in history {
@@ -145,36 +114,53 @@ fn worker_of(history: &[Entry], thread: ThreadId) -> u8 {
     0
 }
 
+// Whether the steps of a tick met at the gate, none of them worker 0's.
+fn are_at_once(gate: &Meeting, report: Option<Report>) -> bool {
+    match report {
+        Some(report) => gate.met() && report.by[0] == 0,
+        None => false,
+    }
+}
+
 #[test]
-fn two_pieces_at_once(rt: HostRuntime) -> Result<(), Fail> {
+fn two_pieces_at_once(rt: HostRuntime) {
     let gate = Meeting::new();
-    let report = first_report(&rt, rt.alloc(), wrapping_sum(rt.alloc())?, 2, &gate)?;
-    assert!(rt; gate.met() && report.by[0] == 0);
-    Ok(())
+    assert!(rt;
+        are_at_once(
+            &gate,
+            first_report(&rt, rt.alloc(), &WRAPPING_SUM, 2, &gate)
+        )
+    );
+}
+
+// Whether the steps of a tick met at the gate, and one worker had claimed the first ones of threads 1 and 2.
+fn are_handed_over(gate: &Meeting, report: Option<Report>) -> bool {
+    let Some(report) = report else {
+        return false;
+    };
+    let worker = worker_of(report.history.as_slice(), 1);
+    gate.met() && worker > 0 && worker_of(report.history.as_slice(), 2) == worker
 }
 
 #[test]
-fn handed_over(rt: HostRuntime) -> Result<(), Fail> {
+fn handed_over(rt: HostRuntime) {
     let gate = Meeting::new();
-    let report = first_report(&rt, rt.alloc(), wrapping_sum(rt.alloc())?, 2, &gate)?;
-    let history = report.history.as_slice();
-    let worker = worker_of(history, 1);
-    assert!(rt; gate.met() && worker > 0 && worker_of(history, 2) == worker);
-    Ok(())
+    assert!(rt;
+        are_handed_over(
+            &gate,
+            first_report(&rt, rt.alloc(), &WRAPPING_SUM, 2, &gate)
+        )
+    );
 }
 
 #[test]
-fn counted_passings(rt: HostRuntime) -> Result<(), Fail> {
+fn counted_passings(rt: HostRuntime) {
     let gate = Counting::new();
-    let report = first_report(&rt, rt.alloc(), write_and_read(rt.alloc())?, 2, &gate)?;
-    assert!(rt; gate.agrees(&report));
-    Ok(())
+    assert!(rt; gate.agrees(first_report(&rt, rt.alloc(), &WRITE_AND_READ, 2, &gate)));
 }
 
 #[test]
-fn many_passings_are_counted(rt: HostRuntime) -> Result<(), Fail> {
+fn many_passings_are_counted(rt: HostRuntime) {
     let gate = Counting::new();
-    let report = first_report(&rt, rt.alloc(), branches(rt.alloc(), 64)?, 2, &gate)?;
-    assert!(rt; gate.agrees(&report));
-    Ok(())
+    assert!(rt; gate.agrees(first_report(&rt, rt.alloc(), &MANY_BRANCHES, 2, &gate)));
 }

@@ -1,18 +1,16 @@
 //! Ticks whose branches pause and go on, and aborts in aborts: their rounds are shared in every tick.
 use crate::gates::Counting;
-use crate::ticks::{expect_ticks, tick};
-use bytecode::decode;
-use samples::ABRO;
+use crate::ticks::{tick, ticks_so};
+use samples::{ABRO, valid};
 use sc_graph::ThreadId;
 use sc_values::Value;
 use std::alloc::Global;
 use std::sync::Wait;
 use std::sync::atomic::{AtomicU64, Ordering};
-use std::test::Fail;
 use std::thread;
 use std::thread::Threads;
 use tick_core::Control;
-use verifier::{Verified, verify};
+use verifier::Verified;
 use worker_pool::Gate;
 
 const TURNS: u64 = 10_000_000;
@@ -121,63 +119,88 @@ impl Gate for Accompanied {
     }
 }
 
-// Whether two of so many workers evaluate at once in each of six ticks, which end as they have to.
-fn others_work<R: Threads + Wait + Sync>(
+// Whether two of so many workers evaluate at once in a tick, and worker 0 takes no step.
+fn is_shared<R: Threads + Wait + Sync>(
+    rt: &R,
+    alloc: Global,
+    image: &Verified,
+    control: &mut Control,
+    workers: u8,
+) -> bool {
+    let gate = Accompanied::new();
+    match tick(rt, alloc, image, control, "", workers, &gate) {
+        Some(report) => gate.met() && report.by[0] == 0,
+        None => false,
+    }
+}
+
+// Whether each of six ticks is shared by so many workers, and they end as they have to.
+fn are_shared<R: Threads + Wait + Sync>(
     rt: &R,
     alloc: Global,
     image: &Verified,
     workers: u8,
-) -> Result<bool, Fail> {
-    let mut control = Control::initial(alloc, image.image().program())?;
+) -> bool {
+    let Ok(mut control) = Control::initial(alloc, image.image().program()) else {
+        return false;
+    };
+    let mut shared = true;
     for _ in 0..6 {
-        let gate = Accompanied::new();
-        let (end, report) = tick(rt, alloc, image, &control, "", workers, &gate)?;
-        if !gate.met() || report.by[0] != 0 {
-            return Ok(false);
-        }
-        control = end;
+        shared = shared && is_shared(rt, alloc, image, &mut control, workers);
     }
-    Ok(control.variables.as_slice() == [Value::Int(126); 4].as_slice())
+    shared && control.variables.as_slice() == [Value::Int(126); 4].as_slice()
 }
 
-// Whether each of these ticks counts as many passings, by worker, as the gate has met.
+// The same with two workers, and with eight.
+fn pausing_is_shared<R: Threads + Wait + Sync>(rt: &R, alloc: Global) -> bool {
+    match valid(alloc, &PAUSING) {
+        Some(image) => {
+            are_shared(rt, alloc, image.get(), 2) && are_shared(rt, alloc, image.get(), 8)
+        }
+        None => false,
+    }
+}
+
+// Whether a tick counts as many passings, by worker, as the gate has met.
 fn passings_agree<R: Threads + Wait + Sync>(
     rt: &R,
     alloc: Global,
     image: &Verified,
-    ticks: &[&str],
-) -> Result<bool, Fail> {
-    let mut control = Control::initial(alloc, image.image().program())?;
+    control: &mut Control,
+    letters: &str,
+) -> bool {
+    let gate = Counting::new();
+    gate.agrees(tick(rt, alloc, image, control, letters, 2, &gate))
+}
+
+// Whether each of these ticks of ABRO does.
+fn all_agree<R: Threads + Wait + Sync>(rt: &R, alloc: Global, ticks: &[&str]) -> bool {
+    let Some(image) = valid(alloc, &ABRO) else {
+        return false;
+    };
+    let Ok(mut control) = Control::initial(alloc, image.get().image().program()) else {
+        return false;
+    };
+    let mut agree = true;
     for letters in ticks {
-        let gate = Counting::new();
-        let (end, report) = tick(rt, alloc, image, &control, letters, 2, &gate)?;
-        if !gate.agrees(&report) {
-            return Ok(false);
-        }
-        control = end;
+        agree = agree && passings_agree(rt, alloc, image.get(), &mut control, letters);
     }
-    Ok(true)
+    agree
 }
 
 #[test]
-fn branches_that_pause_are_shared(rt: HostRuntime) -> Result<(), Fail> {
-    let image = verify(rt.alloc(), decode(rt.alloc(), &PAUSING)?)?;
-    for workers in [2, 8] {
-        assert!(rt; others_work(&rt, rt.alloc(), &image, workers)?);
-    }
-    Ok(())
+fn branches_that_pause_are_shared(rt: HostRuntime) {
+    assert!(rt; pausing_is_shared(&rt, rt.alloc()));
 }
 
 #[test]
-fn passings_of_abro_are_counted(rt: HostRuntime) -> Result<(), Fail> {
-    let image = verify(rt.alloc(), decode(rt.alloc(), &ABRO)?)?;
+fn passings_of_abro_are_counted(rt: HostRuntime) {
     let ticks = ["", "A", "B", "R", "A", "ABR", "AB"];
-    assert!(rt; passings_agree(&rt, rt.alloc(), &image, &ticks)?);
-    Ok(())
+    assert!(rt; all_agree(&rt, rt.alloc(), &ticks));
 }
 
 #[test]
-fn aborts_in_aborts(rt: HostRuntime) -> Result<(), Fail> {
+fn aborts_in_aborts(rt: HostRuntime) {
     let ticks = [
         ("", 13, (3, Value::Int(0))),
         ("", 21, (3, Value::Int(1))),
@@ -187,5 +210,5 @@ fn aborts_in_aborts(rt: HostRuntime) -> Result<(), Fail> {
         ("KR", 25, (3, Value::Int(204))),
         ("", 2, (3, Value::Int(204))),
     ];
-    expect_ticks(&rt, rt.alloc(), decode(rt.alloc(), &NESTED)?, &ticks)
+    assert!(rt; ticks_so(&rt, rt.alloc(), &NESTED, &ticks));
 }

@@ -1,17 +1,18 @@
 //! Whole ticks, by 1 to 8 workers.
 ghost use Rattle.std.specs.Prelude.{◌≤◌};
 
-use bytecode::{Image, decode};
-use samples::{ABRO, branches, nested_forks, two_pauses, wrapping_sum, write_and_read};
+use samples::{
+    ABRO, EIGHT_BRANCHES, MANY_BRANCHES, NESTED_FORKS, TWO_PAUSES, WRAPPING_SUM, WRITE_AND_READ,
+    valid,
+};
 use sc_graph::ThreadId;
 use sc_values::{Name, Value};
 use sqlite_items::Items;
 use std::alloc::Global;
 use std::sync::Wait;
-use std::test::Fail;
 use std::thread::Threads;
-use tick_core::{Control, Inputs, Report};
-use verifier::{Verified, verify};
+use tick_core::{Control, Entry, Inputs, Report};
+use verifier::Verified;
 use worker_pool::{Gate, NoGate, run_tick};
 
 // A gate for which every round of two claims is shared, since a step may wait for another.
@@ -39,134 +40,156 @@ impl Gate for Works {
 /// The inputs of a tick, each a letter that is true; its steps; and the value of one variable after it.
 pub(crate) type Wanted<'a> = (&'a str, usize, (usize, Value));
 
-fn inputs_of(alloc: Global, letters: &str) -> Result<Inputs, Fail> {
+fn inputs_of(alloc: Global, letters: &str) -> Option<Inputs> {
     let mut inputs = Items::new(alloc);
-    for at in 0..letters.len() {
-        let letter = letters.get(at..at + 1).ok_or("a letter")?;
-        inputs.push((Name::of(letter).ok_or("a name")?, Value::Bool(true)))?;
+    for letter in letters.as_bytes() {
+        let name = Name::from_bytes(&[*letter])?;
+        inputs.push((name, Value::Bool(true))).ok()?;
     }
-    Ok(inputs)
+    Some(inputs)
 }
 
-/// A tick by so many workers.
+/// A tick by so many workers, which leads to its end. None: the configuration does not rest, or the tick did not begin.
 pub(crate) fn tick<R: Threads + Wait + Sync, G: Gate + Sync>(
     rt: &R,
     alloc: Global,
     image: &Verified,
-    control: &Control,
+    control: &mut Control,
     letters: &str,
     workers: u8,
     gate: &G,
-) -> Result<(Control, Report), Fail> {
-    let inputs = inputs_of(alloc, letters)?;
+) -> Option<Report> {
     if workers < 1 || workers > 8 || !control.fits(image.image().program()) {
-        return Err("a configuration that rests, and 1 to 8 workers")?;
+        return None;
     }
-    Ok(run_tick(rt, alloc, image, control, &inputs, workers, gate)?)
+    let inputs = inputs_of(alloc, letters)?;
+    let (end, report) = run_tick(rt, alloc, image, control, &inputs, workers, gate).ok()?;
+    *control = end;
+    Some(report)
 }
 
-// Whether a tick took so many steps, none of them by worker 0 or one beyond the last, and this variable has this value.
-fn is_so(end: &Control, report: &Report, workers: u8, wanted: &Wanted<'_>) -> bool {
-    let (_letters, steps, (place, value)) = *wanted;
-    let all = report
-        .history
-        .as_slice()
-        .iter()
-        .all(|entry| 1 <= entry.worker && entry.worker <= workers);
-    all && report.history.len() == steps && end.variables.as_slice().get(place) == Some(&value)
+// Whether none of these steps is by worker 0 or one beyond the last.
+fn are_theirs(steps: &[Entry], workers: u8) -> bool {
+    for entry in steps {
+        if entry.worker < 1 || entry.worker > workers {
+            return false;
+        }
+    }
+    true
 }
 
-// Where a tick ends, if it is as wanted.
+// Whether a tick leads to what is wanted.
 fn tick_so<R: Threads + Wait + Sync, G: Gate + Sync>(
     rt: &R,
     alloc: Global,
     image: &Verified,
-    control: &Control,
+    control: &mut Control,
     workers: u8,
     wanted: &Wanted<'_>,
     gate: &G,
-) -> Result<Option<Control>, Fail> {
-    let (end, report) = tick(rt, alloc, image, control, wanted.0, workers, gate)?;
-    Ok(if is_so(&end, &report, workers, wanted) {
-        Some(end)
-    } else {
-        None
-    })
+) -> bool {
+    let (letters, steps, (place, value)) = *wanted;
+    match tick(rt, alloc, image, control, letters, workers, gate) {
+        Some(report) => {
+            are_theirs(report.history.as_slice(), workers)
+                && report.history.len() == steps
+                && control.variables.as_slice().get(place) == Some(&value)
+        }
+        None => false,
+    }
 }
 
-fn end_so<R: Threads + Wait + Sync, G: Gate + Sync>(
+fn all_so<R: Threads + Wait + Sync, G: Gate + Sync>(
     rt: &R,
     alloc: Global,
     image: &Verified,
     workers: u8,
     ticks: &[Wanted<'_>],
     gate: &G,
-) -> Result<bool, Fail> {
-    let mut control = Control::initial(alloc, image.image().program())?;
+) -> bool {
+    let Ok(mut control) = Control::initial(alloc, image.image().program()) else {
+        return false;
+    };
+    let mut so = true;
     for wanted in ticks {
-        match tick_so(rt, alloc, image, &control, workers, wanted, gate)? {
-            Some(end) => control = end,
-            None => return Ok(false),
-        }
+        so = so && tick_so(rt, alloc, image, &mut control, workers, wanted, gate);
     }
-    Ok(true)
+    so
 }
 
-/// Fails where these ticks are not as wanted with each number of workers.
-pub(crate) fn expect_ticks<R: Threads + Wait + Sync>(
+/// Whether the ticks of an image are as wanted with each number of workers.
+pub(crate) fn ticks_so<R: Threads + Wait + Sync>(
     rt: &R,
     alloc: Global,
-    image: Image,
+    bytes: &[u8],
     ticks: &[Wanted<'_>],
-) -> Result<(), Fail> {
-    let image = verify(alloc, image)?;
+) -> bool {
+    let Some(image) = valid(alloc, bytes) else {
+        return false;
+    };
+    let mut so = true;
     for workers in 1..=8 {
-        let waiting = end_so(rt, alloc, &image, workers, ticks, &Shares)?;
-        if !waiting || !end_so(rt, alloc, &image, workers, ticks, &Works)? {
-            return Err(Fail::new("other steps, workers or values"));
-        }
+        so = so
+            && all_so(rt, alloc, image.get(), workers, ticks, &Shares)
+            && all_so(rt, alloc, image.get(), workers, ticks, &Works);
     }
-    Ok(())
+    so
 }
 
 #[test]
-fn what_is_written_is_read(rt: HostRuntime) -> Result<(), Fail> {
+fn what_is_written_is_read(rt: HostRuntime) {
     let y = (1, Value::Int(1));
-    let image = write_and_read(rt.alloc())?;
-    expect_ticks(&rt, rt.alloc(), image, &[("", 7, y), ("", 0, y)])
+    assert!(rt; ticks_so(&rt, rt.alloc(), &WRITE_AND_READ, &[("", 7, y), ("", 0, y)]));
 }
 
 #[test]
-fn sums_wrap(rt: HostRuntime) -> Result<(), Fail> {
+fn sums_wrap(rt: HostRuntime) {
     let least = (0, Value::Int(-2147483648));
-    let image = wrapping_sum(rt.alloc())?;
-    expect_ticks(&rt, rt.alloc(), image, &[("", 7, least), ("", 0, least)])
+    assert!(rt;
+        ticks_so(
+            &rt,
+            rt.alloc(),
+            &WRAPPING_SUM,
+            &[("", 7, least), ("", 0, least)]
+        )
+    );
 }
 
 #[test]
-fn two_threads_pause(rt: HostRuntime) -> Result<(), Fail> {
+fn two_threads_pause(rt: HostRuntime) {
     let none = (0, Value::Int(0));
-    let image = two_pauses(rt.alloc())?;
     let ticks = [("", 3, none), ("", 8, none), ("", 8, none)];
-    expect_ticks(&rt, rt.alloc(), image, &ticks)
+    assert!(rt; ticks_so(&rt, rt.alloc(), &TWO_PAUSES, &ticks));
 }
 
 #[test]
-fn three_levels(rt: HostRuntime) -> Result<(), Fail> {
+fn three_levels(rt: HostRuntime) {
     let three = (1, Value::Int(3));
-    let image = nested_forks(rt.alloc())?;
-    expect_ticks(&rt, rt.alloc(), image, &[("", 12, three), ("", 0, three)])
+    assert!(rt;
+        ticks_so(
+            &rt,
+            rt.alloc(),
+            &NESTED_FORKS,
+            &[("", 12, three), ("", 0, three)]
+        )
+    );
 }
 
 #[test]
-fn many_branches(rt: HostRuntime) -> Result<(), Fail> {
+fn many_branches(rt: HostRuntime) {
     let all = (0, Value::Int(64));
-    let image = branches(rt.alloc(), 64)?;
-    expect_ticks(&rt, rt.alloc(), image, &[("", 131, all), ("", 0, all)])
+    assert!(rt;
+        ticks_so(
+            &rt,
+            rt.alloc(),
+            &MANY_BRANCHES,
+            &[("", 131, all), ("", 0, all)]
+        )
+    );
 }
 
 #[test]
-fn abro(rt: HostRuntime) -> Result<(), Fail> {
+fn abro(rt: HostRuntime) {
     let (set, unset) = ((3, Value::Bool(true)), (3, Value::Bool(false)));
     let ticks = [
         ("", 7, unset),
@@ -177,23 +200,31 @@ fn abro(rt: HostRuntime) -> Result<(), Fail> {
         ("ABR", 19, unset),
         ("AB", 15, set),
     ];
-    expect_ticks(&rt, rt.alloc(), decode(rt.alloc(), &ABRO)?, &ticks)
+    assert!(rt; ticks_so(&rt, rt.alloc(), &ABRO, &ticks));
+}
+
+/// The report of the first tick of an image by so many workers.
+pub(crate) fn first_report<R: Threads + Wait + Sync, G: Gate + Sync>(
+    rt: &R,
+    alloc: Global,
+    bytes: &[u8],
+    workers: u8,
+    gate: &G,
+) -> Option<Report> {
+    let image = valid(alloc, bytes)?;
+    let mut control = Control::initial(alloc, image.get().image().program()).ok()?;
+    tick(rt, alloc, image.get(), &mut control, "", workers, gate)
+}
+
+// Whether the first worker takes all 19 steps.
+fn is_by_one(report: Option<Report>) -> bool {
+    match report {
+        Some(report) => report.by[1] == 19 && report.history.len() == 19,
+        None => false,
+    }
 }
 
 #[test]
-fn little_work_is_not_shared(rt: HostRuntime) -> Result<(), Fail> {
-    let image = verify(rt.alloc(), branches(rt.alloc(), 8)?)?;
-    assert!(rt; is_by_one(&rt, rt.alloc(), &image)?);
-    Ok(())
-}
-
-// Whether without a gate the first worker takes all steps of the first tick.
-fn is_by_one<R: Threads + Wait + Sync>(
-    rt: &R,
-    alloc: Global,
-    image: &Verified,
-) -> Result<bool, Fail> {
-    let control = Control::initial(alloc, image.image().program())?;
-    let (_end, report) = tick(rt, alloc, image, &control, "", 8, &NoGate)?;
-    Ok(report.by[1] as usize == report.history.len() && report.history.len() == 19)
+fn little_work_is_not_shared(rt: HostRuntime) {
+    assert!(rt; is_by_one(first_report(&rt, rt.alloc(), &EIGHT_BRANCHES, 8, &NoGate)));
 }
