@@ -14,20 +14,32 @@ use sc_values::{
 use sqlite_items::Items;
 use std::alloc::{AllocError, Global};
 
-// The tree that operations spell.
-fn tree_by(alloc: Global, operations: &[Operation]) -> Result<Option<Expr>, Unanswered> {
-    let mut stack: Items<Expr> = Items::new(alloc);
+// The trees that operations leave on a stack.
+fn grow_all(
+    alloc: Global,
+    operations: &[Operation],
+    stack: &mut Items<Expr>,
+) -> Result<(), Unanswered> {
     for operation in operations {
-        if !grow_trees(alloc, *operation, &mut stack)? {
-            return Ok(None);
+        if !grow_trees(alloc, *operation, stack)? {
+            return Err(Unanswered);
         }
     }
-    Ok(only_tree(&mut stack))
+    Ok(())
+}
+
+// The tree that operations spell.
+fn tree_by(alloc: Global, operations: &[Operation]) -> Result<Expr, Unanswered> {
+    let mut stack: Items<Expr> = Items::new(alloc);
+    match grow_all(alloc, operations, &mut stack) {
+        Ok(()) => known(only_tree(&mut stack)),
+        Err(unanswered) => Err(unanswered),
+    }
 }
 
 fn tree_of(alloc: Global, text: &str) -> Result<Expr, Unanswered> {
     let operations = operations(alloc, text)?;
-    known(tree_by(alloc, operations.as_slice())?)
+    tree_by(alloc, operations.as_slice())
 }
 
 // The code of a tree, or the fault.
@@ -54,11 +66,21 @@ fn tell_kind(
     Ok(())
 }
 
+fn tell_spelled(
+    alloc: Global,
+    spelled: &str,
+    kinds: &[Kind],
+    answers: &mut Answers,
+) -> Result<(), Unanswered> {
+    let tree = tree_of(alloc, spelled)?;
+    tell_kind(alloc, &tree, kinds, answers)
+}
+
 // `KINDS: OPERATIONS`.
 fn tell_tree(alloc: Global, words: &str, answers: &mut Answers) -> Result<(), Unanswered> {
     let (of_variables, spelled) = halves(words, ':');
     let kinds = kinds(alloc, of_variables)?;
-    tell_kind(alloc, &tree_of(alloc, spelled)?, kinds.as_slice(), answers)
+    tell_spelled(alloc, spelled, kinds.as_slice(), answers)
 }
 
 // The value of a tree over variables of these values.
@@ -81,13 +103,21 @@ fn kinds_of(alloc: Global, variables: &[Value]) -> Result<Vec<Kind>, AllocError>
     Ok(kinds)
 }
 
+fn value_over(alloc: Global, tree: &Expr, variables: &[Value]) -> Result<Value, Unanswered> {
+    let kinds = kinds_of(alloc, variables)?;
+    known(value_of(tree, kinds.as_slice(), variables))
+}
+
+fn spelled_value(alloc: Global, spelled: &str, variables: &[Value]) -> Result<Value, Unanswered> {
+    let tree = tree_of(alloc, spelled)?;
+    value_over(alloc, &tree, variables)
+}
+
 // `VALUES: OPERATIONS`.
 fn tell_tree_value(alloc: Global, words: &str, answers: &mut Answers) -> Result<(), Unanswered> {
     let (given, spelled) = halves(words, ':');
     let values = values(alloc, given)?;
-    let kinds = kinds_of(alloc, values.as_slice())?;
-    let tree = tree_of(alloc, spelled)?;
-    answers.value(known(value_of(&tree, kinds.as_slice(), values.as_slice()))?);
+    answers.value(spelled_value(alloc, spelled, values.as_slice())?);
     Ok(())
 }
 
@@ -113,6 +143,12 @@ fn tell_tested(code: &Code, kinds: &[Kind], answers: &mut Answers) {
     }
 }
 
+// The code of operations, if they have one.
+fn code_of(alloc: Global, spelled: &str) -> Result<Option<Code>, Unanswered> {
+    let operations = operations(alloc, spelled)?;
+    Ok(Code::from_operations(operations.as_slice()))
+}
+
 // `KINDS: OPERATIONS`: a code over variables of these kinds.
 fn tell_operations_test(
     alloc: Global,
@@ -121,8 +157,7 @@ fn tell_operations_test(
 ) -> Result<(), Unanswered> {
     let (of_variables, spelled) = halves(words, ':');
     let kinds = kinds(alloc, of_variables)?;
-    let operations = operations(alloc, spelled)?;
-    match Code::from_operations(operations.as_slice()) {
+    match code_of(alloc, spelled)? {
         Some(code) => tell_tested(&code, kinds.as_slice(), answers),
         None => answers.tell("no code"),
     }
@@ -147,17 +182,25 @@ fn tell_loaded(code: &Code, kinds: &[Kind], values: &[Value], answers: &mut Answ
     }
 }
 
+fn tell_code_loads(
+    alloc: Global,
+    code: &Code,
+    values: &[Value],
+    answers: &mut Answers,
+) -> Result<(), Unanswered> {
+    let kinds = kinds_of(alloc, values)?;
+    tell_loaded(code, kinds.as_slice(), values, answers);
+    Ok(())
+}
+
 // `VALUES: OPERATIONS`.
 fn tell_loads(alloc: Global, words: &str, answers: &mut Answers) -> Result<(), Unanswered> {
     let (given, spelled) = halves(words, ':');
     let values = values(alloc, given)?;
-    let kinds = kinds_of(alloc, values.as_slice())?;
-    let operations = operations(alloc, spelled)?;
-    match Code::from_operations(operations.as_slice()) {
-        Some(code) => tell_loaded(&code, kinds.as_slice(), values.as_slice(), answers),
-        None => return Err(Unanswered),
+    match code_of(alloc, spelled)? {
+        Some(code) => tell_code_loads(alloc, &code, values.as_slice(), answers),
+        None => Err(Unanswered),
     }
-    Ok(())
 }
 
 // Values as operands.

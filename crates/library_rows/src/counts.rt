@@ -67,21 +67,49 @@ fn fork(alloc: Global, count: usize) -> Result<Items<Node>, AllocError> {
     }
 }
 
+// A program that may have too many rows.
+type Counted = Result<Program, ProgramFault>;
+
+fn of_variables(alloc: Global, count: usize) -> Result<Counted, Unanswered> {
+    let variables = variables(alloc, known(Name::of("x"))?, count)?;
+    Ok(Program::of(variables, Items::new(alloc), Items::new(alloc)))
+}
+
+fn of_threads(
+    alloc: Global,
+    parent: Option<ThreadId>,
+    count: usize,
+) -> Result<Counted, AllocError> {
+    let threads = threads(alloc, parent, count)?;
+    Ok(Program::of(Items::new(alloc), threads, Items::new(alloc)))
+}
+
+fn of_nodes(alloc: Global, count: usize) -> Result<Counted, AllocError> {
+    let nodes = nodes(alloc, count)?;
+    Ok(Program::of(Items::new(alloc), Items::new(alloc), nodes))
+}
+
+fn of_children(alloc: Global, count: usize) -> Result<Counted, AllocError> {
+    let nodes = fork(alloc, count)?;
+    Ok(Program::of(Items::new(alloc), Items::new(alloc), nodes))
+}
+
 // `WORD COUNT`: a program of so many variables, threads or nodes, of a fork of so many children, or of a thread whose
 // parent has this number.
-fn program(alloc: Global, words: &str) -> Result<Result<Program, ProgramFault>, Unanswered> {
+fn program(alloc: Global, words: &str) -> Result<Counted, Unanswered> {
     let (word, count) = halves(words, ' ');
     let count = number(count)?;
-    let (mut x, mut t, mut n) = (Items::new(alloc), Items::new(alloc), Items::new(alloc));
     match word {
-        "variables" => x = variables(alloc, known(Name::of("x"))?, count)?,
-        "threads" => t = threads(alloc, None, count)?,
-        "nodes" => n = nodes(alloc, count)?,
-        "children" => n = fork(alloc, count)?,
-        "parent" => t = threads(alloc, Some(known(u16::try_from(count).ok())?), 1)?,
-        _ => return Err(Unanswered),
+        "variables" => of_variables(alloc, count),
+        "threads" => Ok(of_threads(alloc, None, count)?),
+        "nodes" => Ok(of_nodes(alloc, count)?),
+        "children" => Ok(of_children(alloc, count)?),
+        "parent" => {
+            let parent = known(u16::try_from(count).ok())?;
+            Ok(of_threads(alloc, Some(parent), 1)?)
+        }
+        _ => Err(Unanswered),
     }
-    Ok(Program::of(x, t, n))
 }
 
 // How many variables, threads and nodes a program has, and the parent of its first thread, where there is one.

@@ -2,6 +2,7 @@
 
 use bytecode::{Image, decode};
 use row_answers::{Unanswered, known};
+use sqlite_items::Boxed;
 use std::alloc::Global;
 use verifier::{Verified, verify};
 
@@ -30,14 +31,24 @@ fn bytes_of(alloc: Global, text: &str) -> Result<Vec<u8>, Unanswered> {
     Ok(bytes)
 }
 
-/// The image that these bytes spell, whatever rule of the verifier it breaks.
-pub(crate) fn decoded(alloc: Global, text: &str) -> Result<Image, Unanswered> {
+fn image_of(alloc: Global, text: &str) -> Result<Image, Unanswered> {
     let bytes = bytes_of(alloc, text)?;
     known(decode(alloc, bytes.as_slice()).ok())
 }
 
+/// The image that these bytes spell, whatever rule of the verifier it breaks.
+pub(crate) fn decoded(alloc: Global, text: &str) -> Result<Boxed<Image>, Unanswered> {
+    Ok(Boxed::new(alloc, image_of(alloc, text)?)?)
+}
+
+fn valid(alloc: Global, image: Image) -> Result<Boxed<Verified>, Unanswered> {
+    match verify(alloc, image) {
+        Ok(image) => Ok(Boxed::new(alloc, image)?),
+        Err(_) => Err(Unanswered),
+    }
+}
+
 /// The valid image that these bytes spell.
-pub(crate) fn verified(alloc: Global, text: &str) -> Result<Verified, Unanswered> {
-    let image = decoded(alloc, text)?;
-    known(verify(alloc, image).ok())
+pub(crate) fn verified(alloc: Global, text: &str) -> Result<Boxed<Verified>, Unanswered> {
+    valid(alloc, image_of(alloc, text)?)
 }

@@ -45,15 +45,20 @@ fn order_of(words: &str) -> Result<&'static str, Unanswered> {
     Ok(word_of_order(&first, &second))
 }
 
-// Of names that are put into a set which are new, and how many it then has.
-fn tell_set(alloc: Global, words: &str, answers: &mut Answers) -> Result<(), Unanswered> {
-    let mut seen = HashSet::new(alloc);
+fn put_all(seen: &mut HashSet<Name>, words: &str, answers: &mut Answers) -> Result<(), Unanswered> {
     for word in words.split_whitespace() {
         let is_new = seen.insert(known(Name::of(word))?)?;
         answers.tell(if is_new { "new " } else { "known " });
     }
-    answers.number(seen.len());
     Ok(())
+}
+
+// Of names that are put into a set which are new, and how many it then has.
+fn tell_set(alloc: Global, words: &str, answers: &mut Answers) -> Result<(), Unanswered> {
+    let mut seen = HashSet::new(alloc);
+    let are_put = put_all(&mut seen, words, answers);
+    answers.number(seen.len());
+    are_put
 }
 
 // The texts of faults.

@@ -133,8 +133,7 @@ fn statuses(alloc: Global, words: &str) -> Result<Items<Status>, Unanswered> {
 /// A configuration, given as `VALUES; STATUSES`.
 pub(crate) fn control(alloc: Global, words: &str) -> Result<Control, Unanswered> {
     let (given, standing) = halves(words, ';');
-    let given = values(alloc, given)?;
-    let variables = Items::from_slice(alloc, given.as_slice())?;
+    let variables = Items::from_vec(values(alloc, given)?);
     let statuses = statuses(alloc, standing)?;
     Ok(Control {
         variables,

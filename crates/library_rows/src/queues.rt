@@ -154,6 +154,13 @@ fn in_queue<'x, R: Wait>(
     act_all(rt, ports.as_mut_slice(), state, acts, answers)
 }
 
+// The first tick of an image.
+fn begun<'x>(alloc: Global, image: &'x Verified) -> Result<TickState<'x>, Unanswered> {
+    let opening = Control::initial(alloc, image.image().program())?;
+    let inputs: Inputs = Items::new(alloc);
+    known(begin(alloc, image, &opening, &inputs).ok())
+}
+
 /// Acts of the passes of a queue, on claims of the first tick of an image, behind its first step.
 pub(crate) fn tell_queue<'x, R: Wait>(
     rt: &R,
@@ -163,9 +170,7 @@ pub(crate) fn tell_queue<'x, R: Wait>(
     acts: &str,
     answers: &mut Answers,
 ) -> Result<(), Unanswered> {
-    let opening = Control::initial(alloc, image.image().program())?;
-    let inputs: Inputs = Items::new(alloc);
-    let mut state = known(begin(alloc, image, &opening, &inputs).ok())?;
+    let mut state = begun(alloc, image)?;
     step(&mut state);
     in_queue(rt, alloc, narrow, &mut state, acts, answers)
 }

@@ -12,7 +12,6 @@ use crate::ticks::{tell_judgement, tick};
 use bytecode::Image;
 use row_answers::{Answers, Unanswered, halves};
 use sc_graph::Control;
-use sqlite_items::Boxed;
 use std::alloc::Global;
 use std::sync::Wait;
 use verifier::Verified;
@@ -26,23 +25,23 @@ fn in_queue<R: Wait>(
     answers: &mut Answers,
 ) -> Result<(), Unanswered> {
     let (spelled, acts) = halves(words, ':');
-    let narrow = Boxed::new(alloc, verified(alloc, spelled)?)?;
+    let narrow = verified(alloc, spelled)?;
     tell_queue(rt, alloc, image, narrow.get(), acts, answers)
 }
 
-// Answers a row about a valid image. A tick leaves another configuration.
+// Answers a row about a valid image. A tick leads to another configuration.
 fn answer_one<R: Wait>(
     rt: &R,
     alloc: Global,
     image: &Verified,
-    present: &Control,
+    present: &mut Control,
     row: &str,
     answers: &mut Answers,
-) -> Result<Option<Control>, Unanswered> {
+) -> Result<(), Unanswered> {
     let (word, rest) = halves(row, ' ');
     match word {
-        "tick" => return tick(alloc, image, present, rest, answers),
-        "stand" => return Ok(Some(control(alloc, rest)?)),
+        "tick" => tick(alloc, image, present, rest, answers)?,
+        "stand" => *present = control(alloc, rest)?,
         "judge" => tell_judgement(alloc, image, present, rest, answers)?,
         "present" => tell_control(answers, present),
         "budget" => {
@@ -52,7 +51,7 @@ fn answer_one<R: Wait>(
         "queue" => in_queue(rt, alloc, image, rest, answers)?,
         _ => tell_program(alloc, image.image().program(), row, answers)?,
     }
-    Ok(None)
+    Ok(())
 }
 
 // Answers rows about a valid image, from before its first tick on.
@@ -66,9 +65,7 @@ fn answer_of_image<R: Wait>(
     let mut present = Control::initial(alloc, image.image().program())?;
     for row in rows.lines() {
         if !row.is_empty() {
-            if let Some(end) = answer_one(rt, alloc, image, &present, row, answers)? {
-                present = end;
-            }
+            answer_one(rt, alloc, image, &mut present, row, answers)?;
             answers.tell("\n");
         }
     }
@@ -127,11 +124,11 @@ fn answer_behind<R: Wait>(
     }
     match spelled.strip_prefix("of any ") {
         Some(spelled) => {
-            let image = Boxed::new(alloc, decoded(alloc, spelled)?)?;
+            let image = decoded(alloc, spelled)?;
             answer_of_program(alloc, image.get(), rows, answers)
         }
         None => {
-            let image = Boxed::new(alloc, verified(alloc, spelled)?)?;
+            let image = verified(alloc, spelled)?;
             answer_of_image(rt, alloc, image.get(), rows, answers)
         }
     }

@@ -1,11 +1,13 @@
 //! Ticks by acts of workers, and judged runs.
 
+ghost use Rattle.sc_graph.specs.Tick.{Rests};
+
 use crate::acts::act_all;
 use crate::reading::{inputs, places};
 use crate::telling::tell_control;
 use row_answers::{Answers, Unanswered, halves};
 use std::alloc::Global;
-use tick_core::{Control, Judged, Report, TickState, begin, judge};
+use tick_core::{BeginFault, Control, Inputs, Judged, Report, TickState, begin, judge};
 use verifier::Verified;
 
 // The steps of a tick: how many by each worker from 0 on, and in their order, each as THREAD/WORKER.
@@ -29,42 +31,48 @@ fn tell_end(end: &Control, report: &Report, answers: &mut Answers) {
     tell_report(report, answers);
 }
 
-// The end of a tick after these acts, behind which it goes on alone.
-fn played(
+// A tick leads to its end: these acts, behind which it goes on alone.
+fn play(
     alloc: Global,
     state: TickState<'_>,
+    present: &mut Control,
     acts: &str,
     answers: &mut Answers,
-) -> Result<Control, Unanswered> {
+) -> Result<(), Unanswered> {
     let mut state = state;
-    act_all(alloc, &mut state, acts, answers)?;
+    let acted = act_all(alloc, &mut state, acts, answers);
     state.run_alone();
     let (end, report) = state.finish();
     tell_end(&end, &report, answers);
-    Ok(end)
+    *present = end;
+    acted
+}
+
+fn tell_fault(fault: BeginFault, answers: &mut Answers) {
+    answers.tell(" ");
+    answers.show(&fault);
 }
 
 /// A tick, given as `INPUTS: ACTS`: what each act is answered, and then the steps and the end, from which the next tick
-/// begins. None: it does not begin, and what is told says why.
+/// begins. Where it does not begin, what is told says why.
 pub(crate) fn tick(
     alloc: Global,
     image: &Verified,
-    control: &Control,
+    present: &mut Control,
     row: &str,
     answers: &mut Answers,
-) -> Result<Option<Control>, Unanswered> {
+) -> Result<(), Unanswered> {
+    if !present.fits(image.image().program()) {
+        answers.tell(" does not rest");
+        return Ok(());
+    }
     let (given, acts) = halves(row, ':');
     let inputs = inputs(alloc, given)?;
-    if !control.fits(image.image().program()) {
-        answers.tell(" does not rest");
-        return Ok(None);
-    }
-    match begin(alloc, image, control, &inputs) {
-        Ok(state) => Ok(Some(played(alloc, state, acts, answers)?)),
+    match begin(alloc, image, present, &inputs) {
+        Ok(state) => play(alloc, state, present, acts, answers),
         Err(fault) => {
-            answers.tell(" ");
-            answers.show(&fault);
-            Ok(None)
+            tell_fault(fault, answers);
+            Ok(())
         }
     }
 }
@@ -89,27 +97,37 @@ fn tell_judged(judged: &Judged, answers: &mut Answers) {
     }
 }
 
+fn tell_run(
+    alloc: Global,
+    image: &Verified,
+    present: &Control,
+    inputs: &Inputs,
+    threads: &str,
+    answers: &mut Answers,
+) -> Result<(), Unanswered>
+    requires { Rests image.now.program present.now }
+{
+    let run = places(alloc, threads)?;
+    match judge(alloc, image, present, inputs, run.as_slice()) {
+        Ok(judged) => tell_judged(&judged, answers),
+        Err(fault) => tell_fault(fault, answers),
+    }
+    Ok(())
+}
+
 /// What is judged of the steps of these threads, given as `INPUTS: THREADS`.
 pub(crate) fn tell_judgement(
     alloc: Global,
     image: &Verified,
-    control: &Control,
+    present: &Control,
     row: &str,
     answers: &mut Answers,
 ) -> Result<(), Unanswered> {
-    let (given, threads) = halves(row, ':');
-    let inputs = inputs(alloc, given)?;
-    let run = places(alloc, threads)?;
-    if !control.fits(image.image().program()) {
+    if !present.fits(image.image().program()) {
         answers.tell(" does not rest");
         return Ok(());
     }
-    match judge(alloc, image, control, &inputs, run.as_slice()) {
-        Ok(judged) => tell_judged(&judged, answers),
-        Err(fault) => {
-            answers.tell(" ");
-            answers.show(&fault);
-        }
-    }
-    Ok(())
+    let (given, threads) = halves(row, ':');
+    let inputs = inputs(alloc, given)?;
+    tell_run(alloc, image, present, &inputs, threads, answers)
 }
