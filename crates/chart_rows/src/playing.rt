@@ -123,29 +123,39 @@ impl Played {
     }
 
     // A run from here, by the order in which regions come to step.
-    fn ran(&self, alloc: Global, start: &Configuration) -> Result<Ran, AllocError> {
+    fn ran_from(&self, alloc: Global, start: &Configuration) -> Result<Ran, AllocError> {
         let order = self.ordered(alloc)?;
         self.table.run(alloc, &order, BUDGET, start)
     }
 
-    /// A tick with these inputs: the steps of regions, and what stands behind them.
-    pub(crate) fn tick(
-        &self,
-        alloc: Global,
-        c: &Configuration,
-        row: &str,
-        answers: &mut Answers,
-    ) -> Result<Configuration, Unanswered> {
+    // A run from the start of a tick with these inputs.
+    fn ran(&self, alloc: Global, c: &Configuration, row: &str) -> Result<Ran, Unanswered> {
         let start = self.started(alloc, c, row)?;
-        let ran = self.ran(alloc, &start)?;
+        Ok(self.ran_from(alloc, &start)?)
+    }
+
+    fn tell_ran(&self, alloc: Global, ran: &Ran, answers: &mut Answers) -> Result<(), AllocError> {
         answers.tell(if ran.is_over {
             "steps"
         } else {
             "stopped, steps"
         });
         answers.numbers(&ran.run);
-        self.tell(alloc, &ran.end, answers)?;
-        Ok(ran.end)
+        self.tell(alloc, &ran.end, answers)
+    }
+
+    /// A tick with these inputs: the steps of regions, and what stands behind them.
+    pub(crate) fn tick(
+        &self,
+        alloc: Global,
+        c: &mut Configuration,
+        row: &str,
+        answers: &mut Answers,
+    ) -> Result<(), Unanswered> {
+        let ran = self.ran(alloc, c, row)?;
+        let told = self.tell_ran(alloc, &ran, answers);
+        *c = ran.end;
+        Ok(told?)
     }
 
     // Whether nobody is enabled.
@@ -155,7 +165,7 @@ impl Played {
     }
 
     // Where these regions lead one after the other. None: at some step it is not that region's turn.
-    fn led(
+    fn led_from(
         &self,
         alloc: Global,
         start: &Configuration,
@@ -165,47 +175,122 @@ impl Played {
         Ok(self.table.replay(alloc, &run, start)?)
     }
 
-    /// Where these regions, given as `INPUTS: REGIONS`, lead one after the other from the start of a tick. None: at
-    /// some step it is not that region's turn.
-    pub(crate) fn replayed(
+    // Where these regions, given as `INPUTS: REGIONS`, lead one after the other from the start of a tick. None: at
+    // some step it is not that region's turn.
+    fn led(
+        &self,
+        alloc: Global,
+        c: &Configuration,
+        row: &str,
+    ) -> Result<Option<Configuration>, Unanswered> {
+        let (given, regions) = halves(row, ':');
+        let start = self.started(alloc, c, given)?;
+        self.led_from(alloc, &start, regions)
+    }
+
+    fn tell_led(
+        &self,
+        alloc: Global,
+        end: &Configuration,
+        answers: &mut Answers,
+    ) -> Result<(), AllocError> {
+        answers.tell(if self.is_over(alloc, end)? {
+            "whole run"
+        } else {
+            "run"
+        });
+        self.tell(alloc, end, answers)
+    }
+
+    /// Where these regions, given as `INPUTS: REGIONS`, lead one after the other from the start of a tick, if at each
+    /// step it is that region's turn.
+    pub(crate) fn run(
         &self,
         alloc: Global,
         c: &Configuration,
         row: &str,
         answers: &mut Answers,
-    ) -> Result<Option<Configuration>, Unanswered> {
-        let (given, regions) = halves(row, ':');
-        let start = self.started(alloc, c, given)?;
-        let Some(end) = self.led(alloc, &start, regions)? else {
-            answers.tell("no run");
-            return Ok(None);
-        };
-        answers.tell(if self.is_over(alloc, &end)? {
-            "whole run"
-        } else {
-            "run"
-        });
-        self.tell(alloc, &end, answers)?;
-        Ok(Some(end))
+    ) -> Result<(), Unanswered> {
+        match self.led(alloc, c, row)? {
+            Some(end) => Ok(self.tell_led(alloc, &end, answers)?),
+            None => {
+                answers.tell("no run");
+                Ok(())
+            }
+        }
     }
 
-    // The steps of these regions one after the other. None: at some step it is not that region's turn.
-    fn steps_of(
+    /// The same, and it goes on from there.
+    pub(crate) fn play(
         &self,
         alloc: Global,
-        start: Configuration,
-        regions: &[usize],
-    ) -> Result<Option<Vec<Judged>>, Unanswered> {
-        let mut c = start;
-        let mut steps = Vec::new(alloc);
-        for region in regions {
-            let Some(after) = self.table.step(alloc, &c, *region)? else {
-                return Ok(None);
-            };
-            steps.push(known(step_there(&c, *region))?)?;
-            c = after;
+        c: &mut Configuration,
+        row: &str,
+        answers: &mut Answers,
+    ) -> Result<(), Unanswered> {
+        match self.led(alloc, c, row)? {
+            Some(end) => {
+                *c = end;
+                Ok(self.tell_led(alloc, c, answers)?)
+            }
+            None => {
+                answers.tell("no run");
+                Ok(())
+            }
         }
-        Ok(Some(steps))
+    }
+
+    // Takes a step of a region, behind these. False: it is not that region's turn.
+    fn step(
+        &self,
+        alloc: Global,
+        c: &mut Configuration,
+        region: usize,
+        steps: &mut Vec<Judged>,
+    ) -> Result<bool, Unanswered> {
+        match self.table.step(alloc, c, region)? {
+            Some(after) => {
+                let step = step_there(c, region);
+                *c = after;
+                steps.push(known(step)?)?;
+                Ok(true)
+            }
+            None => Ok(false),
+        }
+    }
+
+    // Takes steps of these regions one after the other. False: at some step it is not that region's turn.
+    fn take_all(
+        &self,
+        alloc: Global,
+        c: &mut Configuration,
+        regions: &[usize],
+        steps: &mut Vec<Judged>,
+    ) -> Result<bool, Unanswered> {
+        for region in regions {
+            if !self.step(alloc, c, *region, steps)? {
+                return Ok(false);
+            }
+        }
+        Ok(true)
+    }
+
+    // Whether these regions take admissible steps one after the other from here.
+    fn judged_from(
+        &self,
+        alloc: Global,
+        c: &mut Configuration,
+        regions: &[usize],
+    ) -> Result<&'static str, Unanswered> {
+        let mut steps = Vec::new(alloc);
+        if !self.take_all(alloc, c, regions, &mut steps)? {
+            return Ok("no run");
+        }
+        Ok(if is_admissible(alloc, &self.table, &steps)? {
+            "admissible"
+        } else {
+            "not admissible"
+        })
     }
 
     /// Whether these regions, given as `INPUTS: REGIONS`, take admissible steps one after the other from the start of a
@@ -219,16 +304,8 @@ impl Played {
     ) -> Result<(), Unanswered> {
         let (given, regions) = halves(row, ':');
         let regions = numbers(alloc, regions)?;
-        let start = self.started(alloc, c, given)?;
-        let Some(steps) = self.steps_of(alloc, start, &regions)? else {
-            answers.tell("no run");
-            return Ok(());
-        };
-        answers.tell(if is_admissible(alloc, &self.table, &steps)? {
-            "admissible"
-        } else {
-            "not admissible"
-        });
+        let mut start = self.started(alloc, c, given)?;
+        answers.tell(self.judged_from(alloc, &mut start, &regions)?);
         Ok(())
     }
 }

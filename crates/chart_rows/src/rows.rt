@@ -8,48 +8,55 @@ use core_charts::Chart;
 use row_answers::{Answers, Unanswered, halves, known};
 use std::alloc::Global;
 
-// Answers a row about a chart as it is played. A tick leaves another configuration.
+// Answers a row about a chart as it is played. A tick leads to another configuration.
 fn answer_one(
     alloc: Global,
     played: &mut Played,
-    c: &Configuration,
+    c: &mut Configuration,
     row: &str,
     answers: &mut Answers,
-) -> Result<Option<Configuration>, Unanswered> {
+) -> Result<(), Unanswered> {
     let (word, rest) = halves(row, ' ');
     match word {
-        "tick" => return Ok(Some(played.tick(alloc, c, rest, answers)?)),
+        "tick" => played.tick(alloc, c, rest, answers)?,
         "order" => played.first(alloc, rest)?,
-        "play" => return played.replayed(alloc, c, rest, answers),
-        "run" => {
-            let _end = played.replayed(alloc, c, rest, answers)?;
-        }
+        "play" => played.play(alloc, c, rest, answers)?,
+        "run" => played.run(alloc, c, rest, answers)?,
         "judge" => played.judged(alloc, c, rest, answers)?,
         "table" => tell_table(played.table(), answers),
         "standings" => tell_standings(c, answers),
-        "again" => return Ok(Some(played.initial(alloc)?)),
+        "again" => *c = played.initial(alloc)?,
         _ => return Err(Unanswered),
     }
-    Ok(None)
+    Ok(())
+}
+
+fn answer_all(
+    alloc: Global,
+    played: &mut Played,
+    c: &mut Configuration,
+    rows: &str,
+    answers: &mut Answers,
+) -> Result<(), Unanswered> {
+    for row in rows.lines() {
+        if !row.is_empty() {
+            answer_one(alloc, played, c, row, answers)?;
+            answers.tell("\n");
+        }
+    }
+    Ok(())
 }
 
 // Answers rows about a chart as it is played, from before its first tick on.
 fn answer_played(
     alloc: Global,
-    mut played: Played,
+    played: Played,
     rows: &str,
     answers: &mut Answers,
 ) -> Result<(), Unanswered> {
+    let mut played = played;
     let mut c = played.initial(alloc)?;
-    for row in rows.lines() {
-        if !row.is_empty() {
-            if let Some(end) = answer_one(alloc, &mut played, &c, row, answers)? {
-                c = end;
-            }
-            answers.tell("\n");
-        }
-    }
-    Ok(())
+    answer_all(alloc, &mut played, &mut c, rows, answers)
 }
 
 // Answers the rows about a chart: those before a row `core` are about itself, those behind it about its core chart.
