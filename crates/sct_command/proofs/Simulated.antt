@@ -1,5 +1,5 @@
 -- From what was found in the bytes of a file to the image that is stepped.
-use Rattle.std.proofs.Common.{◌≡◌, ℕ, List, Option, None, inl, inr, subst}
+use Rattle.std.proofs.Common.{◌≡◌, ◌∙◌, ℕ, List, Option, None, inl, inr, subst}
 use Rattle.bytecode.specs.Image.{Image}
 use Rattle.command_files.specs.declared.fault.LoadFault.{LoadFault}
 use Rattle.command_files.specs.Files.{Contents, HasBytes}
@@ -19,14 +19,15 @@ pub no_image : (files : Option Contents) (name bytes seen : List ℕ) (f : LoadF
     → MakesNoImage seen f → LacksModel files name f
 no_image files name bytes seen f held same none = inl (no_compiled_in files name bytes seen f held same none)
 
-pub no_states : (files : Option Contents) (name bytes seen other : List ℕ) (image : Image) (f : LoadFault) → HasBytes files name bytes
-    → seen ≡ bytes → other ≡ bytes → MakesImage seen image → IsNoTextBeside name other image f → LacksModel files name f
-no_states files name bytes seen other image f held same same' makes none = inr (record {
+pub no_states : (files : Option Contents) (name bytes seen other : List ℕ) (image boxed looked : Image) (f : LoadFault) → HasBytes files name bytes
+    → seen ≡ bytes → other ≡ bytes → MakesImage seen image → boxed ≡ image → looked ≡ boxed → IsNoTextBeside name other looked f
+    → LacksModel files name f
+no_states files name bytes seen other image boxed looked f held same same' makes kept lent none = inr (record {
   image = image;
   bytes = bytes;
   held = held;
   makes = subst (λ b. MakesImage b image) same makes;
-  none = subst (λ b. IsNoTextBeside name b image f) same' none;
+  none = subst (λ i. IsNoTextBeside name bytes i f) (lent ∙ kept) (subst (λ b. IsNoTextBeside name b looked f) same' none);
 })
 
 -- ---- what stepping comes to
