@@ -15,7 +15,7 @@ use crate::fault::Fault;
 use crate::report::report_of;
 use crate::warnings::warnings_in;
 use bytecode::Image;
-use command_files::{Files, LoadFault, bytes_of, compile_bytes, reduced_source};
+use command_files::{Files, Unmade, bytes_of, compile_read, reduced_source};
 use command_texts::summary_of;
 use sc_values::{Sink, write_all};
 use sqlite_items::Boxed;
@@ -26,18 +26,18 @@ fn tell<W: Sink>(
     alloc: Global,
     name: &str,
     bytes: &[u8],
-    fault: &LoadFault,
+    unmade: &Unmade<'_>,
     output: &mut W,
 ) -> Result<(), Fault>
     ensures told { OnOk result
-        (Writes (IsReport name.now bytes.now fault.now) (W.taken output.old) (W.taken output.new)) }
+        (Writes (IsReport name.now bytes.now unmade.now.fault) (W.taken output.old) (W.taken output.new)) }
     ensures refused { IfErr result (RefusesTelling (W.taken output.old) (W.taken output.new)) }
     ensures missed { IfErr result (λ fault. files_failed fault ≡ 0) }
     ensures none_failed { OnOk result (W.failures output.new ≡ W.failures output.old) }
     ensures failed { IfErr result (λ fault. W.failures output.new ≡ W.failures output.old + writes_failed fault) }
     ensures unread { IfErr result (λ fault. reads_failed fault ≡ 0) }
 {
-    let text = report_of(alloc, name, bytes, fault)?;
+    let text = report_of(alloc, name, bytes, &unmade.fault, unmade.source())?;
     match write_all(output, text.as_bytes()) {
         Ok(()) => Ok(()),
         Err(_) => Err(Fault::Write),
@@ -49,16 +49,16 @@ fn refused<W: Sink>(
     alloc: Global,
     name: &str,
     bytes: &[u8],
-    fault: LoadFault,
+    unmade: Unmade<'_>,
     output: &mut W,
 ) -> Fault
-    ensures told { IsTold name.now bytes.now fault (W.taken output.old) (W.taken output.new) result }
+    ensures told { IsTold name.now bytes.now unmade.entry.fault (W.taken output.old) (W.taken output.new) result }
     ensures failed { W.failures output.new ≡ W.failures output.old + writes_failed result }
     ensures unread { reads_failed result ≡ 0 }
-    ensures missed { files_failed result ≤ files_count.files_failed fault }
+    ensures missed { files_failed result ≤ files_count.files_failed unmade.entry.fault }
 {
-    match tell(alloc, name, bytes, &fault, output) {
-        Ok(()) => Fault::Files(fault),
+    match tell(alloc, name, bytes, &unmade, output) {
+        Ok(()) => Fault::Files(unmade.fault),
         Err(other) => other,
     }
 }
@@ -115,12 +115,12 @@ fn explain_source<W: Sink>(
     ensures unread { IfErr result (λ fault. reads_failed fault ≡ 0) }
     ensures missed { IfErr result (λ fault. files_failed fault ≡ 0) }
 {
-    match compile_bytes(alloc, bytes) {
+    match compile_read(alloc, bytes) {
         Ok(image) => {
             let image = Boxed::new(alloc, image)?;
             tell_found(alloc, name, bytes, image.get().image(), output)
         }
-        Err(fault) => Err(refused(alloc, name, bytes, fault, output)),
+        Err(unmade) => Err(refused(alloc, name, bytes, unmade, output)),
     }
 }
 
@@ -146,11 +146,11 @@ pub(crate) fn explain<F: Files, W: Sink>(
 {
     let bytes = match bytes_of(alloc, files, name) {
         Ok(bytes) => bytes,
-        Err(fault) => return Err(refused(alloc, name, b"", fault, output)),
+        Err(fault) => return Err(refused(alloc, name, b"", Unmade::unread(fault), output)),
     };
     match reduced_source(alloc, &bytes) {
         Ok(Some(text)) => explain_source(alloc, name, text.as_bytes(), output),
         Ok(None) => explain_source(alloc, name, &bytes, output),
-        Err(fault) => Err(refused(alloc, name, &bytes, fault, output)),
+        Err(fault) => Err(refused(alloc, name, &bytes, Unmade::unread(fault), output)),
     }
 }

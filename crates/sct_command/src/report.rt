@@ -6,10 +6,11 @@ ghost use Rattle.diagnostics.specs.Reports.{Tells, text_fault};
 ghost use Rattle.fault_lists.specs.Reports.{TellsEach};
 ghost use Rattle.sct_command.specs.Explaining.{IsReport, TellsEachFlaw, told_fault};
 
-use command_files::{LoadFault, shown_name, text_of};
-use diagnostics::{program_fault_explained, told_nowhere};
+use command_files::{LoadFault, shown_name};
+use diagnostics::{program_fault_told, told_nowhere};
 use fault_lists::faults_explained;
 use sc_text::ReadFault;
+use source_programs::ReadSource;
 use std::alloc::{AllocError, Global};
 use std::str;
 
@@ -49,22 +50,20 @@ fn flaws_told(
     }
 }
 
-// What is said of the fault of these bytes.
+// What is said of the fault of these bytes, and where they were read as a text by that.
 fn explanation(
     alloc: Global,
     name: &str,
     bytes: &[u8],
     fault: &LoadFault,
+    source: Option<&ReadSource<'_>>,
 ) -> Result<String, AllocError>
     ensures tells { IfOk result (λ report. Tells name.now (told_fault fault.now) (string_bytes report)) }
     ensures flaws { IfOk result (λ report. TellsEachFlaw name.now bytes.now fault.now (string_bytes report)) }
 {
     match fault {
         LoadFault::Text(fault) => flaws_told(alloc, name, bytes, fault),
-        LoadFault::Program(fault) => match text_of(bytes) {
-            Ok(text) => program_fault_explained(alloc, name, text, fault),
-            Err(_) => program_fault_explained(alloc, name, "", fault),
-        },
+        LoadFault::Program(fault) => program_fault_told(alloc, name, source, fault),
         LoadFault::File(_) => told_nowhere(
             alloc,
             name,
@@ -75,15 +74,17 @@ fn explanation(
     }
 }
 
-/// What is said of the fault of these bytes, which are those of the file of this name. Err: memory was refused.
+/// What is said of the fault of these bytes, which are those of the file of this name; where they were read as a text
+/// with a program, by what was read. Err: memory was refused.
 pub(crate) fn report_of(
     alloc: Global,
     name: &str,
     bytes: &[u8],
     fault: &LoadFault,
+    source: Option<&ReadSource<'_>>,
 ) -> Result<String, AllocError>
     ensures { IfOk result (λ report. IsReport name.now bytes.now fault.now (string_bytes report)) }
 {
     let shown = shown_name(alloc, name)?;
-    explanation(alloc, shown.as_str(), bytes, fault)
+    explanation(alloc, shown.as_str(), bytes, fault, source)
 }

@@ -8,7 +8,8 @@ ghost use Rattle.sct_command.specs.Beside.{IsReported};
 ghost use Rattle.sct_command.specs.Inside.Held.{IsHeldReport};
 
 use crate::report::report_of;
-use command_files::{Files, LoadFault, bytes_of, compile_bytes, reduced_source};
+use command_files::{Files, LoadFault, bytes_of, compile_read, reduced_source};
+use source_programs::ReadSource;
 use sqlite_items::Boxed;
 use std::alloc::Global;
 use verifier::Verified;
@@ -19,6 +20,7 @@ fn say_report(
     name: &str,
     bytes: &[u8],
     fault: &LoadFault,
+    source: Option<&ReadSource<'_>>,
     wanted: bool,
     said: &mut String,
 )
@@ -26,7 +28,7 @@ fn say_report(
     ensures { IsHeldReport name.now bytes.now wanted fault.now (string_bytes said.new) }
 {
     if wanted {
-        if let Ok(report) = report_of(alloc, name, bytes, fault) {
+        if let Ok(report) = report_of(alloc, name, bytes, fault, source) {
             *said = report;
         }
     }
@@ -48,11 +50,19 @@ pub(crate) fn image_told(
     ensures quiet { OnOk result (string_bytes said.new ≡ []) }
     ensures reported { IfErr result (λ fault. IsHeldReport name.now bytes.now wanted fault (string_bytes said.new)) }
 {
-    match compile_bytes(alloc, bytes) {
+    match compile_read(alloc, bytes) {
         Ok(image) => Ok(Boxed::new(alloc, image)?),
-        Err(fault) => {
-            say_report(alloc, name, bytes, &fault, wanted, said);
-            Err(fault)
+        Err(unmade) => {
+            say_report(
+                alloc,
+                name,
+                bytes,
+                &unmade.fault,
+                unmade.source(),
+                wanted,
+                said,
+            );
+            Err(unmade.fault)
         }
     }
 }
@@ -82,7 +92,7 @@ pub(crate) fn source_told<F: Files>(
         Ok(Some(text)) => Ok(text.into_bytes()),
         Ok(None) => Ok(bytes),
         Err(fault) => {
-            say_report(alloc, name, &bytes, &fault, wanted, said);
+            say_report(alloc, name, &bytes, &fault, None, wanted, said);
             Err(fault)
         }
     }

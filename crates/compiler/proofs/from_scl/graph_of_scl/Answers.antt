@@ -1,5 +1,5 @@
 use Rattle.compiler.proofs.Texts.{is_formed}
-use Rattle.compiler.proofs.from_scl.compile_scl.Goals as goal
+use Rattle.compiler.proofs.from_scl.graph_of_scl.Goals as goal
 
 pub unreachable-requires : goal.unreachable-requires
 unreachable-requires c =
