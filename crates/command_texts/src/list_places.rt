@@ -3,20 +3,20 @@
 ghost use Rattle.std.specs.Prelude.{◌≡◌, ◌+◌, IfErr, IfOk, OnOk};
 ghost use Rattle.std.specs.Str.{IsUtf8};
 ghost use Rattle.command_files.specs.Counting as files_count;
-ghost use Rattle.command_files.specs.Sources.{BytesLackProgram};
 ghost use Rattle.command_texts.specs.Listing.{BytesLackPlaces, FilesLackPlaces, HasPlaces};
 ghost use Rattle.source_programs.specs.Graphs.{Makes};
 
 use command_files::{
-    Files, LoadFault, load_verified, makes_program, shown_name, source_of, text_of,
+    Files, LoadFault, bytes_of, load_verified, makes_program, reduced_source, shown_name, text_of,
 };
+use extended_nodes::image_text_with_author;
 use node_sources::image_text_with;
-use std::alloc::Global;
+use std::alloc::{AllocError, Global};
+use std::str;
 use verifier::Verified;
 
-// The listing of an image with the places of its nodes in the text that these bytes are, which those of the file of
-// this name are. Err: they are no text, or it does not make the image.
-fn placed(alloc: Global, image: &Verified, source: &str, bytes: &[u8]) -> Result<String, LoadFault>
+// Whether a text makes the program of an image. Err: it makes another, or none.
+fn made_by(alloc: Global, image: &Verified, source: &str, bytes: &[u8]) -> Result<(), LoadFault>
     ensures text { IfOk result (λ _. IsUtf8 bytes.now) }
     ensures makes { IfOk result (λ _. Makes bytes.now image.now.program) }
     ensures fault { IfErr result (BytesLackPlaces source.now bytes.now image.now.program) }
@@ -26,12 +26,48 @@ fn placed(alloc: Global, image: &Verified, source: &str, bytes: &[u8]) -> Result
     if !makes_program(alloc, text, image.image().program())? {
         return Err(LoadFault::Source(shown_name(alloc, source)?));
     }
-    Ok(image_text_with(alloc, image, text)?)
+    Ok(())
 }
 
-/// The listing of the image in one file, with the place of each node in the text of another. Err: there is no valid
-/// image in the first file, or no text in the second, or that does not make the image.
-#[tactic(auto, using(crate::proofs::Placed::no_source, crate::proofs::Placed::no_places))]
+// The listing of an image with the places of its nodes in the text that these bytes are, which those of the file of
+// this name are. Err: they are no text, or it does not make the image.
+fn placed(alloc: Global, image: &Verified, source: &str, bytes: &[u8]) -> Result<String, LoadFault>
+    ensures text { IfOk result (λ _. IsUtf8 bytes.now) }
+    ensures makes { IfOk result (λ _. Makes bytes.now image.now.program) }
+    ensures fault { IfErr result (BytesLackPlaces source.now bytes.now image.now.program) }
+    ensures missed { IfErr result (λ fault. files_count.files_failed fault ≡ 0) }
+{
+    made_by(alloc, image, source, bytes)?;
+    Ok(image_text_with(alloc, image, text_in(bytes))?)
+}
+
+// These bytes as text; none where they are no text.
+fn text_in(bytes: &[u8]) -> &str {
+    str::from_utf8(bytes).unwrap_or("")
+}
+
+// The same of an image of the chart of this text, to which the extended chart is reduced that stands there in its
+// place. The places are those in the text of that.
+fn placed_in_author(
+    alloc: Global,
+    image: &Verified,
+    source: &str,
+    reduced: &str,
+    written: &[u8],
+) -> Result<String, LoadFault>
+    ensures text { IfOk result (λ _. IsUtf8 reduced.now) }
+    ensures makes { IfOk result (λ _. Makes reduced.now image.now.program) }
+    ensures fault { IfErr result (BytesLackPlaces source.now reduced.now image.now.program) }
+    ensures missed { IfErr result (λ fault. files_count.files_failed fault ≡ 0) }
+{
+    made_by(alloc, image, source, reduced.as_bytes())?;
+    Ok(image_text_with_author(alloc, image, text_in(written))?)
+}
+
+/// The listing of the image in one file, with the place of each node in the text of another; of an extended chart in
+/// its own text, and not in that of the chart to which it is reduced. Err: there is no valid image in the first file,
+/// or no text in the second, or that does not make the image.
+#[tactic(auto, using(crate::proofs::Placed::no_source, crate::proofs::Placed::no_places, command_files::proofs::Sourced::as_written, command_files::proofs::Sourced::as_reduced, command_files::proofs::Sourced::no_source_in))]
 pub(crate) fn places_in<F: Files>(
     alloc: Global,
     name: &str,
@@ -46,7 +82,10 @@ pub(crate) fn places_in<F: Files>(
         ≡ F.failures files.old + files_count.files_failed fault) }
 {
     let image = load_verified(alloc, files, name)?;
-    let bytes = source_of(alloc, files, source)?;
-    let text = placed(alloc, image.get(), source, &bytes)?;
+    let written = bytes_of(alloc, files, source)?;
+    let text = match reduced_source(alloc, &written)? {
+        Some(reduced) => placed_in_author(alloc, image.get(), source, reduced.as_str(), &written)?,
+        None => placed(alloc, image.get(), source, &written)?,
+    };
     Ok(text.into_bytes())
 }

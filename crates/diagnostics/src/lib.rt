@@ -27,5 +27,5 @@ mod words;
 
 pub use line_columns::{LineColumn, line_column_of};
 pub use lines::{marked_line, name_at};
-pub use program_report::{program_fault_explained, program_fault_told};
+pub use program_report::{author_fault_explained, program_fault_explained, program_fault_told};
 pub use report::{explained, line_column_text, text_fault_explained, told_nowhere};

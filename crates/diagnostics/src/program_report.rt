@@ -6,12 +6,13 @@ ghost use Rattle.diagnostics.specs.Reports.{Tells};
 
 use crate::line_columns::line_column_of;
 use crate::lines::marked_line;
-use crate::nodes::{Shown, around_text};
+use crate::nodes::{Shown, around_text, made_text};
 use crate::program_words::in_words;
 use crate::report::{help, line_column_text};
 use crate::walks::{conflict_text, first_node, place_text, walk_text};
 use compiler::CompileFault;
 use conflict_edges::ConflictFault;
+use extended_nodes::{AuthorNode, author_label, author_sources};
 use node_sources::{Origin, label_origin, sources_in};
 use priority_weights::TablesFault;
 use sc_graph::NodeId;
@@ -53,11 +54,38 @@ pub fn program_fault_told(
     ensures { IfOk result (λ report. Tells name.now (fault_text fault.now) (string_bytes report)) }
 {
     let shown = shown_in(alloc, source, fault)?;
+    reported(alloc, name, &shown, fault)
+}
+
+/// The same of the program of the chart to which the extended chart of a text is reduced, where this source is the text
+/// of that chart. Places are those of the author's text; of what is made it is said that it is.
+pub fn author_fault_explained(
+    alloc: Global,
+    name: &str,
+    text: &str,
+    source: &str,
+    fault: &CompileFault,
+) -> Result<String, AllocError>
+    ensures { IfOk result (λ report. Tells name.now (fault_text fault.now) (string_bytes report)) }
+{
+    let shown = shown_of_author(alloc, text, source, fault)?;
+    reported(alloc, name, &shown, fault)
+}
+
+// The report of a fault, of which this is shown.
+fn reported(
+    alloc: Global,
+    name: &str,
+    shown: &Report,
+    fault: &CompileFault,
+) -> Result<String, AllocError>
+    ensures { IfOk result (λ report. Tells name.now (fault_text fault.now) (string_bytes report)) }
+{
     let told = in_words(fault);
     let cause = told.cause;
     let help = help(alloc, told.cure)?;
-    let place = shown.place;
-    let body = shown.body;
+    let place = shown.place.as_str();
+    let body = shown.body.as_str();
     format!(in alloc; "{name}{place}: {fault}: {cause}\n{body}{help}")
 }
 
@@ -116,9 +144,22 @@ fn shown_label(alloc: Global, source: &ReadSource<'_>, label: Name) -> Result<Re
     let Some(origin) = label_origin(alloc, source, label)? else {
         return Ok(nowhere(alloc));
     };
-    let text = source.text();
-    let place = place_of(alloc, text, Some(origin))?;
-    let body = label_text(alloc, text, label, origin)?;
+    let own = AuthorNode {
+        origin,
+        is_made: false,
+    };
+    label_report(alloc, source.text(), label, own)
+}
+
+// A label, at the place of what it comes from.
+fn label_report(
+    alloc: Global,
+    text: &str,
+    label: Name,
+    found: AuthorNode,
+) -> Result<Report, AllocError> {
+    let place = place_of(alloc, text, Some(found.origin))?;
+    let body = label_text(alloc, text, label, found)?;
     Ok(Report { place, body })
 }
 
@@ -127,11 +168,71 @@ fn label_text(
     alloc: Global,
     text: &str,
     label: Name,
-    origin: Origin,
+    found: AuthorNode,
 ) -> Result<String, AllocError> {
+    let origin = found.origin;
     let around = around_text(alloc, text, origin)?;
+    let made = made_text(found.is_made);
     let marked = marked_line(alloc, text, origin.at, line_column_of(text, origin.at))?;
-    format!(in alloc; "label {label}{around}\n{marked}")
+    format!(in alloc; "label {label}{around}{made}\n{marked}")
+}
+
+// What of a fault of the chart of this source is shown in the text of the extended chart that is reduced to it.
+fn shown_of_author(
+    alloc: Global,
+    text: &str,
+    source: &str,
+    fault: &CompileFault,
+) -> Result<Report, AllocError> {
+    match fault {
+        CompileFault::Graph(GraphFault::EmptyLoop(label)) => {
+            label_of_author(alloc, text, source, *label)
+        }
+        CompileFault::Expansion(_) | CompileFault::Graph(_) => Ok(nowhere(alloc)),
+        CompileFault::Conflict(_) | CompileFault::Tables(_) | CompileFault::Rule(_) => {
+            nodes_of_author(alloc, text, fault)
+        }
+    }
+}
+
+// A label of the chart of this source, at its place in the author's text.
+fn label_of_author(
+    alloc: Global,
+    text: &str,
+    source: &str,
+    label: Name,
+) -> Result<Report, AllocError> {
+    let read = match read_source(alloc, source) {
+        Ok(read) => read,
+        Err(unread) => {
+            unread.says_of_text()?;
+            return Ok(nowhere(alloc));
+        }
+    };
+    match author_label(alloc, text, read.get(), label)? {
+        Some(found) => label_report(alloc, text, label, found),
+        None => Ok(nowhere(alloc)),
+    }
+}
+
+// The nodes of a fault, at their places in the author's text.
+fn nodes_of_author(alloc: Global, text: &str, fault: &CompileFault) -> Result<Report, AllocError> {
+    let Some(sources) = author_sources(alloc, text)? else {
+        return Ok(nowhere(alloc));
+    };
+    let shown = Shown::of_author(alloc, text, sources)?;
+    node_report(alloc, &shown, fault)
+}
+
+// The nodes of a fault, where they are shown so.
+fn node_report(
+    alloc: Global,
+    shown: &Shown<'_>,
+    fault: &CompileFault,
+) -> Result<Report, AllocError> {
+    let body = nodes_of(alloc, shown, fault)?;
+    let place = first_place(alloc, shown, fault)?;
+    Ok(Report { place, body })
 }
 
 // The nodes of a fault.
@@ -144,9 +245,7 @@ fn shown_nodes(
         return Ok(nowhere(alloc));
     };
     let shown = Shown::of(alloc, source.text(), sources)?;
-    let body = nodes_of(alloc, &shown, fault)?;
-    let place = first_place(alloc, &shown, fault)?;
-    Ok(Report { place, body })
+    node_report(alloc, &shown, fault)
 }
 
 // The lines of the nodes of a fault.

@@ -54,6 +54,7 @@ fn compile_held<F: Files, W: Sink>(
     alloc: Global,
     from: &str,
     bytes: &[u8],
+    written: Option<&[u8]>,
     to: &str,
     warns: bool,
     wanted: bool,
@@ -74,7 +75,7 @@ fn compile_held<F: Files, W: Sink>(
     ensures warned { OnOk result (AreWarnings from.now bytes.now warns (string_bytes said.new)) }
     ensures reported { IfErr result (λ fault. SaysOfBytes from.now bytes.now wanted fault (string_bytes said.new)) }
 {
-    let image = image_told(alloc, from, bytes, wanted, said)?;
+    let image = image_told(alloc, from, bytes, written, wanted, said)?;
     keep_warned(
         alloc,
         from,
@@ -116,6 +117,17 @@ pub(crate) fn compile<F: Files, W: Sink>(
     ensures reported { IfErr result (λ fault.
         SaysOfFault (F.contents files.old) from.now wanted fault (string_bytes said.new)) }
 {
-    let bytes = source_told(alloc, from, wanted, files, said)?;
-    compile_held(alloc, from, &bytes, to, warns, wanted, files, output, said)
+    let source = source_told(alloc, from, wanted, files, said)?;
+    compile_held(
+        alloc,
+        from,
+        &source.bytes,
+        source.author(),
+        to,
+        warns,
+        wanted,
+        files,
+        output,
+        said,
+    )
 }

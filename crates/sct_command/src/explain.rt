@@ -26,6 +26,7 @@ fn tell<W: Sink>(
     alloc: Global,
     name: &str,
     bytes: &[u8],
+    written: Option<&[u8]>,
     fault: &LoadFault,
     output: &mut W,
 ) -> Result<(), Fault>
@@ -37,7 +38,7 @@ fn tell<W: Sink>(
     ensures failed { IfErr result (λ fault. W.failures output.new ≡ W.failures output.old + writes_failed fault) }
     ensures unread { IfErr result (λ fault. reads_failed fault ≡ 0) }
 {
-    let text = report_of(alloc, name, bytes, fault)?;
+    let text = report_of(alloc, name, bytes, written, fault)?;
     match write_all(output, text.as_bytes()) {
         Ok(()) => Ok(()),
         Err(_) => Err(Fault::Write),
@@ -49,6 +50,7 @@ fn refused<W: Sink>(
     alloc: Global,
     name: &str,
     bytes: &[u8],
+    written: Option<&[u8]>,
     fault: LoadFault,
     output: &mut W,
 ) -> Fault
@@ -57,7 +59,7 @@ fn refused<W: Sink>(
     ensures unread { reads_failed result ≡ 0 }
     ensures missed { files_failed result ≤ files_count.files_failed fault }
 {
-    match tell(alloc, name, bytes, &fault, output) {
+    match tell(alloc, name, bytes, written, &fault, output) {
         Ok(()) => Fault::Files(fault),
         Err(other) => other,
     }
@@ -104,6 +106,7 @@ fn explain_source<W: Sink>(
     alloc: Global,
     name: &str,
     bytes: &[u8],
+    written: Option<&[u8]>,
     output: &mut W,
 ) -> Result<(), Fault>
     ensures done { (files : Option Contents) → HasSource files name.now bytes.now
@@ -120,7 +123,7 @@ fn explain_source<W: Sink>(
             let image = Boxed::new(alloc, image)?;
             tell_found(alloc, name, bytes, image.get().image(), output)
         }
-        Err(fault) => Err(refused(alloc, name, bytes, fault, output)),
+        Err(fault) => Err(refused(alloc, name, bytes, written, fault, output)),
     }
 }
 
@@ -146,11 +149,17 @@ pub(crate) fn explain<F: Files, W: Sink>(
 {
     let bytes = match bytes_of(alloc, files, name) {
         Ok(bytes) => bytes,
-        Err(fault) => return Err(refused(alloc, name, b"", fault, output)),
+        Err(fault) => return Err(refused(alloc, name, b"", None, fault, output)),
     };
     match reduced_source(alloc, &bytes) {
-        Ok(Some(text)) => explain_source(alloc, name, text.as_bytes(), output),
-        Ok(None) => explain_source(alloc, name, &bytes, output),
-        Err(fault) => Err(refused(alloc, name, &bytes, fault, output)),
+        Ok(Some(text)) => explain_source(
+            alloc,
+            name,
+            text.as_bytes(),
+            Some(bytes.as_slice()),
+            output,
+        ),
+        Ok(None) => explain_source(alloc, name, &bytes, None, output),
+        Err(fault) => Err(refused(alloc, name, &bytes, None, fault, output)),
     }
 }

@@ -2,12 +2,14 @@
 
 ghost use Rattle.std.specs.Prelude.{◌≡◌, IfOk, string_bytes};
 ghost use Rattle.std.specs.Str.{IsUtf8};
+ghost use Rattle.compiler.specs.FaultText.{fault_text};
 ghost use Rattle.diagnostics.specs.Reports.{Tells, text_fault};
 ghost use Rattle.fault_lists.specs.Reports.{TellsEach};
 ghost use Rattle.sct_command.specs.Explaining.{IsReport, TellsEachFlaw, told_fault};
 
 use command_files::{LoadFault, shown_name, text_of};
-use diagnostics::{program_fault_explained, told_nowhere};
+use compiler::CompileFault;
+use diagnostics::{author_fault_explained, program_fault_explained, told_nowhere};
 use fault_lists::faults_explained;
 use sc_text::ReadFault;
 use std::alloc::{AllocError, Global};
@@ -49,11 +51,38 @@ fn flaws_told(
     }
 }
 
+// These bytes as text; none where they are no text.
+fn text_in(bytes: &[u8]) -> &str {
+    match text_of(bytes) {
+        Ok(text) => text,
+        Err(_) => "",
+    }
+}
+
+// What is said of the fault of the program of these bytes, which are the text of the chart to which the extended chart
+// is reduced that stands in `written`, if one stands there.
+fn program_explained(
+    alloc: Global,
+    name: &str,
+    bytes: &[u8],
+    written: Option<&[u8]>,
+    fault: &CompileFault,
+) -> Result<String, AllocError>
+    ensures { IfOk result (λ report. Tells name.now (fault_text fault.now) (string_bytes report)) }
+{
+    let text = text_in(bytes);
+    match written {
+        Some(author) => author_fault_explained(alloc, name, text_in(author), text, fault),
+        None => program_fault_explained(alloc, name, text, fault),
+    }
+}
+
 // What is said of the fault of these bytes.
 fn explanation(
     alloc: Global,
     name: &str,
     bytes: &[u8],
+    written: Option<&[u8]>,
     fault: &LoadFault,
 ) -> Result<String, AllocError>
     ensures tells { IfOk result (λ report. Tells name.now (told_fault fault.now) (string_bytes report)) }
@@ -61,10 +90,7 @@ fn explanation(
 {
     match fault {
         LoadFault::Text(fault) => flaws_told(alloc, name, bytes, fault),
-        LoadFault::Program(fault) => match text_of(bytes) {
-            Ok(text) => program_fault_explained(alloc, name, text, fault),
-            Err(_) => program_fault_explained(alloc, name, "", fault),
-        },
+        LoadFault::Program(fault) => program_explained(alloc, name, bytes, written, fault),
         LoadFault::File(_) => told_nowhere(
             alloc,
             name,
@@ -75,15 +101,17 @@ fn explanation(
     }
 }
 
-/// What is said of the fault of these bytes, which are those of the file of this name. Err: memory was refused.
+/// What is said of the fault of these bytes, which are those of the file of this name, or of the source for which it
+/// stands; then `written` has its own bytes, and reports of programs speak of these. Err: memory was refused.
 pub(crate) fn report_of(
     alloc: Global,
     name: &str,
     bytes: &[u8],
+    written: Option<&[u8]>,
     fault: &LoadFault,
 ) -> Result<String, AllocError>
     ensures { IfOk result (λ report. IsReport name.now bytes.now fault.now (string_bytes report)) }
 {
     let shown = shown_name(alloc, name)?;
-    explanation(alloc, shown.as_str(), bytes, fault)
+    explanation(alloc, shown.as_str(), bytes, written, fault)
 }

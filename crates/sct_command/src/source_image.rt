@@ -13,11 +13,30 @@ use sqlite_items::Boxed;
 use std::alloc::Global;
 use verifier::Verified;
 
-// Says a report of the fault of these bytes, where words are wanted and memory is there for them.
+/// The source in a file, and what is written there where that is an extended chart, which is reduced to this source.
+#[derive(Drop)]
+pub(crate) struct HeldSource {
+    pub(crate) bytes: Vec<u8>,
+    pub(crate) written: Option<Vec<u8>>,
+}
+
+impl HeldSource {
+    /// The bytes of the extended chart that stands there. None: the source itself does.
+    pub(crate) fn author(&self) -> Option<&[u8]> {
+        match &self.written {
+            Some(written) => Some(written.as_slice()),
+            None => None,
+        }
+    }
+}
+
+// Says a report of the fault of these bytes, or of what is written for which they stand, where words are wanted and
+// memory is there for them.
 fn say_report(
     alloc: Global,
     name: &str,
     bytes: &[u8],
+    written: Option<&[u8]>,
     fault: &LoadFault,
     wanted: bool,
     said: &mut String,
@@ -26,19 +45,21 @@ fn say_report(
     ensures { IsHeldReport name.now bytes.now wanted fault.now (string_bytes said.new) }
 {
     if wanted {
-        if let Ok(report) = report_of(alloc, name, bytes, fault) {
+        if let Ok(report) = report_of(alloc, name, bytes, written, fault) {
             *said = report;
         }
     }
 }
 
-/// The image of the text that these bytes are, which are those of the file of this name. Err: why there is none, of
-/// which a report is `said` where words are wanted and memory is there for them.
+/// The image of the text that these bytes are, which are those of the file of this name, or of the source for which
+/// what is `written` there stands. Err: why there is none, of which a report is `said` where words are wanted and
+/// memory is there for them.
 #[tactic(auto, using(command_files::proofs::Lacking::lacks_image))]
 pub(crate) fn image_told(
     alloc: Global,
     name: &str,
     bytes: &[u8],
+    written: Option<&[u8]>,
     wanted: bool,
     said: &mut String,
 ) -> Result<Boxed<Verified>, LoadFault>
@@ -51,7 +72,7 @@ pub(crate) fn image_told(
     match compile_bytes(alloc, bytes) {
         Ok(image) => Ok(Boxed::new(alloc, image)?),
         Err(fault) => {
-            say_report(alloc, name, bytes, &fault, wanted, said);
+            say_report(alloc, name, bytes, written, &fault, wanted, said);
             Err(fault)
         }
     }
@@ -66,9 +87,9 @@ pub(crate) fn source_told<F: Files>(
     wanted: bool,
     files: &mut F,
     said: &mut String,
-) -> Result<Vec<u8>, LoadFault>
+) -> Result<HeldSource, LoadFault>
     requires none { string_bytes said.now ≡ [] }
-    ensures source { IfOk result (λ bytes. HasSource (F.contents files.old) name.now bytes.items) }
+    ensures source { IfOk result (λ source. HasSource (F.contents files.old) name.now source.bytes.items) }
     ensures fault { IfErr result (FileLacksSource (F.contents files.old) name.now) }
     ensures same { F.contents files.new ≡ F.contents files.old }
     ensures none_failed { OnOk result (F.failures files.new ≡ F.failures files.old) }
@@ -79,10 +100,16 @@ pub(crate) fn source_told<F: Files>(
 {
     let bytes = bytes_of(alloc, files, name)?;
     match reduced_source(alloc, &bytes) {
-        Ok(Some(text)) => Ok(text.into_bytes()),
-        Ok(None) => Ok(bytes),
+        Ok(Some(text)) => Ok(HeldSource {
+            bytes: text.into_bytes(),
+            written: Some(bytes),
+        }),
+        Ok(None) => Ok(HeldSource {
+            bytes,
+            written: None,
+        }),
         Err(fault) => {
-            say_report(alloc, name, &bytes, &fault, wanted, said);
+            say_report(alloc, name, &bytes, None, &fault, wanted, said);
             Err(fault)
         }
     }

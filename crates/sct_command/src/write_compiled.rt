@@ -68,6 +68,7 @@ fn write_held<W: Sink>(
     alloc: Global,
     from: &str,
     bytes: &[u8],
+    written: Option<&[u8]>,
     warns: bool,
     wanted: bool,
     output: &mut W,
@@ -84,7 +85,7 @@ fn write_held<W: Sink>(
     ensures warned { OnOk result (AreWarnings from.now bytes.now warns (string_bytes said.new)) }
     ensures reported { IfErr result (λ fault. SaysOfBytes from.now bytes.now wanted fault (string_bytes said.new)) }
 {
-    let image = image_told(alloc, from, bytes, wanted, said)?;
+    let image = image_told(alloc, from, bytes, written, wanted, said)?;
     write_warned(alloc, from, bytes, image.get().image(), warns, output, said)
 }
 
@@ -115,6 +116,15 @@ pub(crate) fn write_compiled<F: Files, W: Sink>(
     ensures reported { IfErr result (λ fault.
         SaysOfFault (F.contents files.old) from.now wanted fault (string_bytes said.new)) }
 {
-    let bytes = source_told(alloc, from, wanted, files, said)?;
-    write_held(alloc, from, &bytes, warns, wanted, output, said)
+    let source = source_told(alloc, from, wanted, files, said)?;
+    write_held(
+        alloc,
+        from,
+        &source.bytes,
+        source.author(),
+        warns,
+        wanted,
+        output,
+        said,
+    )
 }

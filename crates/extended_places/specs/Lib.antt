@@ -1,0 +1,3 @@
+pub mod EffectRows
+pub mod Origins
+pub mod Read
