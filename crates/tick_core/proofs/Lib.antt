@@ -12,6 +12,9 @@ mod Counts
 mod NextSteps
 mod LivingChildren
 mod Entered
+pub mod ListedThreads
+mod ListedWoken
+mod ListedEntered
 pub mod Reports
 pub mod Taken
 pub mod Fresh

@@ -16,4 +16,5 @@ pub record IsSpaceOf (image : Image) (space : ParkedSpace) : Type 0 where
   pub history : image.tables.budget ≤ vec_capacity space.history
   pub living : length space.living.items ≡ length image.program.threads
   pub given : length space.given ≡ length image.program.variables
+  pub listed : length image.program.threads ≤ vec_capacity space.listed
   pub spare : HasPlaces image.program space.spare

@@ -18,6 +18,7 @@ ghost use Rattle.tick_core.specs.Again.{begun_again};
 mod claiming;
 mod ending;
 mod first_rows;
+mod listing;
 mod parking;
 mod running;
 mod taking;
@@ -30,13 +31,14 @@ use crate::inputs::{Inputs, are_accepted};
 use crate::joins::Joins;
 use crate::kept_claim::KeptClaim;
 use crate::sorting::rows_of;
-use crate::starting::start;
+use crate::starting::{start, start_listed};
 use crate::waking::count_and_sort;
 use buckets::Rows;
 use bytecode::Image;
 pub(crate) use ending::present_value;
 pub(crate) use first_rows::kinds_of;
 use first_rows::no_claims;
+use listing::begin_listed;
 pub use parking::ParkedSpace;
 use sc_graph::{Control, Program, ThreadId};
 use sc_values::{Kind, Name, Value};
@@ -96,6 +98,8 @@ pub struct TickState<'a> {
     living: Vec<usize>,
     // what was given to the variables
     given: Given,
+    // the threads that were there as the tick began
+    listed: Vec<ThreadId>,
 }
 
 impl<'a> Model for TickState<'a> {
@@ -133,7 +137,8 @@ impl<'a> Model for TickState<'a> {
           history = s.history.items;
           claims = s.claims.items;
         }) s.claimed s.level × CountsLiving s.verified.now.program s.present s.living.items
-        × (length s.given ≡ length s.verified.now.program.variables) };
+        × (length s.given ≡ length s.verified.now.program.variables)
+        × (length s.verified.now.program.threads ≤ vec_capacity s.listed) };
 }
 
 /// What the ticks of one verified image take over from one another: the image, and the room that they
@@ -220,6 +225,7 @@ impl<'a> TickSpace<'a> {
         let claims = no_claims(alloc, program)?;
         let living = vec![in alloc; 0; program.threads().len()]?;
         let given = Given::of(alloc, program)?;
+        let listed = Vec::with_capacity(alloc, program.threads().len())?;
         let spare = Control::initial(alloc, program)?;
         let room = ParkedSpace {
             joins,
@@ -229,6 +235,7 @@ impl<'a> TickSpace<'a> {
             claims,
             living,
             given,
+            listed,
             spare,
         };
         Ok(TickSpace { verified, room })
@@ -261,14 +268,23 @@ impl<'a> TickSpace<'a> {
         ensures refused { OnErr result (¬ (AreAccepted self.entry.program inputs.now)) }
         ensures why { result ≢ Err BeginFault.Memory }
     {
-        let mut space = self;
-        let program = space.verified.image().program();
-        if !space.room.given.take(program, inputs.as_slice()) {
+        let TickSpace { verified, mut room } = self;
+        let program = verified.image().program();
+        if !room.given.take(program, inputs.as_slice()) {
             return Err(BeginFault::Input);
         }
         let mut begun = control;
-        start(program, space.room.given.values(), &mut begun);
-        Ok(space.begin_again(begun))
+        if room.list_there(program, &begun) {
+            start_listed(
+                program,
+                room.given.values(),
+                room.listed.as_slice(),
+                &mut begun,
+            );
+            return Ok(begin_listed(verified, room, begun));
+        }
+        start(program, room.given.values(), &mut begun);
+        Ok(TickSpace { verified, room }.begin_again(begun))
     }
 
     /// Begins a tick of the image again, from the configuration in which one began, which is given up. It takes no
@@ -287,6 +303,7 @@ impl<'a> TickSpace<'a> {
                 claims,
                 mut living,
                 given,
+                listed,
                 spare: mut present,
             },
         } = self;
@@ -315,6 +332,7 @@ impl<'a> TickSpace<'a> {
             level: 0,
             living,
             given,
+            listed,
         }
     }
 }

@@ -1,6 +1,6 @@
 //! The counts and rows of all threads, as a tick begins.
 
-ghost use Rattle.std.specs.Prelude.{ℕ, ◌≡◌, ◌↔◌, IsTrue, length};
+ghost use Rattle.std.specs.Prelude.{ℕ, ◌≡◌, ◌<◌, ◌↔◌, IsTrue, length};
 ghost use Rattle.sc_graph.specs.declared.control.Status.TheVariants.{Waiting};
 ghost use Rattle.sc_graph.specs.declared.control.Control.{Control as Configuration};
 ghost use Rattle.sc_graph.specs.Control.{status_of, joined_at};
@@ -10,12 +10,14 @@ ghost use Rattle.sc_graph.specs.Valid.{IsValid};
 ghost use Rattle.tick_core.specs.Inside.Joins.{FindsForks};
 ghost use Rattle.tick_core.specs.Inside.Living.{living, CountsLiving};
 ghost use Rattle.tick_core.specs.Inside.Sorting.{OwnRows, StandSorted, step_priority};
-ghost use Rattle.tick_core.specs.Inside.Waking.{IsPassedBy};
+ghost use Rattle.buckets.specs.Rows.{AreEmpty};
+ghost use Rattle.tick_core.specs.Inside.There.{AreListed};
+ghost use Rattle.tick_core.specs.Inside.Waking.{IsPassedBy, EntersCount, EntersRow};
 
 use crate::joins::Joins;
 use crate::living::waited_for;
 use buckets::Rows;
-use sc_graph::{Control, Program, Status, Tables};
+use sc_graph::{Control, Program, Status, Tables, ThreadId};
 
 /// Counts for each thread that waits how many of the children for whom it waits have not ended, and puts each
 /// thread into the row of the priority at which it can step, as a tick begins without claims.
@@ -45,6 +47,80 @@ pub(crate) fn count_and_sort(
         }
     }
     rows.settle();
+}
+
+/// The same where nobody stands in a row and all threads that are there are listed: it looks at no other.
+pub(crate) fn count_and_sort_listed(
+    joins: &Joins,
+    program: &Program,
+    tables: &Tables,
+    control: &Control,
+    listed: &[ThreadId],
+    counts: &mut Vec<usize>,
+    rows: &mut Rows,
+)
+    requires forks { FindsForks program.now joins.now }
+    requires valid { IsValid program.now tables.now }
+    requires configuration { IsConfiguration program.now control.now }
+    requires listed { AreListed control.now listed.now }
+    requires places { length counts.old.items ≡ length program.now.threads }
+    requires rows { OwnRows program.now tables.now rows.old }
+    requires bare { AreEmpty rows.old }
+    ensures counted { CountsLiving program.now control.now counts.new.items }
+    ensures sorted { StandSorted program.now tables.now control.now rows.new }
+{
+    for at in 0..listed.len() {
+        enter(joins, program, tables, control, counts, rows, listed[at]);
+    }
+    rows.settle();
+}
+
+// Counts for a thread that waits how many of the children for whom it waits have not ended, and puts it into its row.
+fn enter(
+    joins: &Joins,
+    program: &Program,
+    tables: &Tables,
+    control: &Control,
+    counts: &mut Vec<usize>,
+    rows: &mut Rows,
+    thread: ThreadId,
+)
+    requires forks { FindsForks program.now joins.now }
+    requires valid { IsValid program.now tables.now }
+    requires configuration { IsConfiguration program.now control.now }
+    requires places { length counts.old.items ≡ length program.now.threads }
+    requires rows { OwnRows program.now tables.now rows.old }
+    ensures counts { EntersCount program.now control.now thread counts.old.items counts.new.items }
+    ensures rows { EntersRow program.now tables.now control.now thread rows.old rows.new }
+{
+    if thread < program.thread_count() {
+        enter_there(joins, program, tables, control, counts, rows, thread);
+    }
+}
+
+// The same for a thread of the program.
+fn enter_there(
+    joins: &Joins,
+    program: &Program,
+    tables: &Tables,
+    control: &Control,
+    counts: &mut Vec<usize>,
+    rows: &mut Rows,
+    thread: ThreadId,
+)
+    requires forks { FindsForks program.now joins.now }
+    requires valid { IsValid program.now tables.now }
+    requires configuration { IsConfiguration program.now control.now }
+    requires place { thread < length program.now.threads }
+    requires places { length counts.old.items ≡ length program.now.threads }
+    requires rows { OwnRows program.now tables.now rows.old }
+    ensures counts { EntersCount program.now control.now thread counts.old.items counts.new.items }
+    ensures rows { EntersRow program.now tables.now control.now thread rows.old rows.new }
+{
+    let status = control.status(thread);
+    let count = waited_for(joins, program, control, status);
+    counts[thread as usize] = count;
+    rows.set(thread, first_row(tables, status, count));
 }
 
 // Whether nothing is to be done for a thread that stands so: it waits for nobody and takes no step, and where

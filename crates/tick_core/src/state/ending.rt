@@ -135,6 +135,7 @@ impl<'a> TickState<'a> {
             level: _,
             living,
             given,
+            listed,
         } = self;
         let space = TickSpace {
             verified,
@@ -146,6 +147,7 @@ impl<'a> TickState<'a> {
                 claims,
                 living,
                 given,
+                listed,
                 spare: begun,
             },
         };

@@ -69,4 +69,5 @@ invariant_of-result c =
       subst (λ p. CountsLiving p c.copy_into.new.to c.count_and_sort.new.counts.items)
           (c.program-program.ensures ∙ ap (λ i. i.program) c.image-image.ensures.value) c.count_and_sort.ensures.counted,
       c.self.invariant.given,
+      c.self.invariant.listed,
     )
