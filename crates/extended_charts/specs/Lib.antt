@@ -15,3 +15,4 @@ pub mod Rows
 pub mod Reduction
 pub mod FaultText
 pub mod Laws
+pub mod Inside

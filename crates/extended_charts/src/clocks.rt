@@ -1,14 +1,16 @@
 //! The ticks since a state was entered.
 
-ghost use Rattle.std.specs.Prelude.{◌≡◌, IfOk, map};
+ghost use Rattle.std.specs.Prelude.{◌≡◌, ◌++◌, ◌∷◌, [], suc, IfOk, map};
 ghost use Rattle.extended_charts.specs.Clocks.{asks_time, ask_time, clocks_in, all_regions, all_states};
 ghost use Rattle.extended_charts.specs.Clocks.{noting, timed_by, timed_region, timed_state};
 ghost use Rattle.extended_charts.specs.Clocks.{one_more, clock_region, with_clocks};
+ghost use Rattle.extended_charts.specs.Inside.Parts.{with_some_parts, clock_variables};
 
-use crate::extended::{ELAPSED, ExtendedChart, ExtendedRegion, ExtendedState};
+use crate::extended::{Declared, ELAPSED, ExtendedChart, ExtendedRegion, ExtendedState};
 use crate::making::{alone, always, copy, integers, local, made_state, one, sum, variable};
 use crate::reading::Reading;
 use chart_elements::next;
+use crate::parts::{Parts, with_some_parts};
 use core_charts::{Effect, Transition, copied_effects};
 use sc_graph::VariableId;
 use sc_text::plain;
@@ -21,26 +23,45 @@ use std::alloc::{AllocError, Global};
 pub fn with_clocks(alloc: Global, chart: ExtendedChart) -> Result<ExtendedChart, AllocError>
     ensures { IfOk result (λ made. made ≡ with_clocks chart) }
 {
+    let parts = clock_parts(alloc, &chart);
+    with_some_parts(chart, parts)
+}
+
+// The variables for times, and the regions that note them, where states ask for these.
+fn clock_parts(alloc: Global, chart: &ExtendedChart) -> Result<Option<Parts>, AllocError>
+    ensures { IfOk result (λ made. with_some_parts made chart.now ≡ with_clocks chart.now) }
+{
     let now = variable(chart.variables.len())?;
     let count = clocks_in(chart.regions.as_slice())?;
     if count == 0 {
-        return Ok(chart);
+        return Ok(None);
     }
+    let regions = clocked_regions(alloc, now, chart.regions.as_slice())?;
+    Ok(Some((clock_variables(alloc, count)?, regions)))
+}
+
+// The time, and the times at which so many states were entered.
+fn clock_variables(alloc: Global, count: u32) -> Result<Items<Declared>, AllocError>
+    ensures { IfOk result (λ made. made ≡ clock_variables count) }
+{
+    let mut made = alone(alloc, local(plain("now__1"), Kind::Int, None))?;
+    made.append(integers(alloc, "at__", count)?)?;
+    Ok(made)
+}
+
+// The regions that note times, and the one that counts.
+fn clocked_regions(
+    alloc: Global,
+    now: VariableId,
+    regions: &[ExtendedRegion],
+) -> Result<Items<ExtendedRegion>, AllocError>
+    ensures { IfOk result (λ made. made
+        ≡ all_regions now (suc now) (map timed_region regions.now) ++ clock_region now ∷ []) }
+{
     let first = next(u32::from(now))?;
-    let mut regions = all_regions(alloc, now, first, chart.regions.as_slice())?;
-    regions.push(clock_region(alloc, now)?)?;
-    let mut variables = chart.variables;
-    variables.push(local(plain("now__1"), Kind::Int, None))?;
-    variables.append(integers(alloc, "at__", count)?)?;
-    Ok(ExtendedChart {
-        name: chart.name,
-        variables,
-        signals: chart.signals,
-        befores: chart.befores,
-        constants: chart.constants,
-        counts: chart.counts,
-        regions,
-    })
+    let mut made = all_regions(alloc, now, first, regions)?;
+    made.push(clock_region(alloc, now)?)?;
+    Ok(made)
 }
 
 // Whether a trigger of these asks for the ticks since the state was entered.

@@ -1,10 +1,12 @@
 //! Counts: in how many ticks a condition was true since a state was entered.
 
-ghost use Rattle.std.specs.Prelude.{◌≡◌, IfOk, map};
+ghost use Rattle.std.specs.Prelude.{◌≡◌, ◌++◌, ◌∷◌, [], IfOk, length, map};
 ghost use Rattle.extended_charts.specs.Counts.{total_of, entered_of, next_count, own_variables, count_variables};
 ghost use Rattle.extended_charts.specs.Counts.{asked_in, asked_by, telling, tellings};
 ghost use Rattle.extended_charts.specs.Counts.{counted_region, counted_state, beginnings, none_yet, counting_ways};
-ghost use Rattle.extended_charts.specs.Counts.{counting, all_counting, count_states, count_region, with_counts};
+ghost use Rattle.extended_charts.specs.Counts.{counting, all_counting, count_states, count_region, counted};
+ghost use Rattle.extended_charts.specs.Counts.{with_counts};
+ghost use Rattle.extended_charts.specs.Inside.Parts.{with_parts, uncounted};
 
 use crate::clocks::{one_more, timed_transitions};
 use crate::durings::ways_on;
@@ -12,6 +14,7 @@ use crate::extended::{Declared, ExtendedChart, ExtendedRegion, ExtendedState};
 use crate::making::{
     all_passing, alone, always, copy, count, has_some, local, made_state, passing, sum, variable,
 };
+use crate::parts::{Parts, with_parts};
 use crate::reading::{Reading, count_variable, is_count};
 use crate::signals::{emission, reset};
 use chart_elements::next;
@@ -30,24 +33,37 @@ pub fn with_counts(alloc: Global, chart: ExtendedChart) -> Result<ExtendedChart,
     if !has_some(chart.counts.as_slice()) {
         return Ok(chart);
     }
+    let parts = count_parts(alloc, &chart);
+    let mut rest = chart;
+    rest.counts = Items::new(alloc);
+    with_parts(rest, parts)
+}
+
+// The variables of the counts, and the regions that count.
+fn count_parts(alloc: Global, chart: &ExtendedChart) -> Result<Parts, AllocError>
+    ensures { IfOk result (λ made. with_parts made.0 made.1 (uncounted chart.now)
+        ≡ counted (length chart.now.variables) chart.now) }
+{
     let first = variable(chart.variables.len())?;
     let conditions = chart.counts.as_slice();
+    let regions = all_counted(alloc, first, conditions, chart.regions.as_slice())?;
+    Ok((count_variables(alloc, conditions)?, regions))
+}
+
+// The regions whose triggers read variables for the counts, and the one that counts.
+fn all_counted(
+    alloc: Global,
+    first: VariableId,
+    conditions: &[Expr],
+    regions: &[ExtendedRegion],
+) -> Result<Items<ExtendedRegion>, AllocError>
+    ensures { IfOk result (λ made. made ≡ map (counted_region first (length conditions.now)) regions.now
+        ++ count_region first conditions.now ∷ []) }
+{
     let counts = variable(conditions.len())?;
-    let region = count_region(alloc, first, conditions)?;
-    let made = count_variables(alloc, conditions)?;
-    let mut regions = counted_regions(alloc, first, counts, chart.regions.as_slice())?;
-    regions.push(region)?;
-    let mut variables = chart.variables;
-    variables.append(made)?;
-    Ok(ExtendedChart {
-        name: chart.name,
-        variables,
-        signals: chart.signals,
-        befores: chart.befores,
-        constants: chart.constants,
-        counts: Items::new(alloc),
-        regions,
-    })
+    let mut made = counted_regions(alloc, first, counts, regions)?;
+    made.push(count_region(alloc, first, conditions)?)?;
+    Ok(made)
 }
 
 fn total_of(count: VariableId) -> Result<VariableId, AllocError>

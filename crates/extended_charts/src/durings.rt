@@ -8,6 +8,7 @@ ghost use Rattle.extended_charts.specs.Durings.{acting_region, acting_state, wit
 use crate::copies::copied_during;
 use crate::extended::{During, ExtendedChart, ExtendedRegion, ExtendedState};
 use crate::making::{alone, always, count, has_some, made_state, passing, sum};
+use crate::parts::with_regions;
 use chart_elements::next;
 use core_charts::{Effect, Transition, TransitionKind, copied_effects, copied_transitions};
 use sc_text::{numbered, plain};
@@ -19,16 +20,8 @@ use std::alloc::{AllocError, Global};
 pub fn with_durings(alloc: Global, chart: ExtendedChart) -> Result<ExtendedChart, AllocError>
     ensures { IfOk result (λ made. made ≡ with_durings chart) }
 {
-    let regions = acting_regions(alloc, chart.regions.as_slice())?;
-    Ok(ExtendedChart {
-        name: chart.name,
-        variables: chart.variables,
-        signals: chart.signals,
-        befores: chart.befores,
-        constants: chart.constants,
-        counts: chart.counts,
-        regions,
-    })
+    let regions = acting_regions(alloc, chart.regions.as_slice());
+    with_regions(chart, regions)
 }
 
 /// What makes an action and goes on at once. Err: memory was refused.
@@ -212,6 +205,8 @@ fn acting_state(alloc: Global, state: &ExtendedState) -> Result<ExtendedState, A
 {
     let durings = state.during.as_slice();
     let inside = acting_regions(alloc, state.regions.as_slice())?;
+    let regions = with_region(alloc, durings, inside)?;
+    let transitions = tested_behind(alloc, durings, state.transitions.as_slice())?;
     Ok(ExtendedState {
         name: state.name,
         is_own: state.is_own,
@@ -220,7 +215,7 @@ fn acting_state(alloc: Global, state: &ExtendedState) -> Result<ExtendedState, A
         entry: copied_effects(alloc, state.entry.as_slice())?,
         exit: copied_effects(alloc, state.exit.as_slice())?,
         during: Items::new(alloc),
-        regions: with_region(alloc, durings, inside)?,
-        transitions: tested_behind(alloc, durings, state.transitions.as_slice())?,
+        regions,
+        transitions,
     })
 }

@@ -1,14 +1,18 @@
 //! Exit actions: a transition makes those of the state that it leaves, behind those of what is active in it.
 
-ghost use Rattle.std.specs.Prelude.{◌≡◌, ◌+◌, IfOk, map};
+ghost use Rattle.std.specs.Prelude.{◌≡◌, ◌+◌, ◌++◌, IfOk, map};
+ghost use Rattle.extended_charts.specs.declared.extended.ExtendedRegion.TheViews.{out-ExtendedState};
 ghost use Rattle.extended_charts.specs.Exits.{noted, parting, own_note, left_region, left_state, all_regions};
+ghost use Rattle.extended_charts.specs.Exits.{left_transitions};
 ghost use Rattle.extended_charts.specs.Exits.{with_behind, all_inside, outer_regions, with_exits};
+ghost use Rattle.extended_charts.specs.Inside.Parts.{with_parts};
 
 use crate::departures::{left_behind, left_transitions, set};
 use crate::extended::{ExtendedChart, ExtendedRegion, ExtendedState};
 use crate::leaving::{has_exit, have_exits, inside, notes, state_inside, state_leavings};
 use crate::making::{alone, count, has_some, integers, one, sum, variable};
-use core_charts::{Effect, copied_effects};
+use crate::parts::{Parts, with_parts};
+use core_charts::{Effect, Transition, copied_effects};
 use sc_graph::VariableId;
 use sqlite_items::Items;
 use std::alloc::{AllocError, Global};
@@ -21,20 +25,18 @@ const MOST_STATES: u32 = 1024;
 pub fn with_exits(alloc: Global, chart: ExtendedChart) -> Result<ExtendedChart, AllocError>
     ensures { IfOk result (λ made. made ≡ with_exits chart) }
 {
+    let parts = exit_parts(alloc, &chart);
+    with_parts(chart, parts)
+}
+
+// The variables in which regions note where they are, and the regions whose transitions make the exit actions.
+fn exit_parts(alloc: Global, chart: &ExtendedChart) -> Result<Parts, AllocError>
+    ensures { IfOk result (λ made. with_parts made.0 made.1 chart.now ≡ with_exits chart.now) }
+{
     let first = u32::from(variable(chart.variables.len())?);
     let count = all_inside(chart.regions.as_slice())?;
     let regions = outer_regions(alloc, first, chart.regions.as_slice())?;
-    let mut variables = chart.variables;
-    variables.append(integers(alloc, "in__", count)?)?;
-    Ok(ExtendedChart {
-        name: chart.name,
-        variables,
-        signals: chart.signals,
-        befores: chart.befores,
-        constants: chart.constants,
-        counts: chart.counts,
-        regions,
-    })
+    Ok((integers(alloc, "in__", count)?, regions))
 }
 
 // The number of a state, where its region notes it and the state has exit actions.
@@ -189,12 +191,9 @@ fn left_state(
 ) -> Result<ExtendedState, AllocError>
     ensures { IfOk result (λ made. made ≡ (left_state state.now).made own number x place) }
 {
-    let exit = state.exit.as_slice();
-    let transitions = state.transitions.as_slice();
-    let leavings = state_leavings(alloc, x, state)?;
-    let parting = parting(alloc, own, exit)?;
-    let mut entry = noted(alloc, own, number, exit)?;
-    entry.append(copied_effects(alloc, state.entry.as_slice())?)?;
+    let entry = left_entry(alloc, own, number, state)?;
+    let regions = all_regions(alloc, x, state.regions.as_slice())?;
+    let transitions = ways(alloc, own, x, place, state)?;
     Ok(ExtendedState {
         name: state.name,
         is_own: state.is_own,
@@ -203,15 +202,46 @@ fn left_state(
         entry,
         exit: Items::new(alloc),
         during: Items::new(alloc),
-        regions: all_regions(alloc, x, state.regions.as_slice())?,
-        transitions: left_transitions(
-            alloc,
-            place,
-            leavings.as_slice(),
-            parting.as_slice(),
-            transitions,
-        )?,
+        regions,
+        transitions,
     })
+}
+
+// What is done as a state is entered.
+fn left_entry(
+    alloc: Global,
+    own: Option<VariableId>,
+    number: u32,
+    state: &ExtendedState,
+) -> Result<Items<Effect>, AllocError>
+    ensures { IfOk result (λ made. made ≡ noted own number (out-ExtendedState state.now).exit
+        ++ (out-ExtendedState state.now).entry) }
+{
+    let mut made = noted(alloc, own, number, state.exit.as_slice())?;
+    made.append(copied_effects(alloc, state.entry.as_slice())?)?;
+    Ok(made)
+}
+
+// The transitions of a state, where what stands behind it stands from this place on.
+fn ways(
+    alloc: Global,
+    own: Option<VariableId>,
+    x: u32,
+    place: u32,
+    state: &ExtendedState,
+) -> Result<Items<Transition>, AllocError>
+    ensures { IfOk result (λ made. made ≡ left_transitions place ((left_state state.now).leavings x)
+        (parting own (out-ExtendedState state.now).exit) (out-ExtendedState state.now).transitions) }
+{
+    let leavings = state_leavings(alloc, x, state)?;
+    let parting = parting(alloc, own, state.exit.as_slice())?;
+    left_transitions(
+        alloc,
+        place,
+        leavings.as_slice(),
+        parting.as_slice(),
+        state.transitions.as_slice(),
+    )
 }
 
 // What stands behind a state, from this place on.

@@ -5,11 +5,13 @@ ghost use Rattle.extended_charts.specs.Histories.{asks, entering, noted, led, wa
 ghost use Rattle.extended_charts.specs.Histories.{resumptions, resuming, own_past, past_own, begins, history_of};
 ghost use Rattle.extended_charts.specs.Histories.{all_regions, all_states};
 ghost use Rattle.extended_charts.specs.Histories.{made_region, past_region, past_state, with_histories};
+ghost use Rattle.extended_charts.specs.Inside.Parts.{with_some_parts};
 
 use crate::copies::copied_durings;
 use crate::departures::{is_at, set};
 use crate::extended::{ExtendedChart, ExtendedRegion, ExtendedState};
 use crate::making::{alone, always, copy, count, has_some, made_state, sum, variable};
+use crate::parts::{Parts, with_some_parts};
 use crate::recalls::{
     asking, is_by_history, is_recalled, kept_in, recalled_among, region_kept, state_kept,
     variables_for,
@@ -47,23 +49,21 @@ pub struct Standing {
 pub fn with_histories(alloc: Global, chart: ExtendedChart) -> Result<ExtendedChart, AllocError>
     ensures { IfOk result (λ made. made ≡ with_histories chart) }
 {
+    let parts = history_parts(alloc, &chart);
+    with_some_parts(chart, parts)
+}
+
+// The variables that histories need, and the regions that go on where they were, where transitions lead by history.
+fn history_parts(alloc: Global, chart: &ExtendedChart) -> Result<Option<Parts>, AllocError>
+    ensures { IfOk result (λ made. with_some_parts made chart.now ≡ with_histories chart.now) }
+{
     let kept = kept_in(alloc, false, chart.regions.as_slice())?;
     if !has_some(kept.as_slice()) {
-        return Ok(chart);
+        return Ok(None);
     }
     let first = u32::from(variable(chart.variables.len())?);
     let regions = all_regions(alloc, None, first, chart.regions.as_slice())?;
-    let mut variables = chart.variables;
-    variables.append(variables_for(alloc, kept.as_slice())?)?;
-    Ok(ExtendedChart {
-        name: chart.name,
-        variables,
-        signals: chart.signals,
-        befores: chart.befores,
-        constants: chart.constants,
-        counts: chart.counts,
-        regions,
-    })
+    Ok(Some((variables_for(alloc, kept.as_slice())?, regions)))
 }
 
 // The transition that is taken goes by history.

@@ -7,6 +7,7 @@ ghost use Rattle.extended_charts.specs.Holds.{held_region, held_state, held_insi
 use crate::copies::copied_trigger;
 use crate::extended::{ExtendedChart, ExtendedRegion, ExtendedState};
 use crate::making::{alone, always, made_state};
+use crate::parts::with_regions;
 use core_charts::{Transition, TransitionKind, copied_effects};
 use sc_text::plain;
 use sc_values::Expr;
@@ -17,16 +18,8 @@ use std::alloc::{AllocError, Global};
 pub fn with_holds(alloc: Global, chart: ExtendedChart) -> Result<ExtendedChart, AllocError>
     ensures { IfOk result (λ made. made ≡ with_holds chart) }
 {
-    let regions = held_regions(alloc, chart.regions.as_slice())?;
-    Ok(ExtendedChart {
-        name: chart.name,
-        variables: chart.variables,
-        signals: chart.signals,
-        befores: chart.befores,
-        constants: chart.constants,
-        counts: chart.counts,
-        regions,
-    })
+    let regions = held_regions(alloc, chart.regions.as_slice());
+    with_regions(chart, regions)
 }
 
 // The trigger of the termination, if it has one.

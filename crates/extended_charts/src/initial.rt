@@ -2,9 +2,11 @@
 
 ghost use Rattle.std.specs.Prelude.{◌≡◌, IfOk};
 ghost use Rattle.extended_charts.specs.Initial.{is_default, setting, settings, framed, with_settings};
+ghost use Rattle.extended_charts.specs.Inside.Parts.{with_regions};
 
 use crate::extended::{Declared, ExtendedChart, ExtendedRegion};
 use crate::making::{all_passing, alone, has_some, literal, made_state, variable};
+use crate::parts::{refused, with_regions};
 use core_charts::Effect;
 use sc_graph::VariableId;
 use sc_text::plain;
@@ -17,17 +19,24 @@ use std::alloc::{AllocError, Global};
 pub fn with_settings(alloc: Global, chart: ExtendedChart) -> Result<ExtendedChart, AllocError>
     ensures { IfOk result (λ made. made ≡ with_settings chart) }
 {
-    let settings = settings(alloc, chart.variables.as_slice())?;
-    let regions = framed(alloc, settings.as_slice(), chart.regions)?;
-    Ok(ExtendedChart {
-        name: chart.name,
-        variables: chart.variables,
-        signals: chart.signals,
-        befores: chart.befores,
-        constants: chart.constants,
-        counts: chart.counts,
-        regions,
-    })
+    match settings(alloc, chart.variables.as_slice()) {
+        Ok(settings) => with_frame(alloc, settings.as_slice(), chart),
+        Err(fault) => refused(chart, fault),
+    }
+}
+
+// The chart before whose regions these assignments are made.
+fn with_frame(
+    alloc: Global,
+    settings: &[Effect],
+    chart: ExtendedChart,
+) -> Result<ExtendedChart, AllocError>
+    ensures { IfOk result (λ made. made ≡ with_regions (framed settings.now chart.regions) chart) }
+{
+    let mut rest = chart;
+    let regions = framed(alloc, settings, rest.regions);
+    rest.regions = Items::new(alloc);
+    with_regions(rest, regions)
 }
 
 // The assignments of the initial values, of those that a variable does not hold anyway.

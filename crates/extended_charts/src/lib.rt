@@ -19,6 +19,7 @@ mod initial;
 mod laws;
 mod leaving;
 mod making;
+mod parts;
 mod reading;
 mod recalls;
 mod reduction;

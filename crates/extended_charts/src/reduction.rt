@@ -4,6 +4,8 @@ ghost use Rattle.std.specs.Prelude.{◌≡◌, IfOk, MatchResult, SomeIff, map};
 ghost use Rattle.core_charts.specs.declared.features.Features.TheVariants as features;
 ghost use Rattle.core_charts.specs.Rules.{IsChart};
 ghost use Rattle.extended_charts.specs.Reduction.{with_variables, with_entry, chart_of, IsReduction, LacksChart};
+ghost use Rattle.extended_charts.specs.Rows.{rows_of};
+ghost use Rattle.extended_charts.specs.Inside.Parts.{LacksChartOf};
 
 use crate::clocks::with_clocks;
 use crate::constants::without_constants;
@@ -30,8 +32,19 @@ pub fn reduce(alloc: Global, chart: &ExtendedChart) -> Result<(Chart, AuthorRows
     ensures { MatchResult result (λ made. IsReduction chart.now made.0 made.1) (LacksChart chart.now) }
 {
     let left = with_entry(alloc, chart)?;
+    chart_and_rows(alloc, &left)
+}
+
+// The chart of one that has nothing but entry actions, and which of its parts are the author's.
+fn chart_and_rows(
+    alloc: Global,
+    left: &ExtendedChart,
+) -> Result<(Chart, AuthorRows), ReduceFault>
+    ensures { MatchResult result
+        (λ made. (made.0 ≡ chart_of left.now) × (made.1 ≡ rows_of left.now.regions)) (LacksChartOf left.now) }
+{
     let rows = rows_of(alloc, left.regions.as_slice())?;
-    match chart_of(alloc, &left)? {
+    match chart_of(alloc, left)? {
         Some(chart) => Ok((chart, rows)),
         None => Err(ReduceFault::Limit),
     }

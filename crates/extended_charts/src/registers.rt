@@ -1,11 +1,12 @@
 //! What variables were at the end of the tick before.
 
-ghost use Rattle.std.specs.Prelude.{◌≡◌, IfOk, slice_get};
+ghost use Rattle.std.specs.Prelude.{◌≡◌, ◌++◌, IfOk, slice_get};
 ghost use Rattle.extended_charts.specs.Registers.{kind_of, initial_of, before_variables, registers};
-ghost use Rattle.extended_charts.specs.Registers.{storing, handing, ring, register_region, with_registers};
+ghost use Rattle.extended_charts.specs.Registers.{storing, handing, ring, register_region, registered, with_registers};
 
 use crate::extended::{Declared, ExtendedChart, ExtendedRegion, ExtendedState};
 use crate::making::{all_passing, copy, has_some, local, passing, variable};
+use crate::parts::{with_last_region, with_more_variables};
 use chart_elements::next;
 use core_charts::Effect;
 use sc_graph::VariableId;
@@ -22,23 +23,34 @@ pub fn with_registers(alloc: Global, chart: ExtendedChart) -> Result<ExtendedCha
     if !has_some(chart.befores.as_slice()) {
         return Ok(chart);
     }
-    let region = register_region(alloc, chart.variables.len(), chart.befores.as_slice())?;
-    let declared = chart.variables.as_slice();
-    let mut made = before_variables(alloc, declared, chart.befores.as_slice())?;
-    made.append(registers(alloc, declared, chart.befores.as_slice())?)?;
-    let mut variables = chart.variables;
-    variables.append(made)?;
-    let mut regions = chart.regions;
-    regions.push(region)?;
-    Ok(ExtendedChart {
-        name: chart.name,
-        variables,
-        signals: chart.signals,
-        befores: Items::new(alloc),
-        constants: chart.constants,
-        counts: chart.counts,
-        regions,
-    })
+    registered(alloc, chart)
+}
+
+// The chart in which they have, where it is asked of some.
+fn registered(alloc: Global, chart: ExtendedChart) -> Result<ExtendedChart, AllocError>
+    ensures { IfOk result (λ made. made ≡ registered chart) }
+{
+    let befores = chart.befores.as_slice();
+    let region = register_region(alloc, chart.variables.len(), befores);
+    let variables = register_variables(alloc, chart.variables.as_slice(), befores);
+    let widened = with_more_variables(chart, variables)?;
+    let mut made = with_last_region(widened, region)?;
+    made.befores = Items::new(alloc);
+    Ok(made)
+}
+
+// The variables for what variables were, and behind these the registers.
+fn register_variables(
+    alloc: Global,
+    variables: &[Declared],
+    befores: &[VariableId],
+) -> Result<Items<Declared>, AllocError>
+    ensures { IfOk result (λ made. made
+        ≡ before_variables variables.now 1 befores.now ++ registers variables.now 1 befores.now) }
+{
+    let mut made = before_variables(alloc, variables, befores)?;
+    made.append(registers(alloc, variables, befores)?)?;
+    Ok(made)
 }
 
 fn kind_of(variables: &[Declared], x: VariableId) -> Kind

@@ -5,6 +5,7 @@ ghost use Rattle.extended_charts.specs.Signals.{emission, reset, resets, signal_
 
 use crate::extended::{ExtendedChart, ExtendedRegion};
 use crate::making::{all_passing, alone, has_some, passing};
+use crate::parts::with_last_region;
 use chart_elements::next;
 use core_charts::Effect;
 use sc_graph::VariableId;
@@ -21,18 +22,10 @@ pub fn with_signals(alloc: Global, chart: ExtendedChart) -> Result<ExtendedChart
     if !has_some(chart.signals.as_slice()) {
         return Ok(chart);
     }
-    let region = signal_region(alloc, chart.signals.as_slice())?;
-    let mut regions = chart.regions;
-    regions.push(region)?;
-    Ok(ExtendedChart {
-        name: chart.name,
-        variables: chart.variables,
-        signals: Items::new(alloc),
-        befores: chart.befores,
-        constants: chart.constants,
-        counts: chart.counts,
-        regions,
-    })
+    let region = signal_region(alloc, chart.signals.as_slice());
+    let mut rest = chart;
+    rest.signals = Items::new(alloc);
+    with_last_region(rest, region)
 }
 
 /// The effect that emits a signal. Err: memory was refused.
