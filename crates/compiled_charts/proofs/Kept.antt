@@ -41,12 +41,12 @@ use Rattle.compiled_charts_laws.proofs.Told.{as_many_states, nodes_stand}
 use Rattle.abort_expansion_laws.specs.Layered.{IsWeaklyLayered}
 use Rattle.abort_expansion_laws.specs.Preemption.{HasImage}
 use Rattle.abort_expansion_laws.proofs.StepsByCase.{preemption_holds}
-use Rattle.reaction_laws.proofs.LayeredRanks.{reacts}
+use Rattle.reaction_laws.proofs.LayeredRanks.{reacts_in_one_way}
 use Rattle.compiled_charts.specs.Ticks.{AreTicks}
 use Rattle.compiled_charts.specs.Compiled.{CompiledChart}
-use Rattle.compiled_charts.specs.Kept.{AreSeenAlike, IsReactionSeen, ShowsItsReaction}
+use Rattle.compiled_charts.specs.Kept.{AreSeenAlike, IsReactionSeen, Reacts, ShowsItsReaction}
 use Rattle.compiled_charts.proofs.ActiveStates.{same_numbers}
-use Rattle.compiled_charts.proofs.LayeredCharts.{layered_shown, layered_reacts}
+use Rattle.compiled_charts.proofs.LayeredCharts.{layered_shown, layered_reacts, layered_only}
 
 -- ---- ticks
 
@@ -185,8 +185,14 @@ module _ (c : Chart) (image : Image) (is : IsImageOfChart c image) (kept : Keeps
       record {
         each = layered_shown c rules image.program (preemption_holds c rules is.lowers.core layered has_image) ticks controls r.accepted
             (λ ends reacts. (one (state_of_node core) own).each ticks ends controls r.accepted reacts r.reacts);
-        some = layered_reacts c rules image.program (reacts c rules layered has_image low) ticks r.accepted;
+        some = layered_reacts c rules image.program (reacts_in_one_way c rules layered has_image low) ticks r.accepted;
       }
+
+  layered_in_one_way : IsChart features.Extended c → IsWeaklyLayered c → (ds es : List Configuration) → Reacts c ticks ds → Reacts c ticks es → ds ≡ es
+  unfolding has_image
+  layered_in_one_way rules layered ds es first second =
+      let r : AreReaction image ticks (initial image.program) controls = are_reaction image ticks (initial image.program) controls are in
+      layered_only c rules image.program (reacts_in_one_way c rules layered has_image low) ticks r.accepted ds es first second
 
 pub shows_its_reaction : (x : CompiledChart) (ticks : List Inputs) (controls : List Control) → AreTicks x.image ticks (initial x.image.program) controls →
     ShowsItsReaction x ticks controls
@@ -200,6 +206,7 @@ shows_its_reaction x ticks controls are c is = ∥∥₁_map is.image.lowers.rul
       subst (λ nodes. IsReactionSeen c nodes x.states ticks controls) (sym is.nodes)
       (subst (λ states. IsReactionSeen c (stands_for c) states ticks controls) (sym is.states)
       (layered_seen c x.image is.image kept ticks controls are is.rules layered));
+  only = λ layered ds es first second. layered_in_one_way c x.image is.image kept ticks controls are is.rules layered ds es first second;
 })
 
 -- ticks that were run show it

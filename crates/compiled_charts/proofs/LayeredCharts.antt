@@ -1,4 +1,4 @@
--- What shows the reaction of the core chart of a weakly layered chart shows each reaction of the chart; and the chart has one.
+-- What shows the reaction of the core chart of a weakly layered chart shows the reaction of the chart, which has one and no other.
 use Rattle.std.proofs.Common.{ℕ, ◌≡◌, ◌<◌, true, Some, List, [], ◌∷◌, length, take, sym, ap, subst, ◌∙◌}
 use Rattle.sc_graph.specs.declared.control.Control.{Control}
 use Rattle.sc_graph.specs.Program.{Program}
@@ -21,6 +21,7 @@ use Rattle.compiled_charts_laws.specs.Reactions.{AreSeenAlike as AreSeenAlikeBy}
 use Rattle.abort_expansion_laws.specs.Ticks.{Reactive, Reaction, EachAlike, AllOf, HasAlike, Keeps}
 use Rattle.abort_expansion_laws.specs.Preemption.{chart_machine, IsActiveInCore, SeenAlike}
 use Rattle.abort_expansion_laws.proofs.StatesMapped.{states_mapped_all}
+use Rattle.reaction_laws.specs.Reacts.{ReactsInOneWay}
 use Rattle.compiled_charts.specs.Kept.{AreSeenAlike, Reacts}
 use Rattle.compiled_charts.proofs.ActiveStates.{same_numbers, same_truth, IsActiveBehind, active_behind, active_past, has_entry}
 use Rattle.compiled_charts.proofs.StateTotals.{as_many_states}
@@ -101,9 +102,15 @@ module _ (c : Chart) (rules : IsChart features.Extended c) where
       (each kept.others (back (chart_machine core) ticks (chart.initial (table core)) kept.others kept.reaction))
 
   -- by the law of reactions
-  pub layered_reacts : (q : Program) → ((ticks : List Inputs) → AllOf (AreAccepted q) ticks →
-      (ends : List Configuration) × Reaction (chart_machine c) ticks (chart.initial (table c)) ends) →
-      (ticks : List Inputs) → AllAccepted q ticks → (ends : List Configuration) × Reacts c ticks ends
-  layered_reacts q has ticks accepted =
-      let one : (ends : List Configuration) × Reaction (chart_machine c) ticks (chart.initial (table c)) ends = has ticks (all_of q ticks accepted) in
-      (one.0, back (chart_machine c) ticks (chart.initial (table c)) one.0 one.1)
+  module _ (q : Program) (has : (ticks : List Inputs) → AllOf (AreAccepted q) ticks → ReactsInOneWay c ticks) (ticks : List Inputs)
+      (accepted : AllAccepted q ticks) where
+    one : ReactsInOneWay c ticks
+    one = has ticks (all_of q ticks accepted)
+
+    pub layered_reacts : (ends : List Configuration) × Reacts c ticks ends
+    layered_reacts = (one.ends, back (chart_machine c) ticks (chart.initial (table c)) one.ends one.reacts)
+
+    pub layered_only : (ds es : List Configuration) → Reacts c ticks ds → Reacts c ticks es → ds ≡ es
+    layered_only ds es first second =
+        one.only ds (there (chart_machine c) ticks (chart.initial (table c)) ds first)
+        ∙ sym (one.only es (there (chart_machine c) ticks (chart.initial (table c)) es second))

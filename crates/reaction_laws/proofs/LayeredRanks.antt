@@ -1,4 +1,4 @@
--- The steps of a weakly layered chart that has a valid image have capped ranks, so it has a list of ends for each list of accepted inputs.
+-- The steps of a weakly layered chart that has a valid image have capped ranks, so it has one list of ends for each list of accepted inputs.
 use Rattle.std.proofs.Common.{◌≡◌, ℕ, true, Some, List, length, refl, sym, ap, subst, ◌∙◌}
 use Rattle.sc_values.specs.Access.{MayPrecede}
 use Rattle.sc_graph.specs.declared.control.Control.{Control}
@@ -25,8 +25,11 @@ use Rattle.abort_expansion_laws.specs.Ticks.{Reaction, AllOf}
 use Rattle.abort_expansion_laws.proofs.PreemptionKept.{own_tests_kept}
 use Rattle.reaction_laws.specs.Bounded.{last_of}
 use Rattle.reaction_laws.specs.CappedRanks.{HasCappedRanks}
+use Rattle.reaction_laws.specs.ChartRanks.{HasRanks}
 use Rattle.reaction_laws.specs.KeptBack.{CoreChartsDoNoMore}
+use Rattle.reaction_laws.specs.Reacts.{ReactsInOneWay}
 use Rattle.reaction_laws.proofs.CappedRanks.{capped_are_ranks}
+use Rattle.reaction_laws.proofs.ChartsSit.{one_list_of_ends}
 use Rattle.reaction_laws.proofs.CappedSteps.{IsCapped, idle_is, is_idle, uncapped}
 use Rattle.reaction_laws.proofs.ChartOrder.{step_priority, in_order}
 use Rattle.reaction_laws.proofs.LayeredRuns.{BothRest, is_valid, resting, started, takes}
@@ -36,7 +39,7 @@ use Rattle.reaction_laws.proofs.OthersLow.{RanksWithin}
 use Rattle.reaction_laws.proofs.QuietStarts.{Quiet, lowered_tests, earlier, starts_quiet}
 use Rattle.reaction_laws.proofs.RanksReact.{has_reaction}
 use Rattle.reaction_laws.proofs.RunsComplete.{enabled_there, turn_of}
-use Rattle.reaction_laws.proofs.SeenTheSame.{core_ends_alike}
+use Rattle.reaction_laws.proofs.SeenInGraph.{core_ends_alike}
 
 module _ (c : Chart) (rules : IsChart features.Extended c) (layered : IsWeaklyLayered c) (image : HasImage c) (low : IsLowering (expanded c) image.scl) where
   abbrev k : Table
@@ -150,18 +153,26 @@ module _ (c : Chart) (rules : IsChart features.Extended c) (layered : IsWeaklyLa
             to.control here.is_capped.all there.is_capped.all t u a (enabled_too x at t here.same on) (enabled_too y to u there.same on_too) apart lower));
       }
 
-  -- and a list of ends for each list of accepted inputs
-  pub reacts : (inputs : List Inputs) → AllOf (AreAccepted image.program) inputs →
-      (ends : List Configuration) × Reaction (chart_machine c) inputs (initial k) ends
-  reacts = has_reaction c rules layered image low (capped_are_ranks (chart_machine c) (AreAccepted image.program) has_capped_ranks)
+  ranks : HasRanks (chart_machine c) (AreAccepted image.program)
+  ranks = capped_are_ranks (chart_machine c) (AreAccepted image.program) has_capped_ranks
+
+  -- and one list of ends for each list of accepted inputs
+  pub reacts_in_one_way : (inputs : List Inputs) → AllOf (AreAccepted image.program) inputs → ReactsInOneWay c inputs
+  reacts_in_one_way inputs accepted =
+      let some : (ends : List Configuration) × Reaction (chart_machine c) inputs (initial k) ends =
+      has_reaction c rules layered image low ranks inputs accepted in
+      record {
+        ends = some.0;
+        reacts = some.1;
+        only = λ others react. one_list_of_ends c rules low.core (AreAccepted image.program) ranks inputs others some.0 accepted react some.1;
+      }
 
 -- so each list of ends of its core chart has one of the chart that is seen alike
 pub does_no_more : CoreChartsDoNoMore
 does_no_more c rules layered image low ticks es accepted core_reacts =
-    let those : (ends : List Configuration) × Reaction (chart_machine c) ticks (initial (table c)) ends =
-    reacts c rules layered image low ticks accepted in
+    let those : ReactsInOneWay c ticks = reacts_in_one_way c rules layered image low ticks accepted in
     record {
-      others = those.0;
-      reaction = those.1;
-      alike = core_ends_alike c rules layered image low ticks those.0 es accepted those.1 core_reacts;
+      others = those.ends;
+      reaction = those.reacts;
+      alike = core_ends_alike c rules layered image low ticks those.ends es accepted those.reacts core_reacts;
     }

@@ -10,6 +10,7 @@ pub mod EnclosedStill
 pub mod StandsStill
 pub mod SitsStill
 pub mod SitsAtStart
+pub mod NoMoves
 pub mod LowLines
 pub mod LinesAhead
 pub mod GreatestPriority
@@ -18,9 +19,10 @@ pub mod SilentTests
 pub mod CoreRuns
 pub mod RunsComplete
 pub mod LayeredRuns
-pub mod SeenTheSame
+pub mod SeenInGraph
 pub mod RanksReact
 pub mod OneReaction
+pub mod ChartsSit
 pub mod RaiseNodes
 pub mod CaughtThreads
 pub mod NoResumes

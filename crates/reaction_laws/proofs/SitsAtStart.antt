@@ -1,5 +1,5 @@
 -- Before the first tick, and as a tick starts, a chart sits as each of its steps keeps it.
-use Rattle.std.proofs.Common.{◌≡◌, ◌≢◌, ℕ, zero, suc, ◌<◌, Bool, true, false, List, [], ◌∷◌, map, length, Contains, refl, sym, ap, subst}
+use Rattle.std.proofs.Common.{◌≡◌, ◌≢◌, ℕ, zero, suc, ◌<◌, ◌⊎◌, inl, inr, ⊎_elim, Bool, true, false, List, [], ◌∷◌, map, length, Contains, refl, sym, ap, subst}
 use Rattle.std.proofs.Common.{◌∙◌, arith}
 use Rattle.std.specs.List.{list_all}
 use Rattle.std.proofs.lemmas.Bool.{and_parts}
@@ -18,13 +18,13 @@ use Rattle.chart_machine.specs.Steps.{moved, state_in}
 use Rattle.chart_machine.specs.Table.{state_at, region_at}
 use Rattle.chart_machine.specs.Turns.{standing_of, LiesIn, itself, deeper}
 use Rattle.chart_machine_laws.specs.Tree.{IsThere, IsTree, around, holder}
-use Rattle.chart_machine_laws.proofs.LyingIn.{none_in}
+use Rattle.chart_machine_laws.proofs.LyingIn.{none_in, head_in, tail_in, head_or_tail}
 use Rattle.abort_expansion_laws.specs.CoreRows.{own, IsState}
 use Rattle.abort_expansion_laws.proofs.FreshInside.{Begins, all_entered, all_apart, look, nobody_there, nobody_size}
 use Rattle.abort_expansion_laws.proofs.Leaving.{at_number, moved_size}
 use Rattle.abort_expansion_laws.proofs.StartingRegions.{Once}
 use Rattle.abort_expansion_laws.proofs.StateEntry.{Entry}
-use Rattle.reaction_laws.proofs.ApartTogether.{IsOpen, open_guarding, open_within, Top, top, lies_there}
+use Rattle.reaction_laws.proofs.ApartTogether.{IsOpen, open_guarding, open_within, lies_or_not}
 use Rattle.reaction_laws.proofs.EnclosedStill.{Firsts, begins_inner}
 use Rattle.reaction_laws.proofs.MovesInside.{LeadIn, MayStand}
 use Rattle.reaction_laws.proofs.SitsStill.{Sits}
@@ -36,7 +36,6 @@ pub record Tops (k : Table) : Type 0 where
   pub opens : k.opened ≡ all_entered k firsts
   pub states : (x : ℕ) → Contains firsts x → IsState k x × (around k (holder k x) ≡ []) × IsThere k (holder k x)
   pub once : (x : ℕ) → Contains firsts x → Once (holder k x) (map (holder k) firsts)
-  pub all : (r : ℕ) → IsThere k r → around k r ≡ [] → (x : ℕ) × Contains firsts x × (holder k x ≡ r)
 
 woken_at : (k : Table) (zs : List Standing) (q : ℕ) → at_number (map (woken k) zs) q ≡ woken k (at_number zs q)
 woken_at k [] q = refl
@@ -75,6 +74,18 @@ module _ (k : Table) (tree : IsTree k) (holder_there : (q s : ℕ) → Contains 
     (bare : (s : ℕ) → IsState k s → (state_at k s).regions ≡ [] → (state_at k s).opened ≡ []) (tops : Tops k) where
   abbrev May : ℕ → Standing → Type 0
   May r x = MayStand k tree entries elsewhere state_there r x
+
+  -- it lies in a region in which one of these states is, or in none
+  in_some : (xs : List ℕ) (q : ℕ) → ((x : ℕ) × Contains xs x × LiesIn k q (holder k x)) ⊎ ((x : ℕ) → Contains xs x → ¬ LiesIn k q (holder k x))
+  in_some [] q = inr (λ x none. absurd (none_in x none))
+  in_some (x ∷ xs) q =
+      ⊎_elim (λ lies. inl (x, head_in x xs, lies))
+      (λ out.
+      ⊎_elim (λ one. inl (one.0, tail_in x one.0 xs one.1, one.2))
+      (λ none. inr (λ y h lies.
+      ⊎_elim (λ same. out (subst (λ z. LiesIn k q (holder k z)) (sym same) lies)) (λ tail. none y tail lies) (head_or_tail x y xs h)))
+      (in_some xs q))
+      (lies_or_not k tree holder_there q (holder k x))
 
   abbrev Sitting : Configuration → Type 0
   Sitting c = Sits k tree holder_there entries elsewhere state_there firsts once leads bare c
@@ -143,22 +154,24 @@ module _ (k : Table) (tree : IsTree k) (holder_there : (q s : ℕ) → Contains 
           (look k tree entries elsewhere [] tops.firsts c.regions level x h (tops.once x h) (λ q lies. out q)))
 
       first_next : (q u : ℕ) (us : List ℕ) → around k q ≡ u ∷ us → at_number zs q ≢ at.Outside → IsOpen u (at_number zs (holder k u))
-      first_next q u us round there = by w.lies
+      first_next q u us round there = by (in_some tops.firsts q)
         where
-          w : Top k tree holder_there q
-          w = top k tree holder_there (around k q) q refl
-
           in_u : Contains (around k q) u
-          in_u = subst (λ ys. Contains ys u) (sym round) (0, omega arith, refl)
+          in_u = subst (λ ys. Contains ys u) (sym round) (head_in u us)
 
-          x : (x : ℕ) × Contains tops.firsts x × (holder k x ≡ w.side)
-          x = tops.all w.side (lies_there k tree holder_there q w.side (holder_there q u in_u).0 w.lies) w.bare
-
-          by : LiesIn k q w.side → IsOpen u (at_number zs (holder k u))
-          by (itself e) = absurd (none_in u (subst (λ ys. Contains ys u) (ap (around k) e ∙ w.bare) in_u))
-          by (deeper y inner held) =
-              begins_inner k tree holder_there entries elsewhere state_there firsts once (at_number zs) x.0 w.side x.2 (begun x.0 x.1) q y u us inner held
+          inside : (x : ℕ) → Contains tops.firsts x → LiesIn k q (holder k x) → IsOpen u (at_number zs (holder k u))
+          inside x h (itself e) = absurd (none_in u (subst (λ ys. Contains ys u) (ap (around k) e ∙ (tops.states x h).1) in_u))
+          inside x h (deeper y inner held) =
+              begins_inner k tree holder_there entries elsewhere state_there firsts once (at_number zs) x (holder k x) refl (begun x h) q y u us inner held
               round there
+
+          by : ((x : ℕ) × Contains tops.firsts x × LiesIn k q (holder k x)) ⊎ ((x : ℕ) → Contains tops.firsts x → ¬ LiesIn k q (holder k x)) →
+              IsOpen u (at_number zs (holder k u))
+          by (inl one) = inside one.0 one.1 one.2
+          by (inr none) =
+              absurd (there
+              (ap (λ ms. at_number (moved ms c.regions) q) tops.opens
+              ∙ (all_apart k tree entries elsewhere tops.firsts q c.regions (λ x h. (tops.states x h).0) none ∙ out q)))
 
       first : Sitting (now true)
       first =

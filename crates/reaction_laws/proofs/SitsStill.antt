@@ -1,5 +1,5 @@
 -- What a chart keeps by each of its steps, of its own table alone; so its machine keeps regions apart that have their turn together.
-use Rattle.std.proofs.Common.{◌≡◌, ◌≢◌, ℕ, zero, suc, ◌<◌, ◌⊎◌, ⊎_elim, true, Some, List, [], ◌∷◌, length, Contains, refl, subst, ◌∙◌}
+use Rattle.std.proofs.Common.{◌≡◌, ◌≢◌, ℕ, zero, suc, ◌<◌, ⊎_elim, true, Some, List, [], ◌∷◌, length, Contains, refl, subst, ◌∙◌}
 use Rattle.std.proofs.Common.{arith}
 use Rattle.std.proofs.lemmas.Bool.{cases_lt}
 use Rattle.chart_machine.specs.declared.standing.Configuration.{Configuration}

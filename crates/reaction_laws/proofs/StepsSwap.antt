@@ -1,6 +1,6 @@
 -- Steps of two regions of a chart that have their turn together: neither takes the other's turn, and where the protocol allows both orders, both lead
 -- to one configuration.
-use Rattle.std.proofs.Common.{◌≡◌, ◌≢◌, ℕ, suc, ◌⊎◌, ⊎_elim, Bool, true, not, ◌&&◌, ◌||◌, Some, List, [], ◌∷◌}
+use Rattle.std.proofs.Common.{◌≡◌, ◌≢◌, ℕ, suc, ⊎_elim, Bool, true, not, ◌&&◌, ◌||◌, Some, List, [], ◌∷◌}
 use Rattle.std.proofs.Common.{length, option_map, Contains, refl, sym, ap, ap₂, subst, ◌∙◌, arith}
 use Rattle.std.specs.List.{list_all}
 use Rattle.sc_values.specs.Access.{MayPrecede}

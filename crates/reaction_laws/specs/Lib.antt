@@ -1,7 +1,6 @@
 pub mod Ranked
 pub mod OneEnd
 pub mod Bounded
-pub mod Alike
 pub mod Reacts
 pub mod KeptBack
 pub mod ChartRanks

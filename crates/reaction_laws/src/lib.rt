@@ -2,7 +2,6 @@
 //! priorities in a graph, over the definitions alone.
 #![tactic(auto)]
 
-ghost use Rattle.reaction_laws.specs.Alike.{LayeredReactionsAreAlike};
 ghost use Rattle.reaction_laws.specs.Bounded.{LayeredTicksEnd};
 ghost use Rattle.reaction_laws.specs.KeptBack.{CoreChartsDoNoMore};
 ghost use Rattle.reaction_laws.specs.LowLines.{LinesStayLow};
@@ -16,18 +15,11 @@ pub fn layered_ticks_end()
     ensures { LayeredTicksEnd }
 {}
 
-/// A weakly layered chart that has a valid image has a reaction to whatever inputs that accepts: a list of ends, one
-/// for each tick, and to each of them an admissible complete run leads. This function does nothing; its contract is the
-/// law.
+/// A weakly layered chart that has a valid image reacts in one way to whatever inputs that accepts: there is a list of
+/// ends, one for each tick, to each of them an admissible complete run leads, and there is no other list. This function
+/// does nothing; its contract is the law.
 pub fn layered_charts_react()
     ensures { LayeredChartsReact }
-{}
-
-/// All reactions of a weakly layered chart that has a valid image, to the same accepted inputs, end alike: in each tick
-/// the variables have the same values, and the same states are active. This function does nothing; its contract is the
-/// law.
-pub fn layered_reactions_are_alike()
-    ensures { LayeredReactionsAreAlike }
 {}
 
 /// Each list of ends of the core chart of a weakly layered chart that has a valid image, to inputs that are accepted,

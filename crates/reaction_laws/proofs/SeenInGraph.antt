@@ -1,6 +1,5 @@
--- Two lists of ends of a layered chart are seen alike in one list of ends of its graph, so they are seen the same. So it is of one of the chart and one
--- of its core chart.
-use Rattle.std.proofs.Common.{◌≡◌, ℕ, ◌<◌, Bool, true, false, Option, Some, None, List, [], ◌∷◌, length, take, slice_get, unwrap_or, refl, sym, ap, subst, ◌∙◌}
+-- A list of ends of a weakly layered chart and one of its core chart are seen alike in the one list of ends of the graph, so they are seen alike.
+use Rattle.std.proofs.Common.{◌≡◌, ℕ, ◌<◌, true, Option, Some, None, List, [], ◌∷◌, length, take, slice_get, unwrap_or, refl, sym, ap, subst, ◌∙◌}
 use Rattle.std.proofs.lemmas.Option.{none-some, slice_get_within}
 use Rattle.sc_values.specs.Runs.{Ends}
 use Rattle.sc_graph.specs.declared.control.Control.{Control}
@@ -36,12 +35,6 @@ use Rattle.abort_expansion_laws.specs.Preemption.{chart_machine, IsActiveInCore,
 use Rattle.abort_expansion_laws.specs.Ticks.{Reactive, Reaction, AllOf, EachAlike, HasAlike}
 use Rattle.abort_expansion_laws.proofs.StatesMapped.{states_mapped_all}
 use Rattle.abort_expansion_laws.proofs.StepsByCase.{preemption_holds}
-use Rattle.reaction_laws.specs.Alike.{AreSeenTheSame, LayeredReactionsAreAlike}
-
-same_truth : (a b : Bool) → (a ≡ true → b ≡ true) → (b ≡ true → a ≡ true) → a ≡ b
-same_truth true b there back = sym (there refl)
-same_truth false true there back = back refl
-same_truth false false there back = refl
 
 -- the other spelling of lists of ends
 back : (r : Reactive) (ticks : List Inputs) (c : r.machine.Configuration) (ends : List r.machine.Configuration) →
@@ -90,20 +83,6 @@ module _ (c : Chart) (rules : IsChart features.Extended c) where
   core_state_there : (n s : ℕ) → chart_state (state_map c) n ≡ Some s → n < length (table core).states
   core_state_there n s stands = subst (λ m. n < m) (states_mapped_all c rules).0 (entry_there (state_map c) n s stands)
 
-  active_too : (x y : Configuration) (m : Control) → ShownBy x m → ShownBy y m → (s : ℕ) → is_active k x s ≡ true → is_active k y s ≡ true
-  active_too x y m first second s on =
-      let in_core : IsActiveInCore c first.core_now s = (first.kept.active s).0 on in
-      let inside : in_core.0 < length (table core).states = core_state_there in_core.0 s in_core.2 in
-      (second.kept.active s).1 (in_core.0, sym (second.shown.active in_core.0 inside) ∙ (first.shown.active in_core.0 inside ∙ in_core.1), in_core.2)
-
-  both_seen : (d e : Configuration) (m : Control) → ShownBy d m → ShownBy e m → AreSeenTheSame k d e
-  both_seen d e m first second =
-      record {
-        variables = sym first.kept.variables
-            ∙ (ap (take (length c.variables)) (sym first.shown.variables ∙ second.shown.variables) ∙ second.kept.variables);
-        active = λ s. same_truth (is_active k d s) (is_active k e s) (active_too d e m first second s) (active_too e d m second first s);
-      }
-
   -- another one of the core chart that is shown keeps the chart's too
   module _ (d e : Configuration) (m : Control) (first : ShownBy d m) (shown : AreSeenAlike (table core) (state_of_node core) e m) where
     active_there : (s : ℕ) → is_active k d s ≡ true → IsActiveInCore c e s
@@ -134,14 +113,6 @@ module _ (c : Chart) (rules : IsChart features.Extended c) where
   through [] (x ∷ xs) ms kept shown = absurd kept
   through (d ∷ ds) [] ms kept shown = absurd kept
 
-  all_seen : (ds es : List Configuration) (ms : List Control) → EachAlike ShownBy ds ms → EachAlike ShownBy es ms → EachAlike (AreSeenTheSame k) ds es
-  all_seen [] [] [] first second = tt
-  all_seen (d ∷ ds) (e ∷ es) (m ∷ ms) first second = (both_seen d e m first.0 second.0, all_seen ds es ms first.1 second.1)
-  all_seen [] es (m ∷ ms) first second = absurd first
-  all_seen (d ∷ ds) es [] first second = absurd first
-  all_seen [] (e ∷ es) [] first second = absurd second
-  all_seen (d ∷ ds) [] (m ∷ ms) first second = absurd second
-
   all_kept : (ds es : List Configuration) (ms : List Control) → EachAlike ShownBy ds ms →
       EachPair (AreSeenAlike (table core) (state_of_node core)) es ms → EachAlike (λ e d. SeenAlike c d e) es ds
   all_kept [] [] [] first shown = tt
@@ -165,22 +136,6 @@ module _ (c : Chart) (rules : IsChart features.Extended c) where
     one : HasOneReaction core (state_of_node core) G
     one = one_reaction core image.scl image.tables low valid (state_of_node core) (nodes_stand core image.scl low)
 
-    pub ends_are_alike : (ticks : List Inputs) (ds es : List Configuration) → AllOf (AreAccepted image.program) ticks →
-        Reaction (chart_machine c) ticks (initial k) ds → Reaction (chart_machine c) ticks (initial k) es → EachAlike (AreSeenTheSame k) ds es
-    ends_are_alike ticks ds es accepted d_reacts e_reacts =
-        let keeps = preemption_holds c rules low.core layered image in
-        let d_core : HasAlike (chart_machine core) Configuration (SeenAlike c) ticks (initial (table core)) ds = keeps ticks ds accepted d_reacts in
-        let e_core : HasAlike (chart_machine core) Configuration (SeenAlike c) ticks (initial (table core)) es = keeps ticks es accepted e_reacts in
-        let those : GraphEnds G image.tables valid ticks (graph_tick.initial G) =
-        graph_reacts G image.tables valid ticks (graph_tick.initial G) (rests-initial G) (all_accepted ticks accepted) in
-        all_seen ds es those.ends
-        (through ds d_core.others those.ends d_core.alike
-        (one.each ticks d_core.others those.ends (all_accepted ticks accepted)
-        (back (chart_machine core) ticks (initial (table core)) d_core.others d_core.reaction) those.reacts))
-        (through es e_core.others those.ends e_core.alike
-        (one.each ticks e_core.others those.ends (all_accepted ticks accepted)
-        (back (chart_machine core) ticks (initial (table core)) e_core.others e_core.reaction) those.reacts))
-
     pub core_ends_alike : (ticks : List Inputs) (ds es : List Configuration) → AllOf (AreAccepted image.program) ticks →
         Reaction (chart_machine c) ticks (initial k) ds → Reaction (chart_machine core) ticks (initial (table core)) es →
         EachAlike (λ e d. SeenAlike c d e) es ds
@@ -194,7 +149,3 @@ module _ (c : Chart) (rules : IsChart features.Extended c) where
         (one.each ticks d_core.others those.ends (all_accepted ticks accepted)
         (back (chart_machine core) ticks (initial (table core)) d_core.others d_core.reaction) those.reacts))
         (one.each ticks es those.ends (all_accepted ticks accepted) (back (chart_machine core) ticks (initial (table core)) es e_reacts) those.reacts)
-
-pub reactions_alike : LayeredReactionsAreAlike
-reactions_alike c rules layered image low ticks ds es accepted d_reacts e_reacts =
-    ends_are_alike c rules layered image low ticks ds es accepted d_reacts e_reacts
