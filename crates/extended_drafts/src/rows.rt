@@ -4,7 +4,7 @@ ghost use Rattle.std.specs.Prelude.{◌≡◌, [], ◌∷◌, ◌++◌, IfOk, On
 ghost use Rattle.extended_drafts.specs.Draft.{no_rows, both_rows, body_of, actions_of, state_with};
 
 use crate::draft::{DraftEntry, DraftRows, DraftWay, StateActions, StateBody};
-use chart_drafts::{DraftState, DraftTransition};
+use chart_drafts::DraftState;
 use drafts::Named;
 use sqlite_items::Items;
 use std::alloc::{AllocError, Global};
@@ -76,8 +76,10 @@ pub(crate) fn state_with(
 fn actions_of(is_final: bool, entries: Items<DraftEntry>) -> StateActions
     ensures { result ≡ actions_of is_final entries }
 {
-    let may_last = !is_final;
-    StateActions { entries, may_last }
+    StateActions {
+        entries,
+        may_last: !is_final,
+    }
 }
 
 // The rows of what is in a state, behind its own actions, and those of its transitions.
