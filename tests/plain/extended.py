@@ -238,7 +238,7 @@ class ExtendedRules(ChartRules):
     def new_in(self, state):
         for action in state.actions:
             self.word(action, (LASTING,) if action.immediate or action.trigger else (*ACTION_WORDS, LASTING))
-            if action.name == LASTING and (state.is_final or any(t.kind == "join" for t in state.transitions)):
+            if action.name == LASTING and state.is_final:
                 self.flaw(6, action.place)
             if action.trigger:
                 self.expression(action.trigger[1], action.trigger[0], "bool")

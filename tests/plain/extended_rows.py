@@ -122,4 +122,19 @@ CHARTS = [
     chart(f"region R {{ initial state s {{ exit do {tells(1)}; immediate during do {tells(2)}; region Q {{ initial state a "
           f"{{ entry do y = y + 1; exit do y = y * 2; go if A -> b; }} state b {{ exit do y = y + 7; go if B -> a; }} }} "
           f"strong if A and B do {tells(7)} -> t; weak if I > 2 do {tells(8)} -> t; }} state t {acts(9, 'go if B -> s;')} }}"),
+    # of superstates that are left by their termination: they end with what is inside, in the tick of the entry too, and at once
+    # or later with its trigger, which reads what they set; aborts go before it
+    chart("region R { initial state s { during do y = y + 1; immediate during if B do y = y + 10; region Q { initial state a { go if A -> b; } "
+          "state b { go -> c; } final state c; } region M { initial state d { go if B -> e; } final state e; } strong if I > 3 do x = y -> t; "
+          "join do x = x + y -> t; } state t { go if not B -> s; } }"),
+    chart("region R { initial state s { during do y = y + 1; immediate during if B do y = y + 10; region Q { initial state a { go immediate if A -> b; "
+          "go if B -> b; } final state b; } join do x = x * 3 + y -> t; } state t { go -> s; } }"),
+    chart("region R { initial state s { entry do y = 0; immediate during do y = y + I; region Q { initial final state a; } weak if I > 3 -> t; "
+          "join if y > 5 do x = x * 3 + y -> t; } state t { go -> s; } }"),
+    chart("region R { initial state s { immediate during do y = y * 3 + 1; region Q { initial state a { during do x = x * 3 + 2; region M { initial state d { "
+          "go immediate if B -> e; go if A -> e; } final state e; } join if I < 3 -> b; } final state b; } join do x = x + 1 -> t; } state t { go -> s; } }"),
+    # what is inside makes its exit actions as the superstate is left, behind the during actions, and not as it ends
+    chart("region R { initial state s { exit do y = y * 3 + 1; during do y = y * 3 + x; region Q { initial state a { exit do x = x * 3 + 3; go if A -> b; } "
+          "final state b { entry do x = x * 3 + 4; exit do x = x * 3 + 5; } } strong if I > 3 -> t; weak if I < 0 -> t; join if B do x = x * 3 + 6, y = y * 3 + 7 -> t; } "
+          "state t { go if not A -> s; } }"),
 ]

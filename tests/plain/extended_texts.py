@@ -100,8 +100,8 @@ TEXTS = {
         HEAD + "region R { initial state s { go do ^N = 1 -> s; } } }",
         HEAD + "region R { initial final state ^s { exit do x = 1; go -> s; } } }",
         HEAD + "region R { initial final state s { ^during do x = 1; } } }", HEAD + "region R { initial final state s { immediate ^during if b do x = 1; } } }",
-        HEAD + "region R { initial state s { ^during do x = 1; region Q { initial state t; } join -> s; } } }",
-        HEAD + "region R { initial state s { entry do x = 1; ^during do n = 1; region Q { initial state t; } weak if b -> s; join if b -> s; } } }",
+        HEAD + "region R { initial state s { entry do x = 1; during do ^n = 1; region Q { initial state t; } weak if b -> s; join if b -> s; } } }",
+        HEAD + "region R { initial state s { region Q { initial final state t { ^during do x = 1; } } join -> s; } } }",
         HEAD + "region R { initial state s { during do ^n = 1; } } }", HEAD + "region R { initial state s { during do ^q = true; } } }",
         HEAD + "region R { initial state s { during do x = 1; ^weak -> s; } } }",
     ],
@@ -130,6 +130,8 @@ TEXTS = {
         HEAD + "region R { initial state s { during do x += 1; entry do x = 1; immediate during if b and n < N do emit q, a = x; during if i do x = 1; "
         "go immediate -> s; go after 2 -> s; } final state t { entry do x = 1; } } }",
         HEAD + "region R { initial state s { immediate during do x = 1; region Q { initial state t { during do a = 1; } } strong if b -> s; weak -> s; } } }",
+        HEAD + "region R { initial state s { during do x = 1; region Q { initial state t; } join -> s; } } }",
+        HEAD + "region R { initial state s { immediate during if b do x = 1; region Q { initial state t; } weak if b -> s; join if i -> s; } } }",
         "extended chart during { local bool during; region during { initial state during { during if during do during = not during; go -> during; } } }",
         "extended chart shallow { output bool history; region shallow { initial state shallow { region history { initial state history; } "
         "weak if history -> history; } state history { go after 2 -> shallow history shallow; go -> shallow; } } }",
@@ -303,7 +305,7 @@ class ExtendedGenerator(ChartGenerator):
     def durings(self, s):
         """Beside the regions of a superstate they clash more often."""
         r = self.random
-        if s.is_final or s.of_kind("join") or (s.regions and r.random() < 0.6):
+        if s.is_final or (s.regions and r.random() < (0.3 if s.of_kind("join") else 0.6)):
             return []
         actions = [self.actions("during") for _ in range(r.choice([1, 1, 2, 3]))]
         return [During(r.random() < 0.4, self.trigger() if r.random() < 0.5 else None, effects) for effects in actions if effects]

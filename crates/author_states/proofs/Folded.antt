@@ -88,7 +88,7 @@ counts_kept first n = regions_kept (counts.state_step first n) (λ s inner same.
 
 -- ---- during actions
 
-steps_silent : (place : ℕ) (ds : List During) → Silent (durings.steps place ds)
+pub steps_silent : (place : ℕ) (ds : List During) → Silent (durings.steps place ds)
 steps_silent place [] = λ around before. refl
 steps_silent place (d ∷ ds) =
     one_silent (durings.step place d) (durings.steps (suc place) ds)
@@ -122,6 +122,21 @@ durings_kept = regions_kept durings.state_step (λ s inner same.
 
 -- ---- terminations with triggers
 
+pub ended_silent : Silent (holds.ended ∷ [])
+ended_silent around before =
+    append-nil (own_in_state holds.ended around before)
+    ∙ state_parts (record {
+      name = codes "end__1";
+      is_own = false;
+      is_initial = false;
+      is_final = true;
+      entry = [];
+      exit = [];
+      during = [];
+      regions = [];
+      transitions = [];
+    }) around before
+
 body_own : (inner : List ExtendedRegion) (trigger : Expr) (around before : List ℕ)
     → among (map own_in_state (holds.body inner ∷ holds.hold trigger ∷ holds.ended ∷ [])) around before ≡ beside (map own_in_region inner) around
 body_own inner trigger around before =
@@ -139,21 +154,6 @@ body_own inner trigger around before =
       regions = inner;
       transitions = record (always false [] 1) { kind = kind.Join } ∷ [];
     }) around before
-  where
-    ended_silent : Silent (holds.ended ∷ [])
-    ended_silent around before =
-        append-nil (own_in_state holds.ended around before)
-        ∙ state_parts (record {
-          name = codes "end__1";
-          is_own = false;
-          is_initial = false;
-          is_final = true;
-          entry = [];
-          exit = [];
-          during = [];
-          regions = [];
-          transitions = [];
-        }) around before
 
 held_same : (condition : Option Expr) (inner regions : List ExtendedRegion) → SameRegions inner regions
     → SameRegions (holds.held condition inner) regions

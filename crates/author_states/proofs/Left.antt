@@ -11,6 +11,7 @@ use Rattle.extended_charts.specs.declared.extended.ExtendedRegion.TheFolds.{fold
 use Rattle.extended_charts.specs.declared.leaving.Leaving.{Leaving}
 use Rattle.extended_charts.specs.Making.{always, has_some, one}
 use Rattle.extended_charts.specs.Exits.{LeftRegion, LeftState, all_behind, all_regions, all_states, behind, departures, left_behind, left_region}
+use Rattle.extended_charts.specs.Exits.{left_in}
 use Rattle.extended_charts.specs.Exits.{left_state, left_transitions, leavings_in, noted, notes, outer_regions, own_note, parting, region_step, state_step}
 use Rattle.extended_charts.specs.Exits.{way_out, ways_out, with_behind}
 use Rattle.sc_text.proofs.EachItem.{Each}
@@ -100,7 +101,7 @@ state_made s h own number x place around before =
       exit = [];
       during = [];
       regions = all_regions x left;
-      transitions = left_transitions place (leavings_in x left) (parting own s.exit) s.transitions;
+      transitions = left_transitions place (left_in s.is_own (leavings_in x left)) (parting own s.exit) s.transitions;
     }) s refl refl (regions_left s.regions h x) around before
 
 state_behind : (s : ExtendedState-F ExtendedRegion ExtendedState) (own : Option ℕ) (x place : ℕ)
@@ -108,7 +109,7 @@ state_behind : (s : ExtendedState-F ExtendedRegion ExtendedState) (own : Option 
 state_behind s own x place around before =
     ap (λ (t : LeftState). among (map own_in_state (t.behind own x place)) around before)
     (fold-roll-ExtendedState LeftRegion LeftState region_step state_step s)
-    ∙ left_silent place (leavings_in x (map left_region s.regions)) (parting own s.exit) s.transitions around before
+    ∙ left_silent place (left_in s.is_own (leavings_in x (map left_region s.regions))) (parting own s.exit) s.transitions around before
 
 left : Cases RegionLeft StateLeft
 left = record {

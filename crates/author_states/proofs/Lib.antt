@@ -1,4 +1,5 @@
 mod Folded
+mod Ended
 mod Left
 mod Made
 mod Once

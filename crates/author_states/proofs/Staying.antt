@@ -15,6 +15,7 @@ use Rattle.extended_charts.specs.Clocks as clocks
 use Rattle.extended_charts.specs.Constants.{named_values, without_constants}
 use Rattle.extended_charts.specs.Counts as counts
 use Rattle.extended_charts.specs.Durings.{with_durings}
+use Rattle.extended_charts.specs.Endings as endings
 use Rattle.extended_charts.specs.Exits.{with_exits}
 use Rattle.extended_charts.specs.Histories as histories
 use Rattle.extended_charts.specs.Holds.{with_holds}
@@ -24,6 +25,7 @@ use Rattle.extended_charts.specs.Registers as registers
 use Rattle.extended_charts.specs.Signals as signals
 use Rattle.author_states.specs.Own.{among, own_in_region, own_in_state, own_paths}
 use Rattle.state_paths.specs.Paths.{beside}
+use Rattle.author_states.proofs.Ended.{endings_kept}
 use Rattle.author_states.proofs.Folded.{constants_kept, counts_kept, durings_kept, holds_kept}
 use Rattle.author_states.proofs.Left.{exits_kept}
 use Rattle.author_states.proofs.Made.{all_passing_silent, made_silent, one_silent, passing_silent, silent_region}
@@ -99,6 +101,15 @@ histories_stay c =
 durings_stay : Stays with_durings
 durings_stay c = durings_kept c.regions
 
+where_none : (none : Bool) (c d : ExtendedChart) → SameRegions d.regions c.regions → SameRegions (if none then c else d).regions c.regions
+where_none true c d same = λ around. refl
+where_none false c d same = same
+
+endings_stay : Stays endings.with_endings
+endings_stay c =
+    let count : ℕ = endings.endings_in (map endings.ending_in_region c.regions) in
+    where_none (count == 0) c (endings.ending count c) (endings_kept (length c.variables) c.regions)
+
 counts_stay : Stays counts.with_counts
 counts_stay c =
     let first : ℕ = length c.variables in
@@ -107,10 +118,6 @@ counts_stay c =
     where_some c.counts c (counts.counted first c) (λ around.
     silent_region (codes "counts__1") (counts.count_states begun first c.counts) regions (counts_silent begun first c.counts) around
     ∙ counts_kept first (length c.counts) c.regions around)
-
-where_none : (none : Bool) (c d : ExtendedChart) → SameRegions d.regions c.regions → SameRegions (if none then c else d).regions c.regions
-where_none true c d same = λ around. refl
-where_none false c d same = same
 
 clocks_stay : Stays clocks.with_clocks
 clocks_stay c =
@@ -166,13 +173,14 @@ all_stay : Stays with_entry
 all_stay c around =
     let a : ExtendedChart = with_variables c in
     let b : ExtendedChart = histories.with_histories a in
-    let d : ExtendedChart = with_durings b in
+    let i : ExtendedChart = endings.with_endings b in
+    let d : ExtendedChart = with_durings i in
     let e : ExtendedChart = counts.with_counts d in
     let f : ExtendedChart = clocks.with_clocks e in
     let g : ExtendedChart = with_exits f in
     let h : ExtendedChart = with_holds g in
-    settings_stay h around ∙ holds_stay g around ∙ exits_stay f around ∙ clocks_stay e around ∙ counts_stay d around ∙ durings_stay b around
-    ∙ histories_stay a around ∙ variables_stay c around
+    settings_stay h around ∙ holds_stay g around ∙ exits_stay f around ∙ clocks_stay e around ∙ counts_stay d around ∙ durings_stay i around
+    ∙ endings_stay b around ∙ histories_stay a around ∙ variables_stay c around
 
 pub authors_stay : (c : ExtendedChart) → own_paths (with_entry c).regions ≡ own_paths c.regions
 authors_stay c = all_stay c []

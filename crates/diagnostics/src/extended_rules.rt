@@ -155,12 +155,12 @@ fn history_words(alloc: Global, name: &str) -> Result<Words, AllocError> {
     Ok(Words { cause, cure })
 }
 
-// The words for a during action that is never made.
+// The words for a during action of a final state.
 fn during_words(alloc: Global) -> Result<Words, AllocError> {
     Words::of(
         alloc,
-        "this state is final, or a `join` leaves it: it has no `during`",
-        "put the action into a region inside, or into the states of one",
+        "this state is final: it has no `during`",
+        "a final state ends its region: put the action into a state before it",
     )
 }
 

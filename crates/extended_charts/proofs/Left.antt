@@ -7,7 +7,7 @@ use Rattle.extended_charts.specs.declared.extended.ExtendedRegion.TheViews.{out-
 use Rattle.extended_charts.specs.declared.extended.ExtendedRegion.TheFolds.{fold_out-ExtendedRegion, fold_out-ExtendedState}
 use Rattle.extended_charts.specs.Exits.{LeftRegion, LeftState, region_step, state_step, left_region, left_state}
 use Rattle.extended_charts.specs.Exits.{exits_of, leavings_in, leavings_among, own_leaving}
-use Rattle.extended_charts.specs.Exits.{notes_in, all_regions, noted, parting, left_transitions, left_behind}
+use Rattle.extended_charts.specs.Exits.{left_in, notes_in, all_regions, noted, parting, left_transitions, left_behind}
 
 pub state_inside : (s : ExtendedState) → (left_state s).inside ≡ notes_in (map left_region (out-ExtendedState s).regions)
 state_inside s = ap (λ l. l.inside) (fold_out-ExtendedState LeftRegion LeftState region_step state_step s)
@@ -38,7 +38,8 @@ made_of s own number x place leavings = roll-ExtendedState (record {
   exit = [];
   during = [];
   regions = all_regions x (map left_region (out-ExtendedState s).regions);
-  transitions = left_transitions place leavings (parting own (out-ExtendedState s).exit) (out-ExtendedState s).transitions;
+  transitions =
+      left_transitions place (left_in (out-ExtendedState s).is_own leavings) (parting own (out-ExtendedState s).exit) (out-ExtendedState s).transitions;
 })
 
 pub state_made : (s : ExtendedState) (own : Option ℕ) (number x place : ℕ) → (left_state s).made own number x place
@@ -47,8 +48,13 @@ state_made s own number x place =
     ap (λ l. l.made own number x place) (fold_out-ExtendedState LeftRegion LeftState region_step state_step s)
     ∙ ap (made_of s own number x place) (sym (state_leavings s x))
 
+-- what stands behind it
+abbrev behind_of : ExtendedState → (own : Option ℕ) (place : ℕ) → List Leaving → List ExtendedState
+behind_of s own place leavings =
+    left_behind place (left_in (out-ExtendedState s).is_own leavings) (parting own (out-ExtendedState s).exit) (out-ExtendedState s).transitions
+
 pub state_behind : (s : ExtendedState) (own : Option ℕ) (x place : ℕ) → (left_state s).behind own x place
-    ≡ left_behind place ((left_state s).leavings x) (parting own (out-ExtendedState s).exit) (out-ExtendedState s).transitions
+    ≡ behind_of s own place ((left_state s).leavings x)
 state_behind s own x place =
     ap (λ l. l.behind own x place) (fold_out-ExtendedState LeftRegion LeftState region_step state_step s)
-    ∙ ap (λ ls. left_behind place ls (parting own (out-ExtendedState s).exit) (out-ExtendedState s).transitions) (sym (state_leavings s x))
+    ∙ ap (behind_of s own place) (sym (state_leavings s x))

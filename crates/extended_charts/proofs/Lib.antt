@@ -3,6 +3,7 @@ pub mod Left
 pub mod PastStates
 pub mod HeldStates
 pub mod ActingStates
+pub mod EndingStates
 pub mod CountedStates
 pub mod Handed
 pub mod Emitting
@@ -11,6 +12,7 @@ pub mod PlainParts
 pub mod PlainValues
 pub mod PlainClocks
 pub mod PlainExits
+pub mod PlainEndings
 pub mod PlainDurings
 pub mod PlainHistories
 pub mod PlainHolds

@@ -18,6 +18,7 @@ use Rattle.extended_charts.specs.Counts.{with_counts}
 use Rattle.extended_charts.specs.Clocks.{clocked, with_clocks}
 use Rattle.extended_charts.specs.Exits.{left_region, outer_regions, with_exits}
 use Rattle.extended_charts.specs.Histories.{recalling, with_histories}
+use Rattle.extended_charts.specs.Endings.{ending, with_endings}
 use Rattle.extended_charts.specs.Durings.{acting_region, with_durings}
 use Rattle.extended_charts.specs.Holds.{held_region, with_holds}
 use Rattle.extended_charts.specs.Initial.{framed, with_settings}
@@ -29,6 +30,7 @@ use Rattle.extended_charts.proofs.PlainValues.{nothing_set, nothing_named, Regio
 use Rattle.extended_charts.proofs.PlainClocks.{RegionUntimed, StateUntimed, no_clocks_in, nothing_timed}
 use Rattle.extended_charts.proofs.PlainExits.{RegionUnleft, StateUnleft, none_inside, outer_stay, nothing_left}
 use Rattle.extended_charts.proofs.PlainHistories.{RegionKeeps, StateKeeps, none_kept_in, nothing_recalled}
+use Rattle.extended_charts.proofs.PlainEndings.{RegionUnended, StateUnended, no_endings_in, nothing_ends}
 use Rattle.extended_charts.proofs.PlainDurings.{RegionActs, StateActs, nothing_acts}
 use Rattle.extended_charts.proofs.PlainHolds.{RegionHeld, StateHeld, nothing_held}
 use Rattle.extended_charts.proofs.PlainEntry.{RegionStands, StateStands, regions_stand, all_stand}
@@ -83,6 +85,11 @@ durings_stay c h =
     let each = each_region c.variables RegionActs StateActs (nothing_acts c.variables) depth_limit c.regions h.regions in
     ap (λ rs. record (of_chart c) { regions = rs }) (both_same acting_region of_region c.regions each)
 
+endings_stay : (c : Chart) → IsChart features.Extended c → with_endings (of_chart c) ≡ of_chart c
+endings_stay c h =
+    let each = each_region c.variables RegionUnended StateUnended (nothing_ends c.variables) depth_limit c.regions h.regions in
+    ap (λ n. if n == 0 then of_chart c else ending n (of_chart c)) (no_endings_in c.regions each)
+
 histories_stay : (c : Chart) → IsChart features.Extended c → with_histories (of_chart c) ≡ of_chart c
 histories_stay c h =
     let each = each_region c.variables RegionKeeps StateKeeps (nothing_recalled c.variables) depth_limit c.regions h.regions in
@@ -90,9 +97,12 @@ histories_stay c h =
 
 pub nothing_is_added : (c : Chart) → IsChart features.Extended c → with_entry (of_chart c) ≡ of_chart c
 nothing_is_added c h =
-    ap (λ e. with_settings (with_holds (with_exits (with_clocks (with_counts (with_durings (with_histories (with_registers (with_signals e)))))))))
+    ap
+    (λ e. with_settings (with_holds (with_exits (with_clocks (with_counts (with_durings (with_endings (with_histories (with_registers
+    (with_signals e))))))))))
     (constants_stay c h)
-    ∙ ap (λ e. with_settings (with_holds (with_exits (with_clocks (with_counts (with_durings e)))))) (histories_stay c h)
+    ∙ ap (λ e. with_settings (with_holds (with_exits (with_clocks (with_counts (with_durings (with_endings e))))))) (histories_stay c h)
+    ∙ ap (λ e. with_settings (with_holds (with_exits (with_clocks (with_counts (with_durings e)))))) (endings_stay c h)
     ∙ ap (λ e. with_settings (with_holds (with_exits (with_clocks (with_counts e))))) (durings_stay c h)
     ∙ ap (λ e. with_settings (with_holds (with_exits e))) (clocks_stay c h)
     ∙ ap (λ e. with_settings (with_holds e)) (exits_stay c h)

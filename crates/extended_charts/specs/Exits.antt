@@ -86,6 +86,11 @@ abbrev pub left_behind : (place : ℕ) → List Leaving → (own : List Effect) 
 left_behind place leavings own transitions =
     if has_some leavings then ways_out place leavings own transitions else []
 
+-- what is active in a state that a reduction made is left with the author's state around it
+abbrev pub left_in : (is_own : Bool) → List Leaving → List Leaving
+left_in true leavings = leavings
+left_in false leavings = []
+
 -- ---- states and regions: how many regions in them note where they are, what is left of these where variables from x on
 -- note it, and what is made then
 
@@ -183,9 +188,9 @@ state_step s =
         exit = [];
         during = [];
         regions = all_regions x s.regions;
-        transitions = left_transitions place (leavings_in x s.regions) (parting own s.exit) s.transitions;
+        transitions = left_transitions place (left_in s.is_own (leavings_in x s.regions)) (parting own s.exit) s.transitions;
       });
-      behind = λ own x place. left_behind place (leavings_in x s.regions) (parting own s.exit) s.transitions;
+      behind = λ own x place. left_behind place (left_in s.is_own (leavings_in x s.regions)) (parting own s.exit) s.transitions;
     }
 
 abbrev pub left_region : ExtendedRegion → LeftRegion

@@ -9,6 +9,7 @@ pub mod Clocks
 pub mod Exits
 pub mod Histories
 pub mod Holds
+pub mod Endings
 pub mod Initial
 pub mod Entry
 pub mod Rows

@@ -1,5 +1,5 @@
 -- The chart to which an extended chart is reduced. The passes come in this order: constants, signals, what variables were
--- before, histories, during actions, counts, the ticks since a state was entered, exit actions, terminations with triggers,
+-- before, histories, during actions that end, during actions, counts, the ticks since a state was entered, exit actions, terminations with triggers,
 -- initial values, entry actions. No pass behind that of during actions keeps any.
 use Rattle.std.specs.Prelude.{◌≡◌, map}
 use Rattle.core_charts.specs.declared.features.Features.TheVariants as features
@@ -13,6 +13,7 @@ use Rattle.extended_charts.specs.Constants.{without_constants}
 use Rattle.extended_charts.specs.Signals.{with_signals}
 use Rattle.extended_charts.specs.Registers.{with_registers}
 use Rattle.extended_charts.specs.Histories.{with_histories}
+use Rattle.extended_charts.specs.Endings.{with_endings}
 use Rattle.extended_charts.specs.Durings.{with_durings}
 use Rattle.extended_charts.specs.Counts.{with_counts}
 use Rattle.extended_charts.specs.Clocks.{with_clocks}
@@ -29,7 +30,7 @@ with_variables c = with_registers (with_signals (without_constants c))
 -- the chart that has nothing but entry actions left
 abbrev pub with_entry : ExtendedChart → ExtendedChart
 with_entry c =
-    with_settings (with_holds (with_exits (with_clocks (with_counts (with_durings (with_histories (with_variables c)))))))
+    with_settings (with_holds (with_exits (with_clocks (with_counts (with_durings (with_endings (with_histories (with_variables c))))))))
 
 -- the chart of one that has nothing but entry actions
 abbrev pub chart_of : ExtendedChart → Chart

@@ -62,8 +62,12 @@ fn step(alloc: Global, place: u32, during: &During) -> Result<ExtendedState, All
     Ok(made_state(alloc, name, place == 0, Items::new(alloc), transitions))
 }
 
-// States from this place on that make these actions.
-fn steps(alloc: Global, first: u32, durings: &[During]) -> Result<Items<ExtendedState>, AllocError>
+/// States from this place on that make these actions. Err: memory was refused.
+pub(crate) fn steps(
+    alloc: Global,
+    first: u32,
+    durings: &[During],
+) -> Result<Items<ExtendedState>, AllocError>
     ensures { IfOk result (λ made. made ≡ steps first durings.now) }
 {
     let mut made = Items::new(alloc);
@@ -75,7 +79,8 @@ fn steps(alloc: Global, first: u32, durings: &[During]) -> Result<Items<Extended
     Ok(made)
 }
 
-fn immediate_ones(alloc: Global, durings: &[During]) -> Result<Items<During>, AllocError>
+/// Those that are immediate. Err: memory was refused.
+pub(crate) fn immediate_ones(alloc: Global, durings: &[During]) -> Result<Items<During>, AllocError>
     ensures { IfOk result (λ made. made ≡ immediate_ones durings.now) }
 {
     let mut made = Items::new(alloc);

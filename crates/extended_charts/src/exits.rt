@@ -1,12 +1,12 @@
 //! Exit actions: a transition makes those of the state that it leaves, behind those of what is active in it.
 
 ghost use Rattle.std.specs.Prelude.{◌≡◌, ◌+◌, IfOk, map};
-ghost use Rattle.extended_charts.specs.Exits.{noted, parting, own_note, left_region, left_state, all_regions};
+ghost use Rattle.extended_charts.specs.Exits.{noted, parting, own_note, left_in, left_region, left_state, all_regions};
 ghost use Rattle.extended_charts.specs.Exits.{with_behind, all_inside, outer_regions, with_exits};
 
 use crate::departures::{left_behind, left_transitions, set};
 use crate::extended::{ExtendedChart, ExtendedRegion, ExtendedState};
-use crate::leaving::{has_exit, have_exits, inside, notes, state_inside, state_leavings};
+use crate::leaving::{Leaving, has_exit, have_exits, inside, notes, state_inside, state_leavings};
 use crate::making::{alone, count, has_some, integers, one, sum, variable};
 use core_charts::{Effect, copied_effects};
 use sc_graph::VariableId;
@@ -85,6 +85,13 @@ fn place_behind(place: u32, width: u32) -> Result<u32, AllocError>
     } else {
         Ok(behind)
     }
+}
+
+// What is active in a state that a reduction made is left with the author's state around it.
+fn left_in(alloc: Global, is_own: bool, leavings: Items<Leaving>) -> Items<Leaving>
+    ensures { result ≡ left_in is_own leavings }
+{
+    if is_own { leavings } else { Items::new(alloc) }
 }
 
 // How many regions note where they are.
@@ -191,7 +198,7 @@ fn left_state(
 {
     let exit = state.exit.as_slice();
     let transitions = state.transitions.as_slice();
-    let leavings = state_leavings(alloc, x, state)?;
+    let leavings = left_in(alloc, state.is_own, state_leavings(alloc, x, state)?);
     let parting = parting(alloc, own, exit)?;
     let mut entry = noted(alloc, own, number, exit)?;
     entry.append(copied_effects(alloc, state.entry.as_slice())?)?;
@@ -226,7 +233,7 @@ fn behind(
     ensures { IfOk result (λ made. made ≡ (left_state state.now).behind own x place) }
 {
     let transitions = state.transitions.as_slice();
-    let leavings = state_leavings(alloc, x, state)?;
+    let leavings = left_in(alloc, state.is_own, state_leavings(alloc, x, state)?);
     let parting = parting(alloc, own, state.exit.as_slice())?;
     left_behind(
         alloc,

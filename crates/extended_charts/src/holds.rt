@@ -29,8 +29,11 @@ pub fn with_holds(alloc: Global, chart: ExtendedChart) -> Result<ExtendedChart, 
     })
 }
 
-// The trigger of the termination, if it has one.
-fn condition(alloc: Global, transitions: &[Transition]) -> Result<Option<Expr>, AllocError>
+/// The trigger of the termination, if it has one. Err: memory was refused.
+pub(crate) fn condition(
+    alloc: Global,
+    transitions: &[Transition],
+) -> Result<Option<Expr>, AllocError>
     ensures { IfOk result (λ trigger. trigger ≡ condition transitions.now) }
 {
     for transition in transitions {
@@ -52,7 +55,11 @@ fn untested(alloc: Global, transition: &Transition) -> Result<Transition, AllocE
     Ok(copy)
 }
 
-fn all_untested(alloc: Global, transitions: &[Transition]) -> Result<Items<Transition>, AllocError>
+/// Copies of transitions; that of a termination has no trigger. Err: memory was refused.
+pub(crate) fn all_untested(
+    alloc: Global,
+    transitions: &[Transition],
+) -> Result<Items<Transition>, AllocError>
     ensures { IfOk result (λ made. made ≡ map untested transitions.now) }
 {
     let mut made = Items::new(alloc);
@@ -91,7 +98,8 @@ fn hold(alloc: Global, trigger: Expr) -> Result<ExtendedState, AllocError>
     Ok(made_state(alloc, plain("hold__1"), false, regions, transitions))
 }
 
-fn ended(alloc: Global) -> ExtendedState
+/// The state in which such a region has ended.
+pub(crate) fn ended(alloc: Global) -> ExtendedState
     ensures { result ≡ ended }
 {
     ExtendedState {

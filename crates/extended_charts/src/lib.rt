@@ -3,12 +3,14 @@
 //! actions, terminations with triggers and initial values.
 #![tactic(auto)]
 
+mod beginnings;
 mod clocks;
 mod constants;
 mod copies;
 mod counts;
 mod departures;
 mod durings;
+mod endings;
 mod entry;
 mod exits;
 mod extended;
@@ -30,6 +32,7 @@ pub use clocks::with_clocks;
 pub use constants::without_constants;
 pub use counts::with_counts;
 pub use durings::with_durings;
+pub use endings::with_endings;
 pub use entry::without_entry;
 pub use exits::with_exits;
 pub use extended::{

@@ -9,6 +9,7 @@ use crate::clocks::with_clocks;
 use crate::constants::without_constants;
 use crate::counts::with_counts;
 use crate::durings::with_durings;
+use crate::endings::with_endings;
 use crate::entry::without_entry;
 use crate::exits::with_exits;
 use crate::extended::{Declared, ExtendedChart};
@@ -52,7 +53,8 @@ fn with_entry(alloc: Global, chart: &ExtendedChart) -> Result<ExtendedChart, All
 {
     let named = with_variables(alloc, chart)?;
     let recalling = with_histories(alloc, named)?;
-    let acting = with_durings(alloc, recalling)?;
+    let ending = with_endings(alloc, recalling)?;
+    let acting = with_durings(alloc, ending)?;
     let counted = with_counts(alloc, acting)?;
     let clocked = with_clocks(alloc, counted)?;
     let left = with_exits(alloc, clocked)?;

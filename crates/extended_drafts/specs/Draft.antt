@@ -1,6 +1,5 @@
 -- What the parts of an extended chart's text mean: the parts of a chart, with what is new beside them.
-use Rattle.std.specs.Prelude.{ℕ, Bool, true, false, not, ◌||◌, Option, Some, None, List, [], ◌∷◌, ◌++◌, map, codes, option_map, if◌then◌else◌}
-use Rattle.std.specs.List.{list_any}
+use Rattle.std.specs.Prelude.{ℕ, Bool, true, false, not, Option, Some, None, List, [], ◌∷◌, ◌++◌, map, codes, option_map, if◌then◌else◌}
 use Rattle.std.specs.Str.{bytes_eq}
 use Rattle.sc_values.specs.declared.value.Value.TheVariants as value
 use Rattle.sc_values.specs.declared.value.Kind.{Kind}
@@ -14,7 +13,6 @@ use Rattle.sc_text.specs.declared.token.TokenKind.{TokenKind}
 use Rattle.sc_text.specs.declared.token.TokenKind.TheVariants as token
 use Rattle.sc_text.specs.declared.operation.TextOperation.TheVariants as text
 use Rattle.core_charts.specs.declared.region.TransitionKind.{TransitionKind}
-use Rattle.core_charts.specs.Tests.{is_join}
 use Rattle.drafts.specs.declared.parts.Named.{Named}
 use Rattle.drafts.specs.declared.parts.TextExpression.{TextExpression}
 use Rattle.drafts.specs.Parts.{declared_as}
@@ -93,12 +91,9 @@ effect_with word (ends.Name n) = effect_of n (emitted word n)
 abbrev pub entry_of : Bool → Named → Option TextExpression → List DraftEffect → DraftEntry
 entry_of immediate word trigger effects = record { immediate = immediate; word = word; trigger = trigger; effects = effects }
 
-abbrev pub has_join : List DraftTransition → Bool
-has_join transitions = list_any (λ t. is_join t.kind) transitions
-
--- the actions of a state: some may be made while it goes on, where it is not final and no termination leaves it
-abbrev pub actions_of : Bool → List DraftEntry → List DraftTransition → StateActions
-actions_of is_final entries transitions = record { entries = entries; may_last = not (is_final || has_join transitions) }
+-- the actions of a state: some may be made while it goes on, where it is not final
+abbrev pub actions_of : Bool → List DraftEntry → StateActions
+actions_of is_final entries = record { entries = entries; may_last = not is_final }
 
 abbrev pub count_of : Named → TextExpression → DraftCount
 count_of word condition = record { word = word; condition = condition }
@@ -159,7 +154,7 @@ body_of regions transitions =
 -- a state begins before what is in it
 abbrev pub state_rows : Bool → List DraftEntry → StateBody → DraftRows
 state_rows is_final entries b =
-    record { entries = actions_of is_final entries b.transitions ∷ b.rows.entries; ways = b.rows.ways ++ b.ways }
+    record { entries = actions_of is_final entries ∷ b.rows.entries; ways = b.rows.ways ++ b.ways }
 
 abbrev pub state_with : Bool → Bool → Named → List DraftEntry × StateBody → DraftState × DraftRows
 state_with is_initial is_final n body =

@@ -53,8 +53,7 @@ pub struct DraftEntry {
     pub effects: Items<DraftEffect>,
 }
 
-/// The actions of a state, and whether some may be made while it goes on: it is not final, and no termination leaves
-/// it.
+/// The actions of a state, and whether some may be made while it goes on: it is not final.
 #[derive(Debug, Drop)]
 pub struct StateActions {
     pub entries: Items<DraftEntry>,

@@ -1,10 +1,10 @@
 //! DraftRows of what is new in states and transitions.
 
 ghost use Rattle.std.specs.Prelude.{◌≡◌, [], ◌∷◌, ◌++◌, IfOk, OnOk};
-ghost use Rattle.extended_drafts.specs.Draft.{no_rows, both_rows, body_of, has_join, actions_of, state_with};
+ghost use Rattle.extended_drafts.specs.Draft.{no_rows, both_rows, body_of, actions_of, state_with};
 
 use crate::draft::{DraftEntry, DraftRows, DraftWay, StateActions, StateBody};
-use chart_drafts::{DraftState, DraftTransition};
+use chart_drafts::DraftState;
 use drafts::Named;
 use sqlite_items::Items;
 use std::alloc::{AllocError, Global};
@@ -61,7 +61,7 @@ pub(crate) fn state_with(
         transitions,
         ways,
     } = inside;
-    let own = actions_of(is_final, own, transitions.as_slice());
+    let own = actions_of(is_final, own);
     let rows = with_own(alloc, own, rows, ways)?;
     let state = DraftState {
         is_initial,
@@ -73,24 +73,13 @@ pub(crate) fn state_with(
     Ok((state, rows))
 }
 
-// Whether one of these is a termination.
-fn has_join(transitions: &[DraftTransition]) -> bool
-    ensures { result ≡ has_join transitions.now }
+fn actions_of(is_final: bool, entries: Items<DraftEntry>) -> StateActions
+    ensures { result ≡ actions_of is_final entries }
 {
-    transitions
-        .iter()
-        .any(|transition| transition.kind.is_join())
-}
-
-fn actions_of(
-    is_final: bool,
-    entries: Items<DraftEntry>,
-    transitions: &[DraftTransition],
-) -> StateActions
-    ensures { result ≡ actions_of is_final entries transitions.now }
-{
-    let may_last = !(is_final || has_join(transitions));
-    StateActions { entries, may_last }
+    StateActions {
+        entries,
+        may_last: !is_final,
+    }
 }
 
 // The rows of what is in a state, behind its own actions, and those of its transitions.
