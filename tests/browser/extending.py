@@ -223,11 +223,12 @@ def extended_fault(tools):
     expect(headline.startswith("reduced chart ") and "E12" in headline, True, f"the words {headline}")
     faults = tools.browser.js("return [...document.querySelectorAll('#drawing .fault')].map((one) => one.dataset.path).sort()")
     expect(faults, ["Main.On#0", "Main.On/Heater.Heat#0"], "what is marked of a fault of the reduced chart")
-    fresh(tools, text_of("examples", "extended", "star_delta.extended"))
-    expect(marked_lines(tools, "warned"), [24, 25], "the lines that are marked of warnings of the reduced chart")
+    never = "extended chart W {\n  input bool a;\n  output int x;\n  region R {\n    initial state s {\n      entry do x = 1;\n      go -> t;\n      go if a -> s;\n    }\n    state t;\n  }\n}\n"
+    fresh(tools, never)
+    expect(marked_lines(tools, "warned"), [8], "the line that is marked of a warning of the reduced chart")
     tools.browser.click("#verdict button")
     at = tools.browser.js("return document.getElementById('text').selectionStart")
-    expect(text_of("examples", "extended", "star_delta.extended")[at:at + 18], "strong if overload", "where a click on a warning goes")
+    expect(never[at:at + 7], "go if a", "where a click on a warning goes")
     quiet(tools)
 
 
