@@ -3,8 +3,9 @@
 use crate::edges::{name_of, written};
 use crate::line_columns::LineColumn;
 use crate::lines::{margin, marked_line, name_at};
-use node_sources::{Origin, Part, Positions, Sources};
-use sc_graph::{NodeId, Program, Step};
+use compiler::LinkedProgram;
+use node_sources::{Origin, Part, Positions};
+use sc_graph::{Links, NodeId, Program, Step};
 use sc_values::Name;
 use sqlite_items::Items;
 use std::alloc::{AllocError, Global};
@@ -12,28 +13,31 @@ use std::alloc::{AllocError, Global};
 /// How many nodes are shown with their lines.
 pub(crate) const SHOWN: usize = 32;
 
-/// A program, its text, and the places of its nodes.
+/// A program with its links, its text, and the places of its nodes.
 #[derive(Drop)]
 pub(crate) struct Shown<'a> {
     pub(crate) text: &'a str,
     pub(crate) positions: Positions<'a>,
-    pub(crate) program: Program,
+    pub(crate) program: &'a Program,
+    pub(crate) links: &'a Links,
     pub(crate) origins: Items<Origin>,
 }
 
 impl<'a> Shown<'a> {
-    /// The program of a text with its sources. Err: memory was refused.
+    /// The graph of a text with the origins of its nodes. Err: memory was refused.
     pub(crate) fn of(
         alloc: Global,
         text: &'a str,
-        sources: Sources,
+        graph: &'a LinkedProgram,
+        origins: Items<Origin>,
     ) -> Result<Shown<'a>, AllocError> {
         let positions = Positions::of(alloc, text)?;
         Ok(Shown {
             text,
             positions,
-            program: sources.program,
-            origins: sources.origins,
+            program: graph.program(),
+            links: graph.links(),
+            origins,
         })
     }
 
@@ -129,7 +133,7 @@ pub(crate) fn node_text(
     number: usize,
 ) -> Result<String, AllocError> {
     let does = what_it_does(shown.program.step(node));
-    let what = written_text(alloc, &shown.program, node)?;
+    let what = written_text(alloc, shown.program, node)?;
     let Some(origin) = shown.origin(node) else {
         return format!(in alloc; "node {node} {does}{what}\n");
     };

@@ -3,6 +3,7 @@
 ghost use Rattle.std.specs.Prelude.{IfOk, string_bytes};
 ghost use Rattle.compiler.specs.FaultText.{fault_text};
 ghost use Rattle.diagnostics.specs.Reports.{Tells};
+ghost use Rattle.scl_graph.specs.Answers.{IsGraph};
 
 use crate::line_columns::line_column_of;
 use crate::lines::marked_line;
@@ -10,9 +11,9 @@ use crate::nodes::{Shown, around_text};
 use crate::program_words::in_words;
 use crate::report::{help, line_column_text};
 use crate::walks::{conflict_text, first_node, place_text, walk_text};
-use compiler::CompileFault;
+use compiler::{CompileFault, LinkedProgram, graph_of_scl};
 use conflict_edges::ConflictFault;
-use node_sources::{Origin, label_origin, sources_in};
+use node_sources::{Origin, label_origin, origins_in};
 use priority_weights::TablesFault;
 use sc_graph::NodeId;
 use sc_values::Name;
@@ -134,16 +135,42 @@ fn label_text(
     format!(in alloc; "label {label}{around}\n{marked}")
 }
 
-// The nodes of a fault.
+// The nodes of a fault, by the graph that was made of the text.
 fn shown_nodes(
     alloc: Global,
     source: &ReadSource<'_>,
     fault: &CompileFault,
 ) -> Result<Report, AllocError> {
-    let Some(sources) = sources_in(alloc, source)? else {
-        return Ok(nowhere(alloc));
-    };
-    let shown = Shown::of(alloc, source.text(), sources)?;
+    match source.graph() {
+        Some(graph) => nodes_in(alloc, source, graph, fault),
+        None => made_nodes(alloc, source, fault),
+    }
+}
+
+// The nodes of a fault of a text of which no graph was made.
+fn made_nodes(
+    alloc: Global,
+    source: &ReadSource<'_>,
+    fault: &CompileFault,
+) -> Result<Report, AllocError> {
+    match graph_of_scl(alloc, source.scl()) {
+        Ok(graph) => nodes_in(alloc, source, &graph, fault),
+        Err(GraphFault::Memory) => Err(AllocError),
+        Err(_) => Ok(nowhere(alloc)),
+    }
+}
+
+// The nodes of a fault, in the graph of its text.
+fn nodes_in(
+    alloc: Global,
+    source: &ReadSource<'_>,
+    graph: &LinkedProgram,
+    fault: &CompileFault,
+) -> Result<Report, AllocError>
+    requires { IsGraph source.now.scl graph.now }
+{
+    let origins = origins_in(alloc, source, graph.program())?;
+    let shown = Shown::of(alloc, source.text(), graph, origins)?;
     let body = nodes_of(alloc, &shown, fault)?;
     let place = first_place(alloc, &shown, fault)?;
     Ok(Report { place, body })

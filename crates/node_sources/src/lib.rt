@@ -19,4 +19,4 @@ pub use laws::{sources_tell_charts, sources_tell_scl};
 pub use listing::image_text_with;
 pub use origin::{Origin, Part};
 pub use positions::{Position, Positions};
-pub use sources::{Sources, sources_in, sources_of};
+pub use sources::{Sources, origins_in, sources_in, sources_of};
