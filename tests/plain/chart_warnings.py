@@ -35,6 +35,24 @@ def at_entry(state):
         t for region in state.regions for inner in region.states if inner.is_initial for t in at_entry(inner)]
 
 
+def led_at_once(state):
+    """The place to which a state leads in the tick in which it is entered, whatever holds then; None where there is no such one."""
+    first = [t for t in state.transitions if t.immediate]
+    sure = next((i for i, t in enumerate(first) if t.trigger is None), None)
+    targets = {t.target for t in first[:sure + 1]} if sure is not None else ()
+    return targets.pop() if len(targets) == 1 else None
+
+
+def on_the_way(states, place):
+    """What is taken at the entry of the state at this place and of those to which it leads at once, one behind the other."""
+    taken, passed = [], set()
+    while place is not None and place not in passed:
+        passed.add(place)
+        taken += at_entry(states[place])
+        place = led_at_once(states[place])
+    return taken
+
+
 def turn(t):
     return {"go": 0, "strong": 0, "weak": 1, "join": 2}[t.kind]
 
@@ -91,7 +109,7 @@ class Warnings:
             if t.kind == "join":
                 self.told += [("W07", number, k, r) for r, region in enumerate(state.regions) if not ends(region)]
             if t.kind in ("strong", "weak"):
-                inside, after = within(state.regions), [t] + at_entry(states[t.target])
+                inside, after = within(state.regions), [t] + on_the_way(states, t.target)
                 self.told += [("W01", number, k, x) for x, v in enumerate(self.chart.variables)
                               if v.role == "output" and stays_on(x, inside, after)]
             if is_forestalled(state.transitions, k):

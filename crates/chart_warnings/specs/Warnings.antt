@@ -126,13 +126,41 @@ of_outputs inside after n k x [] = []
 of_outputs inside after n k x (v ∷ others) =
     told_where (is_output v.role && stays_on inside after x) (warning.StaysOn n k x) ++ of_outputs inside after n k (suc x) others
 
--- what comes with a transition: its effects, and the immediate transitions of what it enters
+-- where these transitions lead in the tick in which their state is entered, whatever holds then, where those before lead there too:
+-- one has no trigger, and all that are tested at once before it lead there
+abbrev pub agrees : Option ℕ → ℕ → Bool
+agrees None target = true
+agrees (Some other) target = nat_eq other target
+
+abbrev pub led_at_once : (before : Option ℕ) → List Transition → Option ℕ
+led_at_once before [] = None
+led_at_once before (t ∷ others) =
+    if t.immediate then
+    (if agrees before t.target then (if is_always t.trigger then Some t.target else led_at_once (Some t.target) others) else None)
+    else led_at_once before others
+
+abbrev pub left_at_once : Option State → Option ℕ
+left_at_once None = None
+left_at_once (Some s) = led_at_once None (out-State s).transitions
+
+-- the immediate transitions of a state, and of what is entered with it
 abbrev pub entry_at : Option State → List Transition
 entry_at None = []
 entry_at (Some s) = (entry_of_state s).transitions
 
+abbrev pub at_place : List State → Option ℕ → Option State
+at_place states None = None
+at_place states (Some i) = slice_get states i
+
+-- those of the state at this place, and of so many at most to which it leads at once, one behind the other
+abbrev pub on_the_way : (steps : ℕ) → List State → Option ℕ → List Transition
+on_the_way zero states place = []
+on_the_way (suc steps) states place =
+    entry_at (at_place states place) ++ on_the_way steps states (left_at_once (at_place states place))
+
+-- what comes with a transition: its effects, and the immediate transitions of what is entered on its way
 abbrev pub comes_with : List State → Transition → List Transition
-comes_with states t = t ∷ entry_at (slice_get states t.target)
+comes_with states t = t ∷ on_the_way (length states) states (Some t.target)
 
 -- ---- of a state's transitions
 

@@ -1,10 +1,10 @@
 //! The transitions inside regions, and those of what is entered.
 
-ghost use Rattle.std.specs.Prelude.{◌≡◌, IfOk, map, slice_get};
+ghost use Rattle.std.specs.Prelude.{◌≡◌, IfOk, MatchOption, None, Some, length, map};
 ghost use Rattle.core_charts.specs.Tests.{at_once};
 ghost use Rattle.chart_warnings.specs.Names.{entered, entry_of_region, entry_of_state, joined};
 ghost use Rattle.chart_warnings.specs.Names.{within, within_region, within_state};
-ghost use Rattle.chart_warnings.specs.Warnings.{entry_at};
+ghost use Rattle.chart_warnings.specs.Warnings.{agrees, at_place, entry_at, led_at_once, left_at_once, on_the_way};
 ghost use Rattle.chart_warnings.specs.Inside.Marks.{Tells, all_by, marked};
 
 use crate::marks::unmarked;
@@ -55,14 +55,72 @@ fn mark_state(way: Mention, state: &State, marks: &mut Vec<bool>)
     mark_transitions(way, state.transitions.as_slice(), marks);
 }
 
-/// Marks the variables that immediate transitions name in this way, of the state at this place and of all that is
-/// entered with it, if there is such a state.
+/// Marks the variables that immediate transitions name in this way, of the state at this place and of those to which
+/// it leads at once, and of all that is entered with them.
 pub(crate) fn mark_target(way: Mention, states: &[State], target: u32, marks: &mut Vec<bool>)
-    ensures { marks.new.items ≡ marked (all_by way (entry_at (slice_get states.now target))) marks.old.items }
+    ensures { marks.new.items
+        ≡ marked (all_by way (on_the_way (length states.now) states.now (Some target))) marks.old.items }
 {
-    match states.get(target as usize) {
-        Some(state) => mark_entry(way, state, marks),
-        None => {}
+    let mut place = Some(target);
+    for _step in 0..states.len() {
+        place = mark_step(way, states, place, marks);
+    }
+}
+
+// Those of the state at this place, if there is one, and of all that is entered with it. Gives the place to which it
+// leads at once.
+fn mark_step(
+    way: Mention,
+    states: &[State],
+    place: Option<u32>,
+    marks: &mut Vec<bool>,
+) -> Option<u32>
+    ensures marks { marks.new.items ≡ marked (all_by way (entry_at (at_place states.now place))) marks.old.items }
+    ensures leads { result ≡ left_at_once (at_place states.now place) }
+{
+    match state_at(states, place) {
+        Some(state) => {
+            mark_entry(way, state, marks);
+            led_at_once(state.transitions.as_slice())
+        }
+        None => None,
+    }
+}
+
+fn state_at(states: &[State], place: Option<u32>) -> Option<&State>
+    ensures { MatchOption result (at_place states.now place ≡ None) (λ s. at_place states.now place ≡ Some s.now) }
+{
+    match place {
+        Some(place) => states.get(place as usize),
+        None => None,
+    }
+}
+
+// The place to which these transitions lead in the tick in which their state is entered, whatever holds then.
+fn led_at_once(transitions: &[Transition]) -> Option<u32>
+    ensures { result ≡ led_at_once None transitions.now }
+{
+    let mut before = None;
+    for transition in transitions {
+        if transition.immediate {
+            if !agrees(before, transition.target) {
+                return None;
+            }
+            if transition.trigger.is_none() {
+                return Some(transition.target);
+            }
+            before = Some(transition.target);
+        }
+    }
+    None
+}
+
+fn agrees(before: Option<u32>, target: u32) -> bool
+    ensures { result ≡ agrees before target }
+{
+    match before {
+        Some(other) => other == target,
+        None => true,
     }
 }
 

@@ -1,3 +1,3 @@
 mod Refused
-mod Texts
+pub mod Texts
 mod Charts

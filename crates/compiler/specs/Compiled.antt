@@ -1,5 +1,6 @@
 -- What compiling a program gives: its image with the least tables, or why it has none.
-use Rattle.std.specs.Prelude.{ℕ, ◌≡◌, List}
+use Rattle.std.specs.Prelude.{ℕ, ◌≡◌, ◌≤◌, List}
+use Rattle.sc_graph.specs.Limits.{budget_limit}
 use Rattle.sc_graph.specs.Program.{Program}
 use Rattle.sc_graph.specs.Protocol.{WriteConflict}
 use Rattle.sc_graph.specs.Valid.{IsValid}
@@ -25,6 +26,13 @@ pub record IsCompiled (p : Program) (image : Image) : Type 0 where
   pub program : image.program ≡ p
   pub least : AreLeast p image.tables
   pub valid : IsValid p image.tables
+
+-- no two of its nodes conflict, none of its walks is closed, and these are its least tables, which keep the limit of the budget
+pub record HasTables (p : Program) (q : Tables) : Type 0 where
+  pub none : HasNoConflict p
+  pub no_walk : HasNoWalk p
+  pub least : AreLeast p q
+  pub budget : q.budget ≤ budget_limit
 
 -- two nodes write in conflict
 abbrev pub Conflicts : Program → ConflictFault → Type 0

@@ -2,3 +2,4 @@ pub mod Compiled
 pub mod Texts
 pub mod Charts
 pub mod FaultText
+pub mod Inside

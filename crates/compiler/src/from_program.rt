@@ -1,11 +1,7 @@
 //! From a program to its image.
 
-ghost use Rattle.std.specs.Prelude.{◌≤◌, IfErr, IfOk};
-ghost use Rattle.program_edges.specs.Conflicts.{HasNoConflict};
-ghost use Rattle.compiler.specs.Compiled.{IsCompiled, LacksImage};
-ghost use Rattle.priority_weights.specs.Edges.{HasNoWalk};
-ghost use Rattle.priority_weights.specs.LeastTables.{AreLeast};
-ghost use Rattle.sc_graph.specs.Limits.{budget_limit};
+ghost use Rattle.std.specs.Prelude.{IfErr, IfOk};
+ghost use Rattle.compiler.specs.Compiled.{HasTables, IsCompiled, LacksImage};
 ghost use Rattle.sc_graph.specs.Links.{Tells};
 ghost use Rattle.sc_graph.specs.Valid.{IsFormed};
 
@@ -31,6 +27,21 @@ pub fn compile_program(
     ensures refused { IfErr result (LacksImage program) }
 {
     let tables = least_tables(alloc, &program, links)?;
+    image_with(alloc, program, tables)
+}
+
+/// The valid image of a formed program with its least tables. Err: a code or an assignment breaks its rule (E33, E34);
+/// or memory was refused.
+pub(crate) fn image_with(
+    alloc: Global,
+    program: Program,
+    tables: Tables,
+) -> Result<Verified, CompileFault>
+    requires formed { IsFormed program }
+    requires tables { HasTables program tables }
+    ensures compiled { IfOk result (IsCompiled program) }
+    ensures refused { IfErr result (LacksImage program) }
+{
     let image = match Image::of(program, tables) {
         Some(image) => image,
         // least tables have an entry for each node and each thread
@@ -42,14 +53,16 @@ pub fn compile_program(
     }
 }
 
-// The least tables of a program without conflicts and without closed walks.
-fn least_tables(alloc: Global, program: &Program, links: &Links) -> Result<Tables, CompileFault>
+/// The least tables of a formed program, whose links are given. Err: two of its nodes conflict (E11), flow within one
+/// tick closes (E13), or instantaneous and protocol edges close (E12); or memory was refused.
+pub(crate) fn least_tables(
+    alloc: Global,
+    program: &Program,
+    links: &Links,
+) -> Result<Tables, CompileFault>
     requires formed { IsFormed program.now }
     requires told { Tells program.now links.now }
-    ensures least { IfOk result (AreLeast program.now) }
-    ensures budget { IfOk result (λ q. q.budget ≤ budget_limit) }
-    ensures none { IfOk result (λ _. HasNoConflict program.now) }
-    ensures no_walk { IfOk result (λ _. HasNoWalk program.now) }
+    ensures tables { IfOk result (HasTables program.now) }
     ensures refused { IfErr result (LacksImage program.now) }
 {
     let edges = match conflicts(alloc, program, links) {

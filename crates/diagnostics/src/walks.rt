@@ -2,7 +2,7 @@
 
 use crate::edges::{name_of, reason, written};
 use crate::nodes::{Shown, node_text, note_text};
-use sc_graph::{Links, NodeId, Place};
+use sc_graph::{NodeId, Place};
 use sqlite_items::at;
 use std::alloc::{AllocError, Global};
 
@@ -10,11 +10,10 @@ use std::alloc::{AllocError, Global};
 fn before_text(
     alloc: Global,
     shown: &Shown<'_>,
-    links: &Links,
     from: NodeId,
     to: NodeId,
 ) -> Result<String, AllocError> {
-    match reason(alloc, &shown.program, links, from, to)? {
+    match reason(alloc, shown.program, shown.links, from, to)? {
         Some(words) => {
             let note = format!(in alloc; "before node {to}: {words}")?;
             note_text(alloc, shown, from, note.as_str())
@@ -38,14 +37,13 @@ fn next_of(walk: &[NodeId], number: usize) -> Option<NodeId> {
 fn step_line(
     alloc: Global,
     shown: &Shown<'_>,
-    links: &Links,
     walk: &[NodeId],
     number: usize,
     node: NodeId,
 ) -> Result<String, AllocError> {
     let line = node_text(alloc, shown, node, number)?;
     let note = match next_of(walk, number) {
-        Some(next) => before_text(alloc, shown, links, node, next)?,
+        Some(next) => before_text(alloc, shown, node, next)?,
         None => String::new(alloc),
     };
     format!(in alloc; "{line}{note}")
@@ -58,10 +56,9 @@ pub(crate) fn walk_text(
     shown: &Shown<'_>,
     walk: &[NodeId],
 ) -> Result<String, AllocError> {
-    let links = Links::of(alloc, &shown.program)?;
     let mut text = String::new(alloc);
     for (number, node) in walk.iter().enumerate() {
-        let part = step_line(alloc, shown, &links, walk, number, *node)?;
+        let part = step_line(alloc, shown, walk, number, *node)?;
         text.push_str(part.as_str())?;
     }
     Ok(text)
@@ -71,7 +68,7 @@ pub(crate) fn walk_text(
 fn both_text(alloc: Global, shown: &Shown<'_>, first: NodeId) -> Result<String, AllocError> {
     let name = match shown.program.step(first) {
         Some(step) => match written(step) {
-            Some((variable, _)) => name_of(&shown.program, variable),
+            Some((variable, _)) => name_of(shown.program, variable),
             None => None,
         },
         None => None,
@@ -103,9 +100,8 @@ fn pair_text(
     first: NodeId,
     second: NodeId,
 ) -> Result<String, AllocError> {
-    let links = Links::of(alloc, &shown.program)?;
     let one = node_text(alloc, shown, first, 0)?;
-    let note = before_text(alloc, shown, &links, first, second)?;
+    let note = before_text(alloc, shown, first, second)?;
     let other = node_text(alloc, shown, second, 0)?;
     format!(in alloc; "{one}{note}{other}")
 }
@@ -129,7 +125,7 @@ pub(crate) fn place_text(
         return pair_text(alloc, shown, first, second);
     }
     if let Place::Variable(variable) = place {
-        return match name_of(&shown.program, variable) {
+        return match name_of(shown.program, variable) {
             Some(name) => format!(in alloc; "variable `{name}`\n"),
             None => Ok(String::new(alloc)),
         };

@@ -20,9 +20,9 @@ pub struct Sources {
     pub origins: Items<Origin>,
 }
 
-// The origins of the nodes of the program of a text that was read.
+/// The origins of the nodes of the graph of a text that was read. Err: memory was refused.
 #[tactic(auto, using(crate::proofs::LanguagesTold::chart_kept, crate::proofs::LanguagesTold::draft_kept, crate::proofs::LanguagesTold::chart_told, crate::proofs::LanguagesTold::scl_told))]
-fn origins_in(
+pub fn origins_in(
     alloc: Global,
     source: &ReadSource<'_>,
     program: &Program,

@@ -1,6 +1,8 @@
 -- What is kept of a source text that was read, beside its SCL program: of a chart's text its draft, the chart and its core chart, of a
 -- program's its draft.
-use Rattle.std.specs.Prelude.{ℕ, ◌≡◌, List}
+use Rattle.std.specs.Prelude.{ℕ, ◌≡◌, Option, IfSome, List}
+use Rattle.sc_graph.specs.Program.{Program}
+use Rattle.scl_graph.specs.Answers.{IsGraph}
 use Rattle.sc_text.specs.declared.language.Language.TheVariants as language
 use Rattle.sc_text.specs.FirstToken.{IsIn}
 use Rattle.scl.specs.declared.program.Scl.{Scl}
@@ -37,3 +39,8 @@ pub record KeepsDraft (text : List ℕ) (scl : Scl) (draft : Draft) : Type 0 whe
 abbrev pub Keeps : List ℕ → Scl → Reading → Type 0
 Keeps text scl (reading.Chart kept) = KeepsChart text scl kept
 Keeps text scl (reading.Scl draft) = KeepsDraft text scl draft
+
+-- so it is kept of the text, and, where a graph is kept, it is that of its SCL program
+pub record IsKept (text : List ℕ) (scl : Scl) (r : Reading) (graph : Option Program) : Type 0 where
+  pub keeps : Keeps text scl r
+  pub graph_of : IfSome graph (IsGraph scl)

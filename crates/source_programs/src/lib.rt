@@ -2,11 +2,13 @@
 //! it is kept for all that is to be told of it.
 #![tactic(auto)]
 
+mod compiled;
 mod fault;
 mod graphs;
 mod reading;
 mod source;
 
+pub use compiled::{Uncompiled, compile_source};
 pub use fault::SourceFault;
 pub use graphs::{graph_of_source, graph_of_text};
 pub use reading::{ReadChart, Reading};

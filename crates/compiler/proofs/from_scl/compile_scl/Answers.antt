@@ -1,6 +1,0 @@
-use Rattle.compiler.proofs.Texts.{is_formed}
-use Rattle.compiler.proofs.from_scl.compile_scl.Goals as goal
-
-pub unreachable-requires : goal.unreachable-requires
-unreachable-requires c =
-    is_formed c.args.scl.now c.in-Ok.program c.is_formed.result c.in-Ok.ensures c.is_formed.ensures.1 c.if-not-is_formed.true

@@ -1,0 +1,8 @@
+use Rattle.extended_reader.proofs.Reading.{shaped}
+use Rattle.extended_warnings.proofs.telling.told_of.Goals as goal
+
+pub extended_of-requires-clause-flawless : goal.extended_of-requires-clause-flawless
+extended_of-requires-clause-flawless c = c.requires.sound.flawless
+
+pub extended_of-requires-clause-shaped : goal.extended_of-requires-clause-shaped
+extended_of-requires-clause-shaped c = shaped c.args.text.now c.args.draft.now c.requires.sound
