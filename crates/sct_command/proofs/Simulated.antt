@@ -6,7 +6,7 @@ use Rattle.command_files.specs.Files.{Contents, HasBytes}
 use Rattle.command_files.specs.Standing.{FileLacksSource}
 use Rattle.command_files.specs.Sources.{IsCompiledFrom}
 use Rattle.image_charts.proofs.TextImages.{no_compiled_in}
-use Rattle.image_charts.specs.Written.{IsNoTextBeside, MakesImage, MakesNoImage}
+use Rattle.image_charts.specs.Written.{HasNoChart, IsNoTextBeside, MakesImage, MakesNoImage}
 use Rattle.line_causes.specs.declared.cause.Cause.{Cause}
 use Rattle.simulation.specs.Lines as typed
 use Rattle.trace_player.specs.declared.player.PlayFault.{PlayFault}
@@ -20,13 +20,14 @@ pub no_image : (files : Option Contents) (name bytes seen : List ℕ) (f : LoadF
 no_image files name bytes seen f held same none = inl (no_compiled_in files name bytes seen f held same none)
 
 pub no_states : (files : Option Contents) (name bytes seen other : List ℕ) (image boxed looked : Image) (f : LoadFault) → HasBytes files name bytes
-    → seen ≡ bytes → other ≡ bytes → MakesImage seen image → boxed ≡ image → looked ≡ boxed → IsNoTextBeside name other looked f
-    → LacksModel files name f
-no_states files name bytes seen other image boxed looked f held same same' makes kept lent none = inr (record {
+    → seen ≡ bytes → other ≡ bytes → MakesImage seen image → boxed ≡ image → looked ≡ boxed → ¬ HasNoChart other
+    → IsNoTextBeside name other looked f → LacksModel files name f
+no_states files name bytes seen other image boxed looked f held same same' makes kept lent chart none = inr (record {
   image = image;
   bytes = bytes;
   held = held;
   makes = subst (λ b. MakesImage b image) same makes;
+  chart = subst (λ b. ¬ HasNoChart b) same' chart;
   none = subst (λ i. IsNoTextBeside name bytes i f) (lent ∙ kept) (subst (λ b. IsNoTextBeside name b looked f) same' none);
 })
 

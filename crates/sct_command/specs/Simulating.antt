@@ -4,7 +4,7 @@ use Rattle.bytecode.specs.Image.{Image}
 use Rattle.command_files.specs.declared.fault.LoadFault.{LoadFault}
 use Rattle.command_files.specs.Files.{Contents, HasBytes}
 use Rattle.command_files.specs.Sources.{FileLacksCompiled, IsCompiledFrom}
-use Rattle.image_charts.specs.Written.{IsNoTextBeside, MakesImage}
+use Rattle.image_charts.specs.Written.{HasNoChart, IsNoTextBeside, MakesImage}
 use Rattle.line_causes.specs.declared.cause.Cause.{Cause}
 use Rattle.simulation.specs.Lines as typed
 use Rattle.trace_player.specs.declared.player.PlayFault.{PlayFault}
@@ -25,12 +25,13 @@ pub record StopsSimulation (files : Option Contents) (name : List ℕ) (input ol
   pub stops : typed.Stops image input old new f
   pub unknown : cause ≡ None
 
--- the program in this file has an image, of which its text has no states, for this fault
+-- the program in this file has an image, and its text, which is none of SCL, does not give the states of that, for this fault
 pub record LacksStates (files : Option Contents) (name : List ℕ) (f : LoadFault) : Type 0 where
   pub image : Image
   pub bytes : List ℕ
   pub held : HasBytes files name bytes
   pub makes : MakesImage bytes image
+  pub chart : ¬ HasNoChart bytes
   pub none : IsNoTextBeside name bytes image f
 
 -- there is no program in this file, or it has no image, or no states

@@ -15,4 +15,5 @@ returns-in_err-states-clause-lacks g c =
     let p = err_from_is_err_and c.from_residual-in_err-states.result c.from_residual-in_err-states.ensures.1 in
     rw (p.1, p.2) (no_states (g.F.Files.contents c.args.files.now) c.args.name.now c.in_ok-bytes.bytes.items c.deref.result.now c.deref-2.result.now
     c.in_ok-compiled.compiled c.in_ok-image.image c.get.result.now c.in_err-states.field-0.0 c.in_ok-bytes.ensures.bytes c.deref.ensures.value
-    c.deref-2.ensures.value c.in_ok-compiled.ensures.image c.in_ok-image.ensures c.get.ensures c.in_err-states.ensures.lacks)
+    c.deref-2.ensures.value c.in_ok-compiled.ensures.image c.in_ok-image.ensures c.get.ensures c.in_err-states.ensures.refused
+    c.in_err-states.ensures.lacks)
