@@ -35,9 +35,14 @@ def at_entry(state):
         t for region in state.regions for inner in region.states if inner.is_initial for t in at_entry(inner)]
 
 
+def turn(t):
+    """In which turn a transition is tested; within one turn the order of the text counts."""
+    return {"go": 0, "strong": 0, "weak": 1, "join": 2}[t.kind]
+
+
 def led_at_once(state):
     """The place to which a state leads in the tick in which it is entered, whatever holds then; None where there is no such one."""
-    first = [t for t in state.transitions if t.immediate]
+    first = sorted((t for t in state.transitions if t.immediate), key=turn)
     sure = next((i for i, t in enumerate(first) if t.trigger is None), None)
     targets = {t.target for t in first[:sure + 1]} if sure is not None else ()
     return targets.pop() if len(targets) == 1 else None
@@ -51,10 +56,6 @@ def on_the_way(states, place):
         taken += at_entry(states[place])
         place = led_at_once(states[place])
     return taken
-
-
-def turn(t):
-    return {"go": 0, "strong": 0, "weak": 1, "join": 2}[t.kind]
 
 
 def is_first(t):

@@ -1,2 +1,3 @@
 pub mod Marking
+mod Turns
 mod Ways

@@ -126,8 +126,16 @@ of_outputs inside after n k x [] = []
 of_outputs inside after n k x (v ∷ others) =
     told_where (is_output v.role && stays_on inside after x) (warning.StaysOn n k x) ++ of_outputs inside after n k (suc x) others
 
--- where these transitions lead in the tick in which their state is entered, whatever holds then, where those before lead there too:
--- one has no trigger, and all that are tested at once before it lead there
+-- those of a state's transitions whose turn this is in the tick in which it is entered
+abbrev pub of_turn : ℕ → List Transition → List Transition
+of_turn n transitions = filter (λ t. t.immediate && nat_eq (turn t.kind) n) transitions
+
+-- in the order in which they are tested then; a termination, which comes last, does not leave the state whatever holds
+abbrev pub tested_at_once : List Transition → List Transition
+tested_at_once transitions = of_turn 0 transitions ++ of_turn 1 transitions
+
+-- where transitions lead that are tested in this order, whatever holds then, where those before lead there too: one has no trigger,
+-- and all before it lead there
 abbrev pub agrees : Option ℕ → ℕ → Bool
 agrees None target = true
 agrees (Some other) target = nat_eq other target
@@ -135,13 +143,11 @@ agrees (Some other) target = nat_eq other target
 abbrev pub led_at_once : (before : Option ℕ) → List Transition → Option ℕ
 led_at_once before [] = None
 led_at_once before (t ∷ others) =
-    if t.immediate then
-    (if agrees before t.target then (if is_always t.trigger then Some t.target else led_at_once (Some t.target) others) else None)
-    else led_at_once before others
+    if agrees before t.target then (if is_always t.trigger then Some t.target else led_at_once (Some t.target) others) else None
 
 abbrev pub left_at_once : Option State → Option ℕ
 left_at_once None = None
-left_at_once (Some s) = led_at_once None (out-State s).transitions
+left_at_once (Some s) = led_at_once None (tested_at_once (out-State s).transitions)
 
 -- the immediate transitions of a state, and of what is entered with it
 abbrev pub entry_at : Option State → List Transition

@@ -45,7 +45,8 @@ fn goes_before(other: usize, before: &Transition, place: usize, transition: &Tra
     turn_before < turn_of_it || (turn_before == turn_of_it && other < place)
 }
 
-fn turn(kind: TransitionKind) -> u8
+/// In which turn it is tested: strong aborts, weak ones, the termination.
+pub(crate) fn turn(kind: TransitionKind) -> u8
     ensures { result ≡ turn kind }
 {
     match kind {

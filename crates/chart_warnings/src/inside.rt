@@ -1,12 +1,14 @@
 //! The transitions inside regions, and those of what is entered.
 
-ghost use Rattle.std.specs.Prelude.{◌≡◌, IfOk, MatchOption, None, Some, length, map};
+ghost use Rattle.std.specs.Prelude.{◌≡◌, ◌&&◌, IfOk, MatchOption, None, Some, length, map, nat_eq};
 ghost use Rattle.core_charts.specs.Tests.{at_once};
 ghost use Rattle.chart_warnings.specs.Names.{entered, entry_of_region, entry_of_state, joined};
 ghost use Rattle.chart_warnings.specs.Names.{within, within_region, within_state};
 ghost use Rattle.chart_warnings.specs.Warnings.{agrees, at_place, entry_at, led_at_once, left_at_once, on_the_way};
+ghost use Rattle.chart_warnings.specs.Warnings.{tested_at_once, turn};
 ghost use Rattle.chart_warnings.specs.Inside.Marks.{Tells, all_by, marked};
 
+use crate::forestalling::turn;
 use crate::marks::unmarked;
 use crate::names::{Mention, mark_transition, mark_transitions};
 use core_charts::{Region, State, Transition};
@@ -98,21 +100,30 @@ fn state_at(states: &[State], place: Option<u32>) -> Option<&State>
 
 // The place to which these transitions lead in the tick in which their state is entered, whatever holds then.
 fn led_at_once(transitions: &[Transition]) -> Option<u32>
-    ensures { result ≡ led_at_once None transitions.now }
+    ensures { result ≡ led_at_once None (tested_at_once transitions.now) }
 {
     let mut before = None;
-    for transition in transitions {
-        if transition.immediate {
-            if !agrees(before, transition.target) {
-                return None;
+    for round in 0..2 {
+        for transition in transitions {
+            if is_of_turn(round, transition) {
+                if !agrees(before, transition.target) {
+                    return None;
+                }
+                if transition.trigger.is_none() {
+                    return Some(transition.target);
+                }
+                before = Some(transition.target);
             }
-            if transition.trigger.is_none() {
-                return Some(transition.target);
-            }
-            before = Some(transition.target);
         }
     }
     None
+}
+
+// Whether it is tested in this turn of the tick in which its state is entered.
+fn is_of_turn(round: u8, transition: &Transition) -> bool
+    ensures { result ≡ (transition.now.immediate && nat_eq (turn transition.now.kind) round) }
+{
+    transition.immediate && turn(transition.kind) == round
 }
 
 fn agrees(before: Option<u32>, target: u32) -> bool
