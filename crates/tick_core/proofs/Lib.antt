@@ -12,6 +12,12 @@ mod Counts
 mod NextSteps
 mod LivingChildren
 mod Entered
+mod ListedCounts
+pub mod ListedThreads
+mod ListedWoken
+pub mod ListedEntered
+pub mod ListedCopied
+pub mod ListedStart
 pub mod Reports
 pub mod Taken
 pub mod Fresh

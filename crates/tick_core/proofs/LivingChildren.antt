@@ -77,7 +77,7 @@ waits_on n prior some = go (nat_eq n 0) refl
     go true is = absurd (some (eqb-true n 0 is))
     go false is = sym (ap (λ b. row_at b prior) is)
 
-same_counts : (f g : ℕ → Bool) (ks : List ℕ) → ((k : ℕ) → Contains ks k → f k ≡ g k) → count_by f ks ≡ count_by g ks
+pub same_counts : (f g : ℕ → Bool) (ks : List ℕ) → ((k : ℕ) → Contains ks k → f k ≡ g k) → count_by f ks ≡ count_by g ks
 same_counts f g [] each = refl
 same_counts f g (k ∷ ks) each =
     one_more f k ks ∙ (ap (λ b. counts_one b + count_by f ks) (each k (contains_head k ks))

@@ -11,3 +11,4 @@ pub mod Work
 pub mod ShortCodes
 pub mod Onward
 pub mod Waking
+pub mod There

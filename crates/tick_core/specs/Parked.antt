@@ -6,6 +6,7 @@ use Rattle.tick_core.specs.declared.state.parking.ParkedSpace.{ParkedSpace}
 use Rattle.tick_core.specs.Inside.Joins.{FindsForks}
 use Rattle.tick_core.specs.Inside.Sorting.{OwnRows}
 use Rattle.tick_core.specs.Inside.Given.{HasPlaces}
+use Rattle.tick_core.specs.Inside.There.{AllListed}
 
 -- it is made for the ticks of this image: its tables are of its program, and it has room for each node, thread and variable
 pub record IsSpaceOf (image : Image) (space : ParkedSpace) : Type 0 where
@@ -16,4 +17,6 @@ pub record IsSpaceOf (image : Image) (space : ParkedSpace) : Type 0 where
   pub history : image.tables.budget ≤ vec_capacity space.history
   pub living : length space.living.items ≡ length image.program.threads
   pub given : length space.given ≡ length image.program.variables
+  pub listed : length image.program.threads ≤ vec_capacity space.listed
+  pub present : AllListed space.spare.statuses space.listed.items
   pub spare : HasPlaces image.program space.spare

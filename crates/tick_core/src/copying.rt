@@ -28,7 +28,8 @@ pub(crate) fn copy_into(from: &Control, to: &mut Control)
     copy_items(from.statuses.as_slice(), &mut to.statuses);
 }
 
-fn copy_items<T: Copy + Drop>(from: &[T], to: &mut Items<T>)
+/// Makes items the same as others, of which there are as many.
+pub(crate) fn copy_items<T: Copy + Drop>(from: &[T], to: &mut Items<T>)
     requires { length to.old ≡ length from.now }
     ensures { to.new ≡ from.now }
 {

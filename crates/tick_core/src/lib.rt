@@ -22,6 +22,7 @@ mod starting;
 mod state;
 mod step_hook;
 mod stepping;
+mod there;
 mod waking;
 
 pub use claim::{Claim, Done, evaluate};

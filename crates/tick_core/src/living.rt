@@ -80,7 +80,8 @@ fn living_among(control: &Control, children: &[ThreadId]) -> usize
         .count()
 }
 
-fn put(counts: &mut Vec<usize>, thread: ThreadId, count: usize)
+/// Counts so many for a thread, where there is such a one.
+pub(crate) fn put(counts: &mut Vec<usize>, thread: ThreadId, count: usize)
     ensures { counts.new.items ≡ slice_set counts.old.items thread count }
 {
     let at = thread as usize;

@@ -9,6 +9,10 @@ ghost use Rattle.tick_core.specs.Inside.Joins.{FindsForks};
 ghost use Rattle.tick_core.specs.Inside.Living.{CountsLiving};
 ghost use Rattle.tick_core.specs.Inside.Sorting.{AreOpen, OwnRows, AreSorted, step_priority, ready_row, sorted_one};
 ghost use Rattle.tick_core.specs.Inside.Sorting.{sorted_parent, ended_parent, sorted_all, children_at, NodePriorities};
+ghost use Rattle.tick_core.specs.Inside.Sorting.{StandSorted};
+ghost use Rattle.buckets.specs.Rows.{AreEmpty};
+ghost use Rattle.tick_core.specs.Inside.There.{AllListed};
+ghost use Rattle.tick_core.specs.Inside.Waking.{EntersRow};
 
 use crate::joins::Joins;
 use crate::kept_claim::KeptClaim;
@@ -209,6 +213,71 @@ pub(crate) fn sort_every(
         );
     }
     rows.settle();
+}
+
+/// Sorts the threads that are listed, as a tick begins without claims: nobody stood in a row, and nobody else is
+/// present.
+pub(crate) fn sort_listed(
+    program: &Program,
+    tables: &Tables,
+    control: &Control,
+    living: &[usize],
+    listed: &[ThreadId],
+    rows: &mut Rows,
+)
+    requires counts { CountsLiving program.now control.now living.now }
+    requires valid { IsValid program.now tables.now }
+    requires configuration { IsConfiguration program.now control.now }
+    requires listed { AllListed control.now.statuses listed.now }
+    requires rows { OwnRows program.now tables.now rows.old }
+    requires bare { AreEmpty rows.old }
+    ensures { StandSorted program.now tables.now control.now rows.new }
+{
+    for at in 0..listed.len() {
+        let thread = listed[at];
+        enter(program, tables, control, living, rows, thread);
+    }
+    rows.settle();
+}
+
+// Puts a thread into the row of the priority at which it can step, where it is one of the program.
+#[tactic(auto, using(crate::proofs::ListedEntered::passes_row))]
+fn enter(
+    program: &Program,
+    tables: &Tables,
+    control: &Control,
+    living: &[usize],
+    rows: &mut Rows,
+    thread: ThreadId,
+)
+    requires counts { CountsLiving program.now control.now living.now }
+    requires valid { IsValid program.now tables.now }
+    requires configuration { IsConfiguration program.now control.now }
+    requires rows { OwnRows program.now tables.now rows.old }
+    ensures { EntersRow program.now tables.now control.now thread rows.old rows.new }
+{
+    if thread < program.thread_count() {
+        enter_there(program, tables, control, living, rows, thread);
+    }
+}
+
+// The same for a thread of the program.
+fn enter_there(
+    program: &Program,
+    tables: &Tables,
+    control: &Control,
+    living: &[usize],
+    rows: &mut Rows,
+    thread: ThreadId,
+)
+    requires counts { CountsLiving program.now control.now living.now }
+    requires valid { IsValid program.now tables.now }
+    requires configuration { IsConfiguration program.now control.now }
+    requires place { thread < length program.now.threads }
+    requires rows { OwnRows program.now tables.now rows.old }
+    ensures { EntersRow program.now tables.now control.now thread rows.old rows.new }
+{
+    rows.set(thread, step_priority(tables, control, living, thread));
 }
 
 /// Rows for the threads of a verified image, in which nobody stands.

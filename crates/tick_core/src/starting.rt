@@ -4,10 +4,11 @@ ghost use Rattle.std.specs.Prelude.{◌≡◌, IfOk, length, map};
 ghost use Rattle.sc_graph.specs.Tick.{Inputs, AreAccepted, given, value_at_start, values_at_start, woken, root_started};
 ghost use Rattle.sc_graph.specs.Tick.{statuses_at_start, start};
 ghost use Rattle.tick_core.specs.Inside.Given.{HasOwnNames, Gives};
+ghost use Rattle.tick_core.specs.Inside.There.{AllListed, woken_at};
 
 use crate::copying::copied;
 use crate::given::Given;
-use sc_graph::{Control, NodeId, Program, Role, Status, Variable};
+use sc_graph::{Control, NodeId, Program, Role, Status, ThreadId, Variable};
 use sc_values::{Name, Value};
 use sqlite_items::Items;
 use std::alloc::{AllocError, Global};
@@ -30,6 +31,23 @@ pub(crate) fn started(
         start(program, given.values(), &mut control);
     }
     Ok(control)
+}
+
+/// The same as `start` where all threads that are present are listed: it looks at no other.
+pub(crate) fn start_listed(
+    program: &Program,
+    given: &[Option<Value>],
+    listed: &[ThreadId],
+    control: &mut Control,
+)
+    requires values { length control.old.variables ≡ length program.now.variables }
+    requires given { length given.now ≡ length program.now.variables }
+    requires listed { AllListed control.old.statuses listed.now }
+    ensures { (inputs : Inputs) → Gives program.now.variables inputs given.now
+        → control.new ≡ start program.now inputs control.old }
+{
+    start_values(program.variables(), given, &mut control.variables);
+    start_listed_statuses(program, listed, &mut control.statuses);
 }
 
 /// Makes of a configuration the start of a tick from it, under what is given: inputs are written, paused
@@ -77,6 +95,37 @@ fn start_statuses(program: &Program, statuses: &mut Items<Status>)
     wake_all(statuses);
     if let Some(root) = root {
         statuses.set(0, started_root(program.entry(0), root));
+    }
+}
+
+fn start_listed_statuses(program: &Program, listed: &[ThreadId], statuses: &mut Items<Status>)
+    requires { AllListed statuses.old listed.now }
+    ensures { statuses.new ≡ statuses_at_start program.now statuses.old }
+{
+    let root = statuses.get(0).copied();
+    wake_listed(listed, statuses);
+    if let Some(root) = root {
+        statuses.set(0, started_root(program.entry(0), root));
+    }
+}
+
+fn wake_listed(listed: &[ThreadId], statuses: &mut Items<Status>)
+    requires { AllListed statuses.old listed.now }
+    ensures { statuses.new ≡ map woken statuses.old }
+{
+    for at in 0..listed.len() {
+        let thread = listed[at];
+        wake_one(statuses, thread);
+    }
+}
+
+fn wake_one(statuses: &mut Items<Status>, thread: ThreadId)
+    ensures { statuses.new ≡ woken_at statuses.old thread }
+{
+    let at = thread as usize;
+    if at < statuses.len() {
+        let status = statuses.as_slice()[at];
+        statuses.set(at, woken(status));
     }
 }
 

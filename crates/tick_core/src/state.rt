@@ -13,30 +13,30 @@ ghost use Rattle.tick_core.specs.Claims.{Claim as OpenClaim};
 ghost use Rattle.tick_core.specs.Events.{begun};
 ghost use Rattle.tick_core.specs.State.{IsFresh, BeginsTick, threads_of};
 ghost use Rattle.tick_core.specs.Turns.{AreReady};
-ghost use Rattle.tick_core.specs.Again.{begun_again};
 
 mod claiming;
 mod ending;
 mod first_rows;
+mod listing;
 mod parking;
 mod running;
 mod taking;
 
 use crate::claim::Claim;
-use crate::copying::{copied, copy_into};
+use crate::copying::copied;
 use crate::given::Given;
 use crate::history::Entry;
 use crate::inputs::{Inputs, are_accepted};
 use crate::joins::Joins;
 use crate::kept_claim::KeptClaim;
 use crate::sorting::rows_of;
-use crate::starting::start;
-use crate::waking::count_and_sort;
+use crate::starting::{start, start_listed};
 use buckets::Rows;
 use bytecode::Image;
 pub(crate) use ending::present_value;
 pub(crate) use first_rows::kinds_of;
 use first_rows::no_claims;
+use listing::begin_listed;
 pub use parking::ParkedSpace;
 use sc_graph::{Control, Program, ThreadId};
 use sc_values::{Kind, Name, Value};
@@ -96,6 +96,8 @@ pub struct TickState<'a> {
     living: Vec<usize>,
     // what was given to the variables
     given: Given,
+    // the threads that were present as the tick began
+    listed: Vec<ThreadId>,
 }
 
 impl<'a> Model for TickState<'a> {
@@ -105,6 +107,7 @@ impl<'a> Model for TickState<'a> {
     ghost use Rattle.tick_core.specs.Inside.Joins.{FindsForks};
     ghost use Rattle.tick_core.specs.Inside.Living.{CountsLiving};
     ghost use Rattle.tick_core.specs.Inside.Sorting.{AreSorted};
+    ghost use Rattle.tick_core.specs.Inside.There.{AllListed};
     ghost use Rattle.tick_core.specs.Inside.Turns.{OpenAt};
 
     ghost Value = { InTick };
@@ -133,7 +136,9 @@ impl<'a> Model for TickState<'a> {
           history = s.history.items;
           claims = s.claims.items;
         }) s.claimed s.level × CountsLiving s.verified.now.program s.present s.living.items
-        × (length s.given ≡ length s.verified.now.program.variables) };
+        × (length s.given ≡ length s.verified.now.program.variables)
+        × (length s.verified.now.program.threads ≤ vec_capacity s.listed)
+        × AllListed s.begun.statuses s.listed.items };
 }
 
 /// What the ticks of one verified image take over from one another: the image, and the room that they
@@ -209,6 +214,7 @@ fn refused(program: &Program, inputs: &[(Name, Value)]) -> BeginFault
 
 impl<'a> TickSpace<'a> {
     /// TickSpace for the ticks of a verified image.
+    #[tactic(auto, using(crate::proofs::ListedCopied::spare_listed))]
     pub fn of(alloc: Global, verified: &'a Verified) -> Result<TickSpace<'a>, AllocError>
         ensures { IfOk result (λ r. r ≡ verified.now) }
     {
@@ -220,6 +226,7 @@ impl<'a> TickSpace<'a> {
         let claims = no_claims(alloc, program)?;
         let living = vec![in alloc; 0; program.threads().len()]?;
         let given = Given::of(alloc, program)?;
+        let listed = Vec::with_capacity(alloc, program.threads().len())?;
         let spare = Control::initial(alloc, program)?;
         let room = ParkedSpace {
             joins,
@@ -230,6 +237,7 @@ impl<'a> TickSpace<'a> {
             living,
             given,
             spare,
+            listed,
         };
         Ok(TickSpace { verified, room })
     }
@@ -261,61 +269,23 @@ impl<'a> TickSpace<'a> {
         ensures refused { OnErr result (¬ (AreAccepted self.entry.program inputs.now)) }
         ensures why { result ≢ Err BeginFault.Memory }
     {
-        let mut space = self;
-        let program = space.verified.image().program();
-        if !space.room.given.take(program, inputs.as_slice()) {
+        let TickSpace { verified, mut room } = self;
+        let program = verified.image().program();
+        if !room.given.take(program, inputs.as_slice()) {
             return Err(BeginFault::Input);
         }
         let mut begun = control;
-        start(program, space.room.given.values(), &mut begun);
-        Ok(space.begin_again(begun))
-    }
-
-    /// Begins a tick of the image again, from the configuration in which one began, which is given up. It takes no
-    /// memory.
-    pub fn begin_again(self, begun: Control) -> TickState<'a>
-        requires { BeginsTick self.program begun }
-        ensures { result ≡ begun_again self.entry begun }
-    {
-        let TickSpace {
-            verified,
-            room: ParkedSpace {
-                joins,
-                mut rows,
-                variable_kinds,
-                mut history,
-                claims,
-                mut living,
-                given,
-                spare: mut present,
-            },
-        } = self;
-        let image = verified.image();
-        let program = image.program();
-        copy_into(&begun, &mut present);
-        history.clear();
-        count_and_sort(
-            &joins,
-            program,
-            image.tables(),
-            &present,
-            &mut living,
-            &mut rows,
-        );
-        TickState {
-            verified,
-            joins,
-            rows,
-            variable_kinds,
-            begun,
-            present,
-            history,
-            claims,
-            claimed: 0,
-            level: 0,
-            living,
-            given,
+        if room.list_present(verified, &begun) {
+            start_listed(
+                program,
+                room.given.values(),
+                room.listed.as_slice(),
+                &mut begun,
+            );
+            return Ok(begin_listed(verified, room, begun));
         }
+        start(program, room.given.values(), &mut begun);
+        Ok(TickSpace { verified, room }.begin_again(begun))
     }
 }
 

@@ -223,7 +223,8 @@ fn put_value(values: &mut Items<Value>, variable: VariableId, value: Value)
     }
 }
 
-fn put_status(statuses: &mut Items<Status>, thread: ThreadId, status: Status)
+/// Makes a thread stand so, where there is such a one.
+pub(crate) fn put_status(statuses: &mut Items<Status>, thread: ThreadId, status: Status)
     ensures { statuses.new ≡ slice_set statuses.old thread status }
 {
     let at = thread as usize;

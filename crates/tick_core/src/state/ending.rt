@@ -135,6 +135,7 @@ impl<'a> TickState<'a> {
             level: _,
             living,
             given,
+            listed,
         } = self;
         let space = TickSpace {
             verified,
@@ -147,6 +148,7 @@ impl<'a> TickState<'a> {
                 living,
                 given,
                 spare: begun,
+                listed,
             },
         };
         (present, space)

@@ -9,7 +9,7 @@ use crate::joins::Joins;
 use crate::kept_claim::KeptClaim;
 use crate::state::TickSpace;
 use buckets::Rows;
-use sc_graph::Control;
+use sc_graph::{Control, ThreadId};
 use sc_values::Kind;
 use verifier::Verified;
 
@@ -27,8 +27,10 @@ pub struct ParkedSpace {
     // with a place for each thread
     pub(super) living: Vec<usize>,
     pub(super) given: Given,
-    // a configuration of the program, or like one, in which nothing is read
+    // a configuration of the program, or like one
     pub(super) spare: Control,
+    // the threads that are present in it, with room for each thread
+    pub(super) listed: Vec<ThreadId>,
 }
 
 impl ParkedSpace {

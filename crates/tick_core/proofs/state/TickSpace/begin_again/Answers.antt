@@ -5,6 +5,7 @@ use Rattle.sc_graph.specs.Valid.{IsValid}
 use Rattle.tick_core.specs.State.{BeginsTick}
 use Rattle.tick_core.specs.Inside.Living.{CountsLiving}
 use Rattle.tick_core.specs.Inside.Sorting.{OwnRows, StandSorted}
+use Rattle.tick_core.specs.Inside.There.{AllListed}
 use Rattle.tick_core.proofs.StateKept.{holds_begun, no_claims_at}
 use Rattle.tick_core.proofs.Counts.{sorted_free, none_open_at}
 use Rattle.tick_core.proofs.Opened.{none_counted}
@@ -69,4 +70,8 @@ invariant_of-result c =
       subst (λ p. CountsLiving p c.copy_into.new.to c.count_and_sort.new.counts.items)
           (c.program-program.ensures ∙ ap (λ i. i.program) c.image-image.ensures.value) c.count_and_sort.ensures.counted,
       c.self.invariant.given,
+      omega (arith, c.self.invariant.listed, c.list_everybody.ensures.room),
+      subst (λ p. IsConfiguration p c.args.begun → AllListed c.args.begun.statuses c.list_everybody.new.listed.items)
+          (c.program-program.ensures ∙ ap (λ i. i.program) c.image-image.ensures.value) (c.list_everybody.ensures.listed c.args.begun)
+          (begins_configuration c.self.inside.verified.now c.args.begun c.image-image.ensures.valid begins),
     )

@@ -86,6 +86,8 @@ invariant_of-self c =
           c.close_one.ensures.counted,
       steps.counts,
       c.self.invariant.7,
+      c.self.invariant.8,
+      c.self.invariant.9,
     )
 
 pub returns-clause-next : goal.returns-clause-next

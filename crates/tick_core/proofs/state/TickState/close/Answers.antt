@@ -42,4 +42,6 @@ invariant_of-self c = (
       c.close_one.ensures.closed c.close_one.ensures.counted,
   c.self.invariant.6,
   c.self.invariant.7,
+  c.self.invariant.8,
+  c.self.invariant.9,
 )

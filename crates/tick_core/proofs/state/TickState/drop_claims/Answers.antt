@@ -42,6 +42,8 @@ invariant_of-self c = (
   none_open_at _ c.self.inside.level c.close_all.ensures.none,
   c.self.invariant.6,
   c.self.invariant.7,
+  c.self.invariant.8,
+  c.self.invariant.9,
 )
 
 pub returns-else-self-gt0 : goal.returns-else-self-gt0

@@ -13,6 +13,8 @@ invariant_of-space c =
       history = c.self.invariant.2;
       living = c.self.invariant.6.long;
       given = c.self.invariant.7;
+      listed = c.self.invariant.8;
+      present = c.self.invariant.9;
       spare = begun_places _ c.self.invariant.0;
     }
 

@@ -27,4 +27,6 @@ invariant_of-self c =
           (c.priority-self-inside.ensures ∙ sym (ap (λ (s : InTick). priority_of s.image.tables (status_of s.present c.thread-thread.result)) c.self.view_is)),
       c.self.invariant.6,
       c.self.invariant.7,
+      c.self.invariant.8,
+      c.self.invariant.9,
     )
