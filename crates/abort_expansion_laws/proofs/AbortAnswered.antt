@@ -39,7 +39,7 @@ use Rattle.abort_expansion_laws.proofs.StageReached.{Stage, stage_of, holds_othe
 use Rattle.abort_expansion_laws.proofs.StartingRegions.{set_behind}
 use Rattle.abort_expansion_laws.proofs.EffectFollowed.{value_size}
 use Rattle.abort_expansion_laws.proofs.CoreSteps.{takes_any}
-use Rattle.abort_expansion_laws.proofs.InsideLeaves.{LayeredRows}
+use Rattle.abort_expansion_laws.proofs.InsideLeaves.{AloneRows}
 use Rattle.abort_expansion_laws.proofs.Leaving.{drops, set_here, set_other, set_length}
 use Rattle.abort_expansion_laws.proofs.StandsInside.{only_inside, inside_not_over, inside_present, inside_not_acting}
 use Rattle.abort_expansion_laws.proofs.DropsOut.{DropsOut, dropped_out}
@@ -48,7 +48,7 @@ use Rattle.abort_expansion_laws.proofs.StagesAfterDrop.{outer_stage, outer_low, 
 use Rattle.abort_expansion_laws.proofs.AbortNext.{AbortNext}
 use Rattle.abort_expansion_laws.proofs.AbortTaken as taken
 
-module _ (k core : Table) (i : Images) (rows : CoreRows k core i) (more : LayeredRows k core i) (tree : IsNested k) (core_tree : IsNested core)
+module _ (k core : Table) (i : Images) (rows : CoreRows k core i) (more : AloneRows k core i) (tree : IsNested k) (core_tree : IsNested core)
     (deep : (q s : ℕ) → Contains (around core q) s → holder core s < q)
     (core_children : (s r : ℕ) → Contains (state_at core s).regions r → around core r ≡ s ∷ around core (holder core s))
     (children : (s r : ℕ) → Contains (state_at k s).regions r → around k r ≡ s ∷ around k (holder k s))

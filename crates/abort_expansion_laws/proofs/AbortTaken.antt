@@ -34,7 +34,7 @@ use Rattle.abort_expansion_laws.proofs.Unchanged.{no_guards, unguarded}
 use Rattle.abort_expansion_laws.proofs.StageReached.{Stage, holds_other, inside_in}
 use Rattle.abort_expansion_laws.proofs.ImageSteps.{pair}
 use Rattle.abort_expansion_laws.proofs.KnownVariables.{in_either, present_there}
-use Rattle.abort_expansion_laws.proofs.InsideLeaves.{LayeredRows, there_too}
+use Rattle.abort_expansion_laws.proofs.InsideLeaves.{AloneRows, there_too}
 use Rattle.abort_expansion_laws.proofs.InsideAround.{all_from, inside_around}
 use Rattle.abort_expansion_laws.proofs.OneLeaves.{Left}
 use Rattle.abort_expansion_laws.proofs.MayLeave.{is_forked, AreOuterOne}
@@ -46,7 +46,7 @@ use Rattle.abort_expansion_laws.proofs.Answering.{fails_on, Passed, tests_fail, 
 use Rattle.chart_machine_laws.proofs.ChartTables.{around_there}
 use Rattle.abort_expansion_laws.proofs.AbortRaised as raised
 
-module _ (k core : Table) (i : Images) (rows : CoreRows k core i) (more : LayeredRows k core i) (tree : IsNested k) (core_tree : IsNested core)
+module _ (k core : Table) (i : Images) (rows : CoreRows k core i) (more : AloneRows k core i) (tree : IsNested k) (core_tree : IsNested core)
     (deep : (q s : ℕ) → Contains (around core q) s → holder core s < q)
     (core_children : (s r : ℕ) → Contains (state_at core s).regions r → around core r ≡ s ∷ around core (holder core s))
     (children : (s r : ℕ) → Contains (state_at k s).regions r → around k r ≡ s ∷ around k (holder k s))

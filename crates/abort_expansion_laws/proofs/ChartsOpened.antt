@@ -1,4 +1,4 @@
--- What the moves of a fork make of its inside, of each expanded layered chart; so what was entered there settles.
+-- What the moves of a fork make of its inside, of each expanded chart; so what was entered there settles.
 use Rattle.std.proofs.Common.{◌≡◌, ℕ, ◌+◌, Bool, true, false, ◌||◌, Option, None, [], ◌∷◌, Contains, refl, sym, ap, subst, ◌∙◌}
 use Rattle.sc_values.specs.Access.{Access}
 use Rattle.core_charts.specs.declared.features.Features.TheVariants as features
@@ -15,7 +15,6 @@ use Rattle.abort_expansion.specs.Expansion.{expanded}
 use Rattle.chart_machine_laws.specs.Tree.{IsThere, around, holder}
 use Rattle.chart_machine_laws.proofs.LyingIn.{head_in}
 use Rattle.chart_machine_laws.proofs.ChartTables.{chart_is_tree, around_there}
-use Rattle.abort_expansion_laws.specs.Layered.{IsWeaklyLayered}
 use Rattle.abort_expansion_laws.specs.CoreRows.{own, IsSuper, Images, flags_around, pair}
 use Rattle.abort_expansion_laws.specs.Related.{Related}
 use Rattle.abort_expansion_laws.specs.Stages.{Entry, Silent}
@@ -24,15 +23,16 @@ use Rattle.abort_expansion_laws.proofs.Simulation.{Segment}
 use Rattle.abort_expansion_laws.proofs.Walked.{World, FlagsFit}
 use Rattle.abort_expansion_laws.proofs.WalkedWhole.{world}
 use Rattle.abort_expansion_laws.proofs.RowsOfCharts as whole
-use Rattle.abort_expansion_laws.proofs.MoreRows.{alone, opening_rows, counter_rows, is_counter, stage_of_write, strong_of, strong_at}
+use Rattle.abort_expansion_laws.proofs.MoreRows.{alone, opening_rows, counter_rows, is_counter, strong_of}
 use Rattle.abort_expansion_laws.proofs.OpenedInside.{opened_elsewhere, charts_enter}
 use Rattle.abort_expansion_laws.proofs.OpenedRows.{OpenedRows}
-use Rattle.abort_expansion_laws.proofs.LayeredChartRows.{layered_rows, fork_rows, start_rows}
+use Rattle.abort_expansion_laws.proofs.TickRows.{alone_rows, fork_rows, start_rows}
 use Rattle.abort_expansion_laws.proofs.EnteredMonitors.{Unflagged}
 use Rattle.abort_expansion_laws.proofs.JustEntered.{EntryRows}
 use Rattle.abort_expansion_laws.proofs.OpenedRowsHold.{opened_rows}
 use Rattle.abort_expansion_laws.proofs.Pending.{Sound, Pending, Reached}
 use Rattle.abort_expansion_laws.proofs.EnteredSettles.{entered_settles}
+use Rattle.abort_expansion_laws.proofs.FlagStages.{FlagStages}
 
 module _ (c : Chart) (rules : IsChart features.Extended c) (core_rules : IsChart features.Core (expanded c)) where
   abbrev k : Table
@@ -85,13 +85,13 @@ module _ (c : Chart) (rules : IsChart features.Extended c) (core_rules : IsChart
       none true x e = absurd cc
       none false x e = refl
 
-  pub charts_opened : IsWeaklyLayered c → OpenedRows k core i
-  charts_opened layered =
-      opened_rows k core i entry_rows (layered_rows c rules core_rules layered) (start_rows c rules core_rules layered) (alone c rules core_rules)
+  pub charts_opened : OpenedRows k core i
+  charts_opened =
+      opened_rows k core i entry_rows (alone_rows c rules core_rules) (start_rows c rules core_rules) (alone c rules core_rules)
       (counter_rows c rules core_rules).counter_joins unflagged (whole.super_of c rules core_rules)
 
   -- so what was entered settles, one region after the other
-  module _ (layered : IsWeaklyLayered c) (Told : Configuration → Entry → Type 0)
+  module _ (stages : FlagStages c rules core_rules) (Told : Configuration → Entry → Type 0)
       (told : (e : Configuration) (t : ℕ) (stage : Option (ℕ × ℕ)) (a : Access) → Told e (Silent t stage a)) where
     core_children : (s t : ℕ) → Contains (state_at core s).regions t → IsThere core t × (around core t ≡ s ∷ around core (holder core s))
     core_children s t h =
@@ -100,12 +100,11 @@ module _ (c : Chart) (rules : IsChart features.Extended c) (core_rules : IsChart
 
     pub charts_settle : (at_now core_at_now : Configuration) → Sound k core i at_now → Pending k core i at_now 0 core_at_now →
         Segment (machine core)
-        (pair k core i (whole.rows_of_chart c rules core_rules) (whole.tree c rules core_rules).nested (is_counter c rules core_rules)
-        (stage_of_write c rules core_rules)) Told core_at_now (Reached k core i at_now core_at_now) (Stage k i.thread_of at_now) []
-        (Related k core i at_now)
+        (pair k core i (whole.rows_of_chart c rules core_rules) (whole.tree c rules core_rules).nested (is_counter c rules core_rules) stages.written_at)
+        Told core_at_now (Reached k core i at_now core_at_now) (Stage k i.thread_of at_now) [] (Related k core i at_now)
     charts_settle at_now core_at_now sound pending =
         entered_settles k core i (whole.rows_of_chart c rules core_rules) (whole.tree c rules core_rules).nested
-        (whole.core_tree c rules core_rules).nested (is_counter c rules core_rules) (stage_of_write c rules core_rules) Told told
+        (whole.core_tree c rules core_rules).nested (is_counter c rules core_rules) stages.written_at Told told
         (whole.tree c rules core_rules).deeper (whole.tree c rules core_rules).children core_children (opening_rows c rules core_rules)
-        (fork_rows c rules core_rules layered) (charts_opened layered) (counter_rows c rules core_rules) (strong_of c rules core_rules)
-        (strong_at c rules core_rules) (λ q s there h. whole.super_there c rules core_rules q s h) at_now sound core_at_now pending
+        (fork_rows c rules core_rules) charts_opened stages.counters (strong_of c rules core_rules)
+        stages.strong_zero (λ q s there h. whole.super_there c rules core_rules q s h) at_now sound core_at_now pending

@@ -16,7 +16,7 @@ use Rattle.abort_expansion_laws.specs.CoreRows.{own, IsState, Images, CoreRows}
 use Rattle.abort_expansion_laws.specs.Related.{ahead, front}
 use Rattle.abort_expansion_laws.proofs.FrontFirst.{first_of_each}
 use Rattle.abort_expansion_laws.proofs.Fronts.{guards_not, guards_here}
-use Rattle.abort_expansion_laws.proofs.InsideLeaves.{LayeredRows}
+use Rattle.abort_expansion_laws.proofs.InsideLeaves.{AloneRows}
 use Rattle.abort_expansion_laws.proofs.LookDropped.{look}
 use Rattle.abort_expansion_laws.proofs.LooksOuter.{LooksNext, away, at_look}
 use Rattle.abort_expansion_laws.proofs.MonitorsReady.{AllReady}
@@ -27,14 +27,14 @@ use Rattle.abort_expansion_laws.proofs.StageReached.{none_of}
 abbrev pub IsChecked : (x place : ℕ) → List Transition → Type 0
 IsChecked x place tests = (b : Bool) × (rest : List Transition) × (tests ≡ go b (Some (is_raised x)) [] place ∷ rest)
 
-module _ (k core : Table) (i : Images) (rows : CoreRows k core i) (layered : LayeredRows k core i) (tree : IsNested k)
+module _ (k core : Table) (i : Images) (rows : CoreRows k core i) (lone : AloneRows k core i) (tree : IsNested k)
     (core_children : (s r : ℕ) → Contains (state_at core s).regions r → around core r ≡ s ∷ around core (holder core s))
     (children : (s r : ℕ) → Contains (state_at k s).regions r → around k r ≡ s ∷ around k (holder k s))
     (c d : Configuration) (all : AllReady k core i c d)
     (o x : ℕ) (has : has_aborts (own k o) ≡ true) (flag : (i.flags_of o).strong ≡ Some x) (guards_now : guards (standing_of c (holder k o)) ≡ true)
     (free : is_guarded k c (around k (holder k o)) ≡ false) where
   abbrev pub SeesIt : Standing → Type 0
-  SeesIt = Sees k core i rows layered tree core_children children c d all.related o x has flag guards_now (IsChecked x)
+  SeesIt = Sees k core i rows lone tree core_children children c d all.related o x has flag guards_now (IsChecked x)
 
   -- in front of the thread of a region the outermost check is the first
   module _ (q : ℕ) (in_o : Contains (around k q) o) (b : Bool) where
@@ -67,7 +67,7 @@ module _ (k core : Table) (i : Images) (rows : CoreRows k core i) (layered : Lay
 
   pub region_next : (q : ℕ) → IsThere k q → Contains (around k q) o → SeesIt (standing_of d (i.thread_of q))
   region_next q there in_o =
-      region_sees k core i rows layered tree core_children children c d all.related o x has flag guards_now (IsChecked x) q there in_o
+      region_sees k core i rows lone tree core_children children c d all.related o x has flag guards_now (IsChecked x) q there in_o
       (λ b rest. front_checks q in_o b rest)
 
   pub monitor_next : (u : ℕ) → IsState k u → has_aborts (own k u) ≡ true → Contains (around k (holder k u)) o → SeesIt (standing_of d (i.watcher_of u))

@@ -1,4 +1,4 @@
--- The first tick of each expanded layered chart begins: what it enters settles in the core, and then corresponds.
+-- The first tick of each expanded chart begins: what it enters settles in the core, and then corresponds.
 use Rattle.std.proofs.Common.{◌≡◌, ◌≢◌, ℕ, ◌+◌, Option, List, [], ◌∷◌, map, Contains, refl, sym, subst}
 use Rattle.sc_values.specs.Access.{Access}
 use Rattle.sc_graph.specs.Tick.{Inputs}
@@ -15,7 +15,6 @@ use Rattle.chart_machine.specs.Machine.{machine, initial, start}
 use Rattle.abort_expansion.specs.Expansion.{expanded}
 use Rattle.chart_machine_laws.specs.Tree.{IsThere, around}
 use Rattle.chart_machine_laws.proofs.LyingIn.{head_in}
-use Rattle.abort_expansion_laws.specs.Layered.{IsWeaklyLayered}
 use Rattle.abort_expansion_laws.specs.Stages.{Entry, Silent, NoneReached}
 use Rattle.abort_expansion_laws.specs.CoreRows.{Images, pair}
 use Rattle.abort_expansion_laws.specs.Related.{Related}
@@ -26,15 +25,16 @@ use Rattle.abort_expansion_laws.proofs.Pending.{Sound, Pending, Reached}
 use Rattle.abort_expansion_laws.proofs.WalkedWhole.{entered}
 use Rattle.abort_expansion_laws.proofs.FlagNumbers.{numbers_once}
 use Rattle.abort_expansion_laws.proofs.RowsOfCharts as whole
-use Rattle.abort_expansion_laws.proofs.MoreRows.{alone, counter_rows, is_counter, stage_of_write}
-use Rattle.abort_expansion_laws.proofs.LayeredChartRows.{start_rows}
+use Rattle.abort_expansion_laws.proofs.MoreRows.{alone, counter_rows, is_counter}
+use Rattle.abort_expansion_laws.proofs.TickRows.{start_rows}
 use Rattle.abort_expansion_laws.proofs.ChartsOpened.{entry_rows, unflagged, charts_settle}
 use Rattle.abort_expansion_laws.proofs.TopRegions.{tops, top_there}
 use Rattle.abort_expansion_laws.proofs.FirstTick.{first_present}
 use Rattle.abort_expansion_laws.proofs.FirstTickWaits.{first_sound, first_pending}
 use Rattle.abort_expansion_laws.proofs.StillBegun.{HasBegun}
+use Rattle.abort_expansion_laws.proofs.FlagStages.{FlagStages}
 
-module _ (c : Chart) (rules : IsChart features.Extended c) (core_rules : IsChart features.Core (expanded c)) (layered : IsWeaklyLayered c)
+module _ (c : Chart) (rules : IsChart features.Extended c) (core_rules : IsChart features.Core (expanded c))
     (inputs : Inputs) where
   abbrev k : Table
   k = table c
@@ -54,22 +54,22 @@ module _ (c : Chart) (rules : IsChart features.Extended c) (core_rules : IsChart
   sound : Sound k core i at_first
   sound =
       first_sound k core i (entry_rows c rules core_rules) (alone c rules core_rules) (counter_rows c rules core_rules).counter_joins
-      (unflagged c rules core_rules) (λ s here. (whole.state_fits c rules core_rules s here).region.here) (start_rows c rules core_rules layered).locals
+      (unflagged c rules core_rules) (λ s here. (whole.state_fits c rules core_rules s here).region.here) (start_rows c rules core_rules).locals
       (tops c rules) (top_there c rules) (λ r h. numbers_once c.regions 1 r h) (entered c rules) inputs
 
   pending : Pending k core i at_first 0 core_at_first
   pending =
       first_pending k core i (entry_rows c rules core_rules) (alone c rules core_rules) (counter_rows c rules core_rules).counter_joins
-      (unflagged c rules core_rules) (λ s here. (whole.state_fits c rules core_rules s here).region.here) (start_rows c rules core_rules layered).locals
+      (unflagged c rules core_rules) (λ s here. (whole.state_fits c rules core_rules s here).region.here) (start_rows c rules core_rules).locals
       (tops c rules) (top_there c rules) (λ r h. numbers_once c.regions 1 r h) (entered c rules) inputs
 
-  module _ (Told : Configuration → Entry → Type 0)
+  module _ (stages : FlagStages c rules core_rules) (Told : Configuration → Entry → Type 0)
       (told : (e : Configuration) (t : ℕ) (stage : Option (ℕ × ℕ)) (a : Access) → Told e (Silent t stage a)) where
     pub first_tick_begins : Segment (machine core)
         (pair k core i (whole.rows_of_chart c rules core_rules) (whole.tree c rules core_rules).nested (is_counter c rules core_rules)
-        (stage_of_write c rules core_rules)) Told core_at_first NoneReached (Stage k i.thread_of at_first) [] (Related k core i at_first)
+        stages.written_at) Told core_at_first NoneReached (Stage k i.thread_of at_first) [] (Related k core i at_first)
     first_tick_begins =
-        let s = charts_settle c rules core_rules layered Told told at_first core_at_first sound pending in
+        let s = charts_settle c rules core_rules stages Told told at_first core_at_first sound pending in
         record {
           log = s.log;
           last = s.last;
@@ -79,7 +79,7 @@ module _ (c : Chart) (rules : IsChart features.Extended c) (core_rules : IsChart
           climbs = λ rest climbs.
               climbs_fewer
               (pair k core i (whole.rows_of_chart c rules core_rules) (whole.tree c rules core_rules).nested (is_counter c rules core_rules)
-              (stage_of_write c rules core_rules)) (Reached k core i at_first core_at_first) NoneReached _ (λ h n none. absurd none)
+              stages.written_at) (Reached k core i at_first core_at_first) NoneReached _ (λ h n none. absurd none)
               (s.climbs rest climbs);
           reaches = s.reaches;
         }

@@ -1,12 +1,9 @@
 -- What is inside of a superstate whose flag was raised can leave, where each thread of its regions and the monitors inside can.
 use Rattle.std.proofs.Common.{◌≡◌, ◌≢◌, ℕ, zero, suc, ◌⊎◌, inl, inr, ⊎_elim, Bool, true, false, ◌||◌, Option, Some, None, List, [], ◌∷◌, ◌++◌, map}
 use Rattle.std.proofs.Common.{length, Contains, refl, sym, ap, subst, ◌∙◌, arith}
-use Rattle.std.specs.Prelude.{reverse, flat_map}
-use Rattle.std.proofs.lemmas.List.{append-nil}
 use Rattle.std.proofs.lemmas.Bool.{or_parts}
-use Rattle.core_charts.specs.declared.region.Transition.{Transition}
 use Rattle.core_charts.specs.Tests.{at_once}
-use Rattle.core_charts.specs.Aborts.{has_strong, has_weak, has_aborts}
+use Rattle.core_charts.specs.Aborts.{has_strong, has_aborts}
 use Rattle.chart_machine.specs.declared.standing.Standing.{Standing}
 use Rattle.chart_machine.specs.declared.standing.Standing.TheVariants as at
 use Rattle.chart_machine.specs.declared.standing.Configuration.{Configuration}
@@ -19,8 +16,7 @@ use Rattle.abort_expansion.specs.Flags.{aborts_around, is_there}
 use Rattle.abort_expansion.specs.Transitions.{check, strong_checks}
 use Rattle.abort_expansion.specs.Superstates.{stays}
 use Rattle.abort_expansion_laws.specs.Stages.{Correspondence}
-use Rattle.chart_machine_laws.proofs.LyingIn.{IsNested, around, holder, none_in, head_or_tail, head_in, tail_in}
-use Rattle.abort_expansion_laws.proofs.Fronts.{reversed, none_of_each}
+use Rattle.chart_machine_laws.proofs.LyingIn.{IsNested, around, holder, none_in, head_or_tail}
 use Rattle.abort_expansion_laws.proofs.StageReached.{holds_other}
 use Rattle.abort_expansion_laws.proofs.TablesCorrespond.{IsThere, contains_map}
 use Rattle.chart_machine_laws.proofs.ChartTables.{no_regions_past, within_or_past, nothing_around}
@@ -35,30 +31,9 @@ use Rattle.abort_expansion_laws.specs.Related.{guards as watch_guards}
 use Rattle.abort_expansion_laws.proofs.MayLeave.{LeavesBy, MayLeave, over, forks}
 use Rattle.abort_expansion_laws.proofs.OneMonitor.{one_monitor}
 
--- ---- one of the superstates around a region has aborts: then one check stands in front
-
-module _ (k : Table) (tree : IsNested k) (c : ℕ → List Transition) where
-  pub one_checked : (zs : List ℕ) (q o : ℕ) → around k q ≡ zs → Contains zs o → ((s : ℕ) → Contains zs s → s ≢ o → c s ≡ []) → flat_map c (reverse zs) ≡ c o
-  one_checked [] q o e h none = absurd (none_in o h)
-  one_checked (s ∷ zs) q o e h none =
-      ⊎_elim
-      (λ same.
-      let not_again : (u : ℕ) → Contains zs u → u ≢ o =
-      λ u inner is. holds_other k tree (holder k s) s (subst (λ ys. Contains ys s) (tree.upward q s zs e) (subst (Contains zs) (is ∙ sym same) inner)) refl in
-      let rest : flat_map c (reverse zs) ≡ [] = none_of_each c zs (λ u inner. none u (tail_in s u zs inner) (not_again u inner)) in
-      reversed c s zs ∙ (ap (λ ys. ys ++ (c s ++ [])) rest ∙ (append-nil (c s) ∙ ap c same)))
-      (λ tail.
-      let differs : s ≢ o =
-      λ is. holds_other k tree (holder k s) s (subst (λ ys. Contains ys s) (tree.upward q s zs e) (subst (Contains zs) (sym is) tail)) refl in
-      let own : c s ≡ [] = none s (head_in s zs) differs in
-      let rest : flat_map c (reverse zs) ≡ c o = one_checked zs (holder k s) o (sym (tree.upward q s zs e)) tail (λ u inner. none u (tail_in s u zs inner)) in
-      reversed c s zs ∙ (ap (λ ys. flat_map c (reverse zs) ++ (ys ++ [])) own ∙ (append-nil (flat_map c (reverse zs)) ∙ rest))) (head_or_tail s o zs h)
-
 -- ---- what more is asked of the rows
 
-pub record LayeredRows (k core : Table) (i : Images) : Type 0 where
-  -- of the superstates around a region one has weak aborts, at most
-  pub weak_once : (q o s : ℕ) → Contains (around k q) o → Contains (around k q) s → has_weak (own k o) ≡ true → has_weak (own k s) ≡ true → s ≡ o
+pub record AloneRows (k core : Table) (i : Images) : Type 0 where
   pub no_strong : (s : ℕ) → has_strong (own k s) ≡ false → (i.flags_of s).strong ≡ None
   -- nothing is inside of what is no fork
   pub simple_alone : (s : ℕ) → IsSimple k s → inside core (i.main_of s) ≡ []
@@ -70,7 +45,7 @@ true_or_false true = inl refl
 true_or_false false = inr refl
 
 -- who has a strong flag has strong aborts
-pub strong_of : (k core : Table) (i : Images) → LayeredRows k core i → (o x : ℕ) → (i.flags_of o).strong ≡ Some x → has_strong (own k o) ≡ true
+pub strong_of : (k core : Table) (i : Images) → AloneRows k core i → (o x : ℕ) → (i.flags_of o).strong ≡ Some x → has_strong (own k o) ≡ true
 strong_of k core i more o x flag =
     ⊎_elim (λ e. e) (λ e. let wrong : Some x ≡ None = sym flag ∙ more.no_strong o e in absurd cc) (true_or_false (has_strong (own k o)))
 
@@ -114,7 +89,7 @@ monitor_there k core i o _ _ (looks yet seen parted first some ends among only) 
 monitor_there k core i o _ _ (elsewhere z a b) (guarded tests) away = a tests refl
 monitor_there k core i o _ _ (elsewhere z a b) (open_inside tests) away = b tests refl
 
-module _ (k core : Table) (i : Images) (rows : CoreRows k core i) (more : LayeredRows k core i) (tree : IsNested k)
+module _ (k core : Table) (i : Images) (rows : CoreRows k core i) (more : AloneRows k core i) (tree : IsNested k)
     (core_children : (s r : ℕ) → Contains (state_at core s).regions r → around core r ≡ s ∷ around core (holder core s))
     (children : (s r : ℕ) → Contains (state_at k s).regions r → around k r ≡ s ∷ around k (holder k s))
     (o : ℕ) (has : has_aborts (own k o) ≡ true) (c d : Configuration) (related : Related k core i c d)

@@ -29,14 +29,14 @@ use Rattle.abort_expansion_laws.proofs.SilentSteps.{AtHome}
 use Rattle.abort_expansion_laws.proofs.KnownVariables.{trigger_known, Stepped, stepped, present_there}
 use Rattle.abort_expansion_laws.proofs.TestFails.{tested_is}
 use Rattle.abort_expansion_laws.proofs.StrongNotTaken.{MonitorGuards, trigger_plain}
-use Rattle.abort_expansion_laws.proofs.InsideLeaves.{LayeredRows}
+use Rattle.abort_expansion_laws.proofs.InsideLeaves.{AloneRows}
 use Rattle.abort_expansion_laws.proofs.WokenConfigurations.{all_ended_too}
 use Rattle.abort_expansion_laws.proofs.FrontsChanged.{tail_of, HasFirst, one_first, none_first}
 use Rattle.abort_expansion_laws.proofs.ChecksInside.{Passes, nothing_checked, checked, Done, checks_pass}
 use Rattle.abort_expansion_laws.proofs.LastStrongFails as last
 use Rattle.abort_expansion_laws.proofs.StandsInside.{inside_present}
 
-module _ (k core : Table) (i : Images) (rows : CoreRows k core i) (layered : LayeredRows k core i) (tree : IsNested k)
+module _ (k core : Table) (i : Images) (rows : CoreRows k core i) (lone : AloneRows k core i) (tree : IsNested k)
     (core_children : (s r : ℕ) → Contains (state_at core s).regions r → around core r ≡ s ∷ around core (holder core s))
     (children : (s r : ℕ) → Contains (state_at k s).regions r → around k r ≡ s ∷ around k (holder k s))
     (c d : Configuration) (related : Related k core i c d) (r o x : ℕ) (o_there : IsState k o) (super : IsSuper k o) (t : Transition)
@@ -46,25 +46,25 @@ module _ (k core : Table) (i : Images) (rows : CoreRows k core i) (layered : Lay
     (Told : Configuration → Entry → Type 0) (told : (e : Configuration) (g : ℕ) (stage : Option (ℕ × ℕ)) (a : Access) → Told e (Silent g stage a))
     (works : has_work k c (standing_of c r) ≡ true) (free : is_guarded k c (around k r) ≡ false) where
   abbrev c' : Configuration
-  c' = last.c' k core i rows layered tree core_children children c d related r o x o_there super t stands monitor has flag
+  c' = last.c' k core i rows lone tree core_children children c d related r o x o_there super t stands monitor has flag
 
   abbrev d1 : Configuration
-  d1 = last.d1 k core i rows layered tree core_children children c d related r o x o_there super t stands monitor has flag
+  d1 = last.d1 k core i rows lone tree core_children children c d related r o x o_there super t stands monitor has flag
 
   abbrev corr : Correspondence
   corr = pair k core i rows tree counts written_at
 
   there : IsThere k r
-  there = last.there k core i rows layered tree core_children children c d related r o x o_there super t stands monitor has flag
+  there = last.there k core i rows lone tree core_children children c d related r o x o_there super t stands monitor has flag
 
   here : standing_of c' r ≡ at.Within o (closing_tests (own k o))
-  here = last.here k core i rows layered tree core_children children c d related r o x o_there super t stands monitor has flag
+  here = last.here k core i rows lone tree core_children children c d related r o x o_there super t stands monitor has flag
 
   elsewhere : (q : ℕ) → q ≢ r → standing_of c' q ≡ standing_of c q
-  elsewhere q ne = last.elsewhere_in_chart k core i rows layered tree core_children children c d related r o x o_there super t stands monitor has flag q ne
+  elsewhere q ne = last.elsewhere_in_chart k core i rows lone tree core_children children c d related r o x o_there super t stands monitor has flag q ne
 
   held : holder k o ≡ r
-  held = (last.region k core i rows layered tree core_children children c d related r o x o_there super t stands monitor has flag).held
+  held = (last.region k core i rows lone tree core_children children c d related r o x o_there super t stands monitor has flag).held
 
   home_is : corr.home x ≡ i.thread_of r
   home_is = ap (λ s. holder core (i.main_of s)) flag_of ∙ (rows.held o ∙ ap i.thread_of held)
@@ -238,7 +238,7 @@ module _ (k core : Table) (i : Images) (rows : CoreRows k core i) (layered : Lay
         fits = whole.fits;
         climbs = λ rest climbs. whole.climbs rest (climbs_fewer corr (Stage k i.thread_of c' whole.last) Home rest (stages_then whole.last) climbs);
         reaches =
-            last.related_then k core i rows layered tree core_children children c d related r o x o_there super t stands monitor has flag free whole.last
+            last.related_then k core i rows lone tree core_children children c d related r o x o_there super t stands monitor has flag free whole.last
             whole.reaches.variables whole.reaches.size
             (λ q is inner. whole.reaches.passed q is inner (let lt = is.1 in lt)) whole.reaches.others;
       }
@@ -250,12 +250,12 @@ module _ (k core : Table) (i : Images) (rows : CoreRows k core i) (layered : Lay
             last = d1;
             follows = (
               ap (λ a. record { thread = i.watcher_of o; access = a })
-                  (sym (ap access_of (last.core_stands k core i rows layered tree core_children children c d related r o x o_there super t stands monitor
+                  (sym (ap access_of (last.core_stands k core i rows lone tree core_children children c d related r o x o_there super t stands monitor
                   has flag))),
               told_it,
               (
                 d1,
-                last.monitor_steps k core i rows layered tree core_children children c d related r o x o_there super t stands monitor has flag
+                last.monitor_steps k core i rows lone tree core_children children c d related r o x o_there super t stands monitor has flag
                     false_there,
                 refl,
               ),
@@ -276,7 +276,7 @@ module _ (k core : Table) (i : Images) (rows : CoreRows k core i) (layered : Lay
           }
 
       passes_of : (q : ℕ) (y : Standing) →
-          HasFirst (λ b. last.check_of k core i rows layered tree core_children children c d related r o x o_there super t stands monitor has flag b q) y →
+          HasFirst (λ b. last.check_of k core i rows lone tree core_children children c d related r o x o_there super t stands monitor has flag b q) y →
           Passes k core i rows tree counts written_at Told told o x flag_of high_flag not_counter written_first Others q y (tail_of y)
       passes_of q _ (one_first b u rest) = checked b u rest
       passes_of q y (none_first z same) =
@@ -290,10 +290,10 @@ module _ (k core : Table) (i : Images) (rows : CoreRows k core i) (layered : Lay
           checks_pass k core i rows tree counts written_at Told told o x flag_of high_flag not_counter written_first Others
           (λ q. tail_of (standing_of d1 (i.thread_of q))) d1
           (Rattle.abort_expansion_laws.proofs.Leaving.set_length d.regions (i.watcher_of o) _ ∙ related.core_regions)
-          (last.flag_down k core i rows layered tree core_children children c d related r o x o_there super t stands monitor has flag)
+          (last.flag_down k core i rows lone tree core_children children c d related r o x o_there super t stands monitor has flag)
           (λ q is inner. passes_of q (standing_of d1 (i.thread_of q))
-          (last.first_inside k core i rows layered tree core_children children c d related r o x o_there super t stands monitor has flag free q is inner))
-          (last.nobody_guards k core i rows layered tree core_children children c d related r o x o_there super t stands monitor has flag)
+          (last.first_inside k core i rows lone tree core_children children c d related r o x o_there super t stands monitor has flag free q is inner))
+          (last.nobody_guards k core i rows lone tree core_children children c d related r o x o_there super t stands monitor has flag)
 
       whole : Segment (machine core) corr Told d (Stage k i.thread_of c d) (λ z. Home) (act_of (machine k) c r ∷ [])
           (Done k core i rows tree counts written_at Told told o x flag_of high_flag not_counter written_first Others
@@ -307,7 +307,7 @@ module _ (k core : Table) (i : Images) (rows : CoreRows k core i) (layered : Lay
           (λ q. tail_of (standing_of d1 (i.thread_of q))) d1 (suc (length k.regions)))) (sym first.reaches) second)
 
 -- the step of the chart
-module _ (k core : Table) (i : Images) (rows : CoreRows k core i) (layered : LayeredRows k core i) (tree : IsNested k)
+module _ (k core : Table) (i : Images) (rows : CoreRows k core i) (lone : AloneRows k core i) (tree : IsNested k)
     (core_children : (s r : ℕ) → Contains (state_at core s).regions r → around core r ≡ s ∷ around core (holder core s))
     (children : (s r : ℕ) → Contains (state_at k s).regions r → around k r ≡ s ∷ around k (holder k s))
     (c d : Configuration) (related : Related k core i c d) (r o x : ℕ) (o_there : IsState k o) (super : IsSuper k o) (t : Transition)
@@ -328,6 +328,6 @@ module _ (k core : Table) (i : Images) (rows : CoreRows k core i) (layered : Lay
       ap (λ e. after e c) change ∙ parts.is in
       subst (λ z. Segment (machine core) (pair k core i rows tree counts written_at) Told d (Stage k i.thread_of c d) (Stage k i.thread_of z)
       (act_of (machine k) c r ∷ []) (Related k core i z)) is
-      (followed k core i rows layered tree core_children children c d related r o x o_there super t stands monitor has flag counts written_at flag_of
+      (followed k core i rows lone tree core_children children c d related r o x o_there super t stands monitor has flag counts written_at flag_of
       not_counter
       written_first Told told parts.works parts.free false_there told_it)

@@ -22,7 +22,7 @@ use Rattle.abort_expansion_laws.specs.CoreRows.{own, IsState, Images, CoreRows}
 use Rattle.abort_expansion_laws.specs.Related.{Each, Watches, still_in, Stores, IsInside, guarded}
 use Rattle.abort_expansion_laws.specs.Related.{open_inside, FlagsAreDown, Closes, Related, IsCalm, calm_outside}
 use Rattle.abort_expansion_laws.specs.Related.{calm_ended, calm_trying, calm_within, calm_guarding}
-use Rattle.abort_expansion_laws.proofs.InsideLeaves.{LayeredRows}
+use Rattle.abort_expansion_laws.proofs.InsideLeaves.{AloneRows}
 use Rattle.abort_expansion_laws.proofs.Owed.{RestsIn, rests_outside, rests_ended, rests_left, rests_trying, rests_staying, rests_within, rests_behind, Resting}
 use Rattle.abort_expansion_laws.proofs.WokenConfigurations.{each_kept, variables_started, started_size, behind_same}
 use Rattle.abort_expansion_laws.proofs.WokenConfigurations.{woken_ended, present_before, present_after}
@@ -53,21 +53,21 @@ closes_whole k core i s =
       are = refl;
     }
 
-module _ (k core : Table) (i : Images) (rows : CoreRows k core i) (layered : LayeredRows k core i) (tree : IsNested k) (more_rows : StartRows k core i rows)
+module _ (k core : Table) (i : Images) (rows : CoreRows k core i) (lone : AloneRows k core i) (tree : IsNested k) (more_rows : StartRows k core i rows)
     (before core_before : Configuration) (rests : Resting k core i before core_before) (inputs : Inputs) where
   abbrev c : Configuration
-  c = starts.c k core i rows layered tree more_rows before core_before rests inputs
+  c = starts.c k core i rows lone tree more_rows before core_before rests inputs
 
   abbrev d : Configuration
-  d = starts.d k core i rows layered tree more_rows before core_before rests inputs
+  d = starts.d k core i rows lone tree more_rows before core_before rests inputs
 
   at_c : (r : ℕ) → standing_of c r ≡ woken k (standing_of before r)
-  at_c r = starts.at_c k core i rows layered tree more_rows before core_before rests inputs r
+  at_c r = starts.at_c k core i rows lone tree more_rows before core_before rests inputs r
 
   pub never : (r : ℕ) → (s : ℕ) (tests : List Transition) → standing_of before r ≢ at.Guarding s tests
   never r s tests e =
-      starts.never_guards k core i rows layered tree more_rows before core_before rests inputs r (standing_of before r) _
-      (rests.regions r (starts.there k core i rows layered tree more_rows before core_before rests inputs r
+      starts.never_guards k core i rows lone tree more_rows before core_before rests inputs r (standing_of before r) _
+      (rests.regions r (starts.there k core i rows lone tree more_rows before core_before rests inputs r
       (λ out. let wrong : at.Guarding s tests ≡ at.Outside = sym e ∙ out in absurd cc))) s tests e
 
   -- ---- variables
@@ -216,17 +216,17 @@ module _ (k core : Table) (i : Images) (rows : CoreRows k core i) (layered : Lay
         core_regions = length-map core_before.regions (woken core) ∙ rests.core_regions;
         values = size_c;
         no_chart = at_c 0 ∙ ap (woken k) rests.no_chart;
-        no_core = starts.at_d k core i rows layered tree more_rows before core_before rests inputs 0 ∙ ap (woken core) rests.no_core;
+        no_core = starts.at_d k core i rows lone tree more_rows before core_before rests inputs 0 ∙ ap (woken core) rests.no_core;
         regions = λ r there.
             subst (λ z. Rattle.abort_expansion_laws.specs.Related.Stands k core i c r z (standing_of d (i.thread_of r))) (sym (at_c r))
             (subst (Rattle.abort_expansion_laws.specs.Related.Stands k core i c r (woken k (standing_of before r)))
-            (sym (starts.at_d k core i rows layered tree more_rows before core_before rests inputs (i.thread_of r)))
-            (starts.wakes k core i rows layered tree more_rows before core_before rests inputs r there (standing_of before r) _ refl (rests.regions r there)));
+            (sym (starts.at_d k core i rows lone tree more_rows before core_before rests inputs (i.thread_of r)))
+            (starts.wakes k core i rows lone tree more_rows before core_before rests inputs r there (standing_of before r) _ refl (rests.regions r there)));
         watchers = λ o here has.
             subst (λ z. Watches k core i o z (standing_of d (i.watcher_of o))) (sym (at_c (holder k o)))
             (subst (Watches k core i o (woken k (standing_of before (holder k o))))
-            (sym (starts.at_d k core i rows layered tree more_rows before core_before rests inputs (i.watcher_of o)))
-            (monitor_woken k core i rows layered tree more_rows o here has (standing_of before (holder k o)) _ (rests.watchers o here has)
+            (sym (starts.at_d k core i rows lone tree more_rows before core_before rests inputs (i.watcher_of o)))
+            (monitor_woken k core i rows lone tree more_rows o here has (standing_of before (holder k o)) _ (rests.watchers o here has)
             (never (holder k o))));
         flags = flags_down;
         enclosed = λ r s there present inner.
@@ -237,8 +237,8 @@ module _ (k core : Table) (i : Images) (rows : CoreRows k core i) (layered : Lay
         calm = λ q s there inner guarded_by. calm_now q there;
         unseen = λ o s here has inner guarded_by.
             still_looks k core i o (woken core (standing_of core_before (i.watcher_of o))) (standing_of d (i.watcher_of o))
-            (starts.at_d k core i rows layered tree more_rows before core_before rests inputs (i.watcher_of o))
-            (woken_looks k core i rows layered tree more_rows o here has s inner (standing_of before (holder k o)) (standing_of core_before (i.watcher_of o))
+            (starts.at_d k core i rows lone tree more_rows before core_before rests inputs (i.watcher_of o))
+            (woken_looks k core i rows lone tree more_rows o here has s inner (standing_of before (holder k o)) (standing_of core_before (i.watcher_of o))
             (rests.watchers o here has));
       }
 

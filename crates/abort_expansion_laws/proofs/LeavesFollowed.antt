@@ -1,4 +1,4 @@
--- The steps of a layered chart by which a superstate is left are followed: aborts that are taken, and terminations.
+-- The steps of a chart by which a superstate is left are followed: aborts that are taken, and terminations.
 use Rattle.std.proofs.Common.{◌≡◌, ◌≢◌, ℕ, ◌<◌, ◌⊎◌, inl, inr, Bool, true, false, not, ◌&&◌, Some, None, List, [], ◌∷◌, length, map, slice_get}
 use Rattle.std.proofs.Common.{option_map, Contains, refl, sym, ap, subst, ◌∙◌}
 use Rattle.sc_values.specs.declared.value.Kind.TheVariants as kind_is
@@ -23,15 +23,15 @@ use Rattle.abort_expansion.specs.Superstates.{stays}
 use Rattle.abort_expansion.specs.Transitions.{led}
 use Rattle.chart_machine_laws.specs.Tree.{holder}
 use Rattle.chart_machine_laws.proofs.ChartTables.{around_there}
-use Rattle.abort_expansion_laws.specs.Layered.{IsWeaklyLayered}
 use Rattle.abort_expansion_laws.specs.Stages.{Entry}
 use Rattle.abort_expansion_laws.specs.CoreRows.{own, IsState, IsSuper, joins, Images, CoreRows, flags_around}
 use Rattle.abort_expansion_laws.specs.Related.{Stands, outside, ended, left, trying, acting, entering, guarding, staying, within, behind, Related}
 use Rattle.abort_expansion_laws.proofs.CasesFollowed.{has_from, other_true}
 use Rattle.abort_expansion_laws.proofs.CasesFollowed as cases
-use Rattle.abort_expansion_laws.proofs.LayeredChartRows.{layered_rows, start_rows}
+use Rattle.abort_expansion_laws.proofs.FlagStages.{FlagStages, WeakFits}
+use Rattle.abort_expansion_laws.proofs.TickRows.{alone_rows, start_rows}
 use Rattle.abort_expansion_laws.proofs.KnownVariables.{Stepped}
-use Rattle.abort_expansion_laws.proofs.MoreRows.{alone, opening_rows, strong_of, strong_at, weak_at, counter_given, writes_low, counter_rows}
+use Rattle.abort_expansion_laws.proofs.MoreRows.{alone, opening_rows, strong_of, counter_given}
 use Rattle.abort_expansion_laws.proofs.OwnTests.{OwnTests, IsOwn}
 use Rattle.abort_expansion_laws.proofs.PreemptionKept.{ToldHere}
 use Rattle.abort_expansion_laws.proofs.QuietBegins.{state_with_aborts}
@@ -86,198 +86,200 @@ module _ (k core : Table) (i : Images) (r s : ℕ) where
       absurd (not_behind (stays (flags_around k core i (holder k u)) (own k u)) (has_aborts (own k u)) (has_join (own k u)) _
       (ap (λ v. has_join (own k v)) state ∙ joined) over)
 
-module _ (c : Chart) (rules : IsChart features.Extended c) (core_rules : IsChart features.Core (expanded c)) (layered : IsWeaklyLayered c) where
-  abbrev k : Table
-  k = table c
+module _ (c : Chart) (rules : IsChart features.Extended c) (core_rules : IsChart features.Core (expanded c)) (stages : FlagStages c rules core_rules)
+  where
+    abbrev k : Table
+    k = table c
 
-  abbrev core : Table
-  core = table (expanded c)
+    abbrev core : Table
+    core = table (expanded c)
 
-  abbrev i : Images
-  i = whole.i c rules core_rules
+    abbrev i : Images
+    i = whole.i c rules core_rules
 
-  abbrev rows : CoreRows k core i
-  rows = ticks.rows c rules core_rules
+    abbrev rows : CoreRows k core i
+    rows = ticks.rows c rules core_rules
 
-  abbrev Told : Configuration → Entry → Type 0
-  Told = ToldHere c rules core_rules
+    abbrev Told : Configuration → Entry → Type 0
+    Told = ToldHere c rules core_rules
 
-  -- flags and counters differ from those of other superstates
-  flag_differs : (o x : ℕ) → ((i.flags_of o).strong ≡ Some x) ⊎ (((i.flags_of o).weak ≡ Some x) ⊎ ((i.flags_of o).counter ≡ Some x)) → (s : ℕ) → s ≢ o →
-      ((i.flags_of s).strong ≢ Some x) × ((i.flags_of s).weak ≢ Some x) × ((i.flags_of s).counter ≢ Some x)
-  flag_differs o x is s ne =
-      ((λ e. ne (same (inl e))), (λ e. ne (same (inr (inl e)))), (λ e. ne (same (inr (inr e)))))
-    where
-      same : ((i.flags_of s).strong ≡ Some x) ⊎ (((i.flags_of s).weak ≡ Some x) ⊎ ((i.flags_of s).counter ≡ Some x)) → s ≡ o
-      same e = sym ((opening_rows c rules core_rules).flag_of s x e).0 ∙ ((opening_rows c rules core_rules).flag_of o x is).0
+    -- flags and counters differ from those of other superstates
+    flag_differs : (o x : ℕ) → ((i.flags_of o).strong ≡ Some x) ⊎ (((i.flags_of o).weak ≡ Some x) ⊎ ((i.flags_of o).counter ≡ Some x)) → (s : ℕ) → s ≢ o →
+        ((i.flags_of s).strong ≢ Some x) × ((i.flags_of s).weak ≢ Some x) × ((i.flags_of s).counter ≢ Some x)
+    flag_differs o x is s ne =
+        ((λ e. ne (same (inl e))), (λ e. ne (same (inr (inl e)))), (λ e. ne (same (inr (inr e)))))
+      where
+        same : ((i.flags_of s).strong ≡ Some x) ⊎ (((i.flags_of s).weak ≡ Some x) ⊎ ((i.flags_of s).counter ≡ Some x)) → s ≡ o
+        same e = sym ((opening_rows c rules core_rules).flag_of s x e).0 ∙ ((opening_rows c rules core_rules).flag_of o x is).0
 
-  watching_alone : (o : ℕ) → IsState k o → has_aborts (own k o) ≡ true → inside core (i.watching_of o) ≡ []
-  watching_alone o here has = alone c rules core_rules (i.watching_of o) (ap (λ z. z.regions) (rows.watcher o here has).row)
+    watching_alone : (o : ℕ) → IsState k o → has_aborts (own k o) ≡ true → inside core (i.watching_of o) ≡ []
+    watching_alone o here has = alone c rules core_rules (i.watching_of o) (ap (λ z. z.regions) (rows.watcher o here has).row)
 
-  module _ (now d : Configuration) (related : Related k core i now d) (owns : OwnTests k now) (r : ℕ) (next : Configuration)
-      (goes : step k r now ≡ Some next) where
-    abbrev Followed : Type 0
-    Followed = cases.Followed c rules core_rules layered now d r next
+    module _ (now d : Configuration) (related : Related k core i now d) (owns : OwnTests k now) (r : ℕ) (next : Configuration)
+        (goes : step k r now ≡ Some next) where
+      abbrev Followed : Type 0
+      Followed = cases.Followed c rules core_rules stages now d r next
 
-    parts : Stepped k r now next
-    parts = cases.parts c rules core_rules layered now d related owns r next goes
+      parts : Stepped k r now next
+      parts = cases.parts c rules core_rules stages now d related owns r next goes
 
-    -- ---- a strong abort
+      -- ---- a strong abort
 
-    module _ (o : ℕ) (t : Transition) (tests : List Transition) (stands : standing_of now r ≡ at.Guarding o (t ∷ tests))
-        (monitor : MonitorGuards k core i o t tests (standing_of d (i.watcher_of o))) (holds : verdict now.variables t.trigger ≡ Some true) where
-      guards : IsGuarding k core i r o (standing_of d (i.thread_of r))
-      guards = cases.guards c rules core_rules layered now d related owns r next goes o t tests stands monitor
+      module _ (o : ℕ) (t : Transition) (tests : List Transition) (stands : standing_of now r ≡ at.Guarding o (t ∷ tests))
+          (monitor : MonitorGuards k core i o t tests (standing_of d (i.watcher_of o))) (holds : verdict now.variables t.trigger ≡ Some true) where
+        guards : IsGuarding k core i r o (standing_of d (i.thread_of r))
+        guards = cases.guards c rules core_rules stages now d related owns r next goes o t tests stands monitor
 
-      here : IsState k o
-      here = state_with_aborts k o guards.has
+        here : IsState k o
+        here = state_with_aborts k o guards.has
 
-      flag : (x : ℕ) × ((i.flags_of o).strong ≡ Some x)
-      flag = cases.flag c rules core_rules layered now d related owns r next goes o t tests stands monitor
+        flag : (x : ℕ) × ((i.flags_of o).strong ≡ Some x)
+        flag = cases.flag c rules core_rules stages now d related owns r next goes o t tests stands monitor
 
-      row : (rows.of_flag flag.0 ≡ o) × ((takes_kind (option_map (λ z. z.kind) (slice_get core.variables flag.0)) kind_is.Int ≡ true)
-          × (flag.0 < length core.variables))
-      row = (opening_rows c rules core_rules).flag_of o flag.0 (inl flag.1)
+        row : (rows.of_flag flag.0 ≡ o) × ((takes_kind (option_map (λ z. z.kind) (slice_get core.variables flag.0)) kind_is.Int ≡ true)
+            × (flag.0 < length core.variables))
+        row = (opening_rows c rules core_rules).flag_of o flag.0 (inl flag.1)
 
-      guards_there : has_to_guard (standing_of now (holder k o)) ≡ true
-      guards_there = ap has_to_guard (ap (standing_of now) guards.held ∙ stands)
+        guards_there : has_to_guard (standing_of now (holder k o)) ≡ true
+        guards_there = ap has_to_guard (ap (standing_of now) guards.held ∙ stands)
 
-      target : t.target < length (region_at k r).states
-      target =
-          cases.target_of c rules core_rules layered now d related owns r next goes o t here guards.held (subst (IsOwn k) stands (owns r)).0
+        target : t.target < length (region_at k r).states
+        target =
+            cases.target_of c rules core_rules stages now d related owns r next goes o t here guards.held (subst (IsOwn k) stands (owns r)).0
 
-      pub strong_taken : Followed
-      strong_taken = by_effects t.effects refl
-        where
-          by_effects : (es : List Effect) → t.effects ≡ es → Followed
-          by_effects (e ∷ es) some =
-              strong_followed k core i rows (layered_rows c rules core_rules layered) (ticks.nested c rules core_rules)
-              (whole.core_tree c rules core_rules).nested (whole.core_tree c rules core_rules).deeper (whole.core_tree c rules core_rules).children
-              (whole.tree c rules core_rules).children (ticks.counts c rules core_rules) (ticks.written_at c rules core_rules)
-              (counter_rows c rules core_rules) (opening_rows c rules core_rules) (strong_at c rules core_rules) (whole.super_there c rules core_rules)
-              (whole.super_of c rules core_rules) Told (told_silent k core i) now d
-              related r o here t tests stands monitor holds (λ q inner. related.calm q o (around_there k q o inner) inner guards_there) flag.0 flag.1
-              (strong_of c rules core_rules o flag.0 flag.1) ((counter_rows c rules core_rules).strong_not o flag.0 flag.1)
-              (strong_at c rules core_rules o flag.0 flag.1) row.1.0 row.1.1 (watching_alone o here guards.has) e es some target
-              (whole.super_of c rules core_rules o here guards.has) (flag_differs o flag.0 (inl flag.1))
-              (λ first. cases.strong_told c rules core_rules layered now d related owns r next goes o t tests stands monitor) parts.free next goes
-          by_effects [] none =
-              strong_entered k core i rows (layered_rows c rules core_rules layered) (ticks.nested c rules core_rules)
-              (whole.core_tree c rules core_rules).nested (whole.core_tree c rules core_rules).deeper (whole.core_tree c rules core_rules).children
-              (whole.tree c rules core_rules).children (ticks.counts c rules core_rules) (ticks.written_at c rules core_rules)
-              (counter_rows c rules core_rules) (opening_rows c rules core_rules) (strong_at c rules core_rules) (whole.super_there c rules core_rules)
-              (whole.super_of c rules core_rules) Told (told_silent k core i) now d
-              related r o here t tests stands monitor holds (λ q inner. related.calm q o (around_there k q o inner) inner guards_there) flag.0 flag.1
-              (strong_of c rules core_rules o flag.0 flag.1) ((counter_rows c rules core_rules).strong_not o flag.0 flag.1)
-              (strong_at c rules core_rules o flag.0 flag.1) row.1.0 row.1.1 (watching_alone o here guards.has) none target
-              (whole.super_of c rules core_rules o here guards.has) (flag_differs o flag.0 (inl flag.1))
-              (λ first. cases.strong_told c rules core_rules layered now d related owns r next goes o t tests stands monitor) parts.free
-              (cases.law_of_entering c rules core_rules layered)
-              (cases.chart_first c rules core_rules layered now d related owns r next goes t.target target)
-              (cases.core_first c rules core_rules layered now d related owns r next goes t.target target) next goes
+        pub strong_taken : Followed
+        strong_taken = by_effects t.effects refl
+          where
+            by_effects : (es : List Effect) → t.effects ≡ es → Followed
+            by_effects (e ∷ es) some =
+                strong_followed k core i rows (alone_rows c rules core_rules) (ticks.nested c rules core_rules)
+                (whole.core_tree c rules core_rules).nested (whole.core_tree c rules core_rules).deeper (whole.core_tree c rules core_rules).children
+                (whole.tree c rules core_rules).children (ticks.counts c rules core_rules) stages.written_at
+                stages.counters (opening_rows c rules core_rules) stages.strong_zero (whole.super_there c rules core_rules)
+                (whole.super_of c rules core_rules) Told (told_silent k core i) now d
+                related r o here t tests stands monitor holds (λ q inner. related.calm q o (around_there k q o inner) inner guards_there) flag.0 flag.1
+                (strong_of c rules core_rules o flag.0 flag.1) (stages.counters.strong_not o flag.0 flag.1)
+                (stages.strong_zero o flag.0 flag.1) row.1.0 row.1.1 (watching_alone o here guards.has) e es some target
+                (whole.super_of c rules core_rules o here guards.has) (flag_differs o flag.0 (inl flag.1))
+                (λ first. cases.strong_told c rules core_rules stages now d related owns r next goes o t tests stands monitor) parts.free next goes
+            by_effects [] none =
+                strong_entered k core i rows (alone_rows c rules core_rules) (ticks.nested c rules core_rules)
+                (whole.core_tree c rules core_rules).nested (whole.core_tree c rules core_rules).deeper (whole.core_tree c rules core_rules).children
+                (whole.tree c rules core_rules).children (ticks.counts c rules core_rules) stages.written_at
+                stages.counters (opening_rows c rules core_rules) stages.strong_zero (whole.super_there c rules core_rules)
+                (whole.super_of c rules core_rules) Told (told_silent k core i) now d
+                related r o here t tests stands monitor holds (λ q inner. related.calm q o (around_there k q o inner) inner guards_there) flag.0 flag.1
+                (strong_of c rules core_rules o flag.0 flag.1) (stages.counters.strong_not o flag.0 flag.1)
+                (stages.strong_zero o flag.0 flag.1) row.1.0 row.1.1 (watching_alone o here guards.has) none target
+                (whole.super_of c rules core_rules o here guards.has) (flag_differs o flag.0 (inl flag.1))
+                (λ first. cases.strong_told c rules core_rules stages now d related owns r next goes o t tests stands monitor) parts.free
+                (cases.law_of_entering c rules core_rules stages)
+                (cases.chart_first c rules core_rules stages now d related owns r next goes t.target target)
+                (cases.core_first c rules core_rules stages now d related owns r next goes t.target target) next goes
 
-    -- ---- a weak abort
+      -- ---- a weak abort
 
-    module _ (o : ℕ) (t : Transition) (tests : List Transition) (stands : standing_of now r ≡ at.Within o (t ∷ tests))
-        (holds : verdict now.variables t.trigger ≡ Some true) (own_one : Contains (own k o) t) (is_weak_one : is_weak t.kind ≡ true)
-        (monitor : MonitorWaits k core i o t tests (standing_of d (i.watcher_of o))) where
-      weak_has : has_aborts (own k o) ≡ true
-      weak_has = other_true (has_strong (own k o)) (has_weak (own k o)) (has_from (λ z. is_weak z.kind) (own k o) t own_one is_weak_one)
+      module _ (o : ℕ) (t : Transition) (tests : List Transition) (stands : standing_of now r ≡ at.Within o (t ∷ tests))
+          (holds : verdict now.variables t.trigger ≡ Some true) (own_one : Contains (own k o) t) (is_weak_one : is_weak t.kind ≡ true)
+          (monitor : MonitorWaits k core i o t tests (standing_of d (i.watcher_of o))) where
+        weak_has : has_aborts (own k o) ≡ true
+        weak_has = other_true (has_strong (own k o)) (has_weak (own k o)) (has_from (λ z. is_weak z.kind) (own k o) t own_one is_weak_one)
 
-      weak_here : IsState k o
-      weak_here = state_with_aborts k o weak_has
+        weak_here : IsState k o
+        weak_here = state_with_aborts k o weak_has
 
-      held : holder k o ≡ r
-      held =
-          (within_back k core i now r o weak_has (standing_of now r) (standing_of d (i.thread_of r))
-          (related.regions r (cases.there c rules core_rules layered now d related owns r next goes)) (t ∷ tests) stands).held
+        held : holder k o ≡ r
+        held =
+            (within_back k core i now r o weak_has (standing_of now r) (standing_of d (i.thread_of r))
+            (related.regions r (cases.there c rules core_rules stages now d related owns r next goes)) (t ∷ tests) stands).held
 
-      weak_target : t.target < length (region_at k r).states
-      weak_target = cases.target_of c rules core_rules layered now d related owns r next goes o t weak_here held own_one
+        weak_target : t.target < length (region_at k r).states
+        weak_target = cases.target_of c rules core_rules stages now d related owns r next goes o t weak_here held own_one
 
-      pub weak_taken : Followed
-      weak_taken = by_effects t.effects refl
-        where
-          by_effects : (es : List Effect) → t.effects ≡ es → Followed
-          by_effects (e ∷ es) some =
-              weak_followed k core i rows (layered_rows c rules core_rules layered) (ticks.nested c rules core_rules)
-              (whole.core_tree c rules core_rules).nested (whole.core_tree c rules core_rules).deeper (whole.core_tree c rules core_rules).children
-              (whole.tree c rules core_rules).children (ticks.counts c rules core_rules) (ticks.written_at c rules core_rules)
-              (counter_rows c rules core_rules) (opening_rows c rules core_rules) (start_rows c rules core_rules layered) (writes_low c rules core_rules)
-              (strong_at c rules core_rules) (weak_at c rules core_rules) (alone c rules core_rules) now d related r o weak_here weak_has t is_weak_one tests
-              stands monitor holds parts.free parts.done Told (told_silent k core i)
-              (told_weak k core i d r (i.watcher_of o) (access_of_trigger t.trigger)) e es some weak_target next goes
-          by_effects [] none =
-              weak_entered k core i rows (layered_rows c rules core_rules layered) (ticks.nested c rules core_rules)
-              (whole.core_tree c rules core_rules).nested (whole.core_tree c rules core_rules).deeper (whole.core_tree c rules core_rules).children
-              (whole.tree c rules core_rules).children (ticks.counts c rules core_rules) (ticks.written_at c rules core_rules)
-              (counter_rows c rules core_rules) (opening_rows c rules core_rules) (start_rows c rules core_rules layered) (writes_low c rules core_rules)
-              (strong_at c rules core_rules) (weak_at c rules core_rules) (alone c rules core_rules) now d related r o weak_here weak_has t is_weak_one tests
-              stands monitor holds parts.free parts.done Told (told_silent k core i)
-              (told_weak k core i d r (i.watcher_of o) (access_of_trigger t.trigger)) none weak_target next goes
-              (cases.law_of_entering c rules core_rules layered)
-              (cases.chart_first c rules core_rules layered now d related owns r next goes t.target weak_target)
-              (cases.core_first c rules core_rules layered now d related owns r next goes t.target weak_target)
+        -- where the flag counts as written at stage 2, and those of superstates around before
+        pub weak_taken : WeakFits c rules core_rules stages r o → Followed
+        weak_taken fits = by_effects t.effects refl
+          where
+            by_effects : (es : List Effect) → t.effects ≡ es → Followed
+            by_effects (e ∷ es) some =
+                weak_followed k core i rows (alone_rows c rules core_rules) (ticks.nested c rules core_rules)
+                (whole.core_tree c rules core_rules).nested (whole.core_tree c rules core_rules).deeper (whole.core_tree c rules core_rules).children
+                (whole.tree c rules core_rules).children (ticks.counts c rules core_rules) stages.written_at
+                stages.counters (opening_rows c rules core_rules) (start_rows c rules core_rules) stages.low
+                stages.strong_zero (alone c rules core_rules) now d related r o weak_here weak_has t is_weak_one tests
+                stands monitor holds parts.free parts.done fits.own_two fits.outer_zero Told (told_silent k core i)
+                (told_weak k core i d r (i.watcher_of o) (access_of_trigger t.trigger)) e es some weak_target next goes
+            by_effects [] none =
+                weak_entered k core i rows (alone_rows c rules core_rules) (ticks.nested c rules core_rules)
+                (whole.core_tree c rules core_rules).nested (whole.core_tree c rules core_rules).deeper (whole.core_tree c rules core_rules).children
+                (whole.tree c rules core_rules).children (ticks.counts c rules core_rules) stages.written_at
+                stages.counters (opening_rows c rules core_rules) (start_rows c rules core_rules) stages.low
+                stages.strong_zero (alone c rules core_rules) now d related r o weak_here weak_has t is_weak_one tests
+                stands monitor holds parts.free parts.done fits.own_two fits.outer_zero Told (told_silent k core i)
+                (told_weak k core i d r (i.watcher_of o) (access_of_trigger t.trigger)) none weak_target next goes
+                (cases.law_of_entering c rules core_rules stages)
+                (cases.chart_first c rules core_rules stages now d related owns r next goes t.target weak_target)
+                (cases.core_first c rules core_rules stages now d related owns r next goes t.target weak_target)
 
-    -- ---- a termination
+      -- ---- a termination
 
-    module _ (s : ℕ) (t : Transition) (tests : List Transition) (stands : standing_of now r ≡ at.Within s (t ∷ tests)) (own_one : Contains (own k s) t)
-        (join : is_join t.kind ≡ true) where
-      joined : has_join (own k s) ≡ true
-      joined = has_from (λ z. is_join z.kind) (own k s) t own_one join
+      module _ (s : ℕ) (t : Transition) (tests : List Transition) (stands : standing_of now r ≡ at.Within s (t ∷ tests)) (own_one : Contains (own k s) t)
+          (join : is_join t.kind ≡ true) where
+        joined : has_join (own k s) ≡ true
+        joined = has_from (λ z. is_join z.kind) (own k s) t own_one join
 
-      no_trigger : t.trigger ≡ None
-      no_trigger = ends_untested features.Extended c rules s t own_one join
+        no_trigger : t.trigger ≡ None
+        no_trigger = ends_untested features.Extended c rules s t own_one join
 
-      by_fork : OpenAs k core i r s (t ∷ tests) (standing_of d (i.thread_of r)) → Followed
-      by_fork (as_it_was super held stay core_stands) = by_effects t.effects refl
-        where
-          s_there : IsState k s
-          s_there = whole.is_state_super c rules core_rules s super
+        by_fork : OpenAs k core i r s (t ∷ tests) (standing_of d (i.thread_of r)) → Followed
+        by_fork (as_it_was super held stay core_stands) = by_effects t.effects refl
+          where
+            s_there : IsState k s
+            s_there = whole.is_state_super c rules core_rules s super
 
-          target : t.target < length (region_at k r).states
-          target = cases.target_of c rules core_rules layered now d related owns r next goes s t s_there held own_one
+            target : t.target < length (region_at k r).states
+            target = cases.target_of c rules core_rules stages now d related owns r next goes s t s_there held own_one
 
-          by_effects : (es : List Effect) → t.effects ≡ es → Followed
-          by_effects (e ∷ es) some =
-              staying_terminates k core i rows (ticks.nested c rules core_rules) (whole.core_tree c rules core_rules).nested
-              (ticks.counts c rules core_rules) (ticks.written_at c rules core_rules) (counter_rows c rules core_rules)
-              (whole.tree c rules core_rules).children now d related r s held t tests stands join parts.works parts.free no_trigger s_there super stay
-              core_stands target Told (inl refl) next goes e es some
-          by_effects [] none =
-              staying_enters k core i rows (ticks.nested c rules core_rules) (whole.core_tree c rules core_rules).nested
-              (ticks.counts c rules core_rules) (ticks.written_at c rules core_rules) (counter_rows c rules core_rules)
-              (whole.tree c rules core_rules).children now d related r s held t tests stands join parts.works parts.free no_trigger s_there super stay
-              core_stands target Told (inl refl) next goes (told_silent k core i) (cases.law_of_entering c rules core_rules layered)
-              (whole.super_there c rules core_rules) (cases.chart_first c rules core_rules layered now d related owns r next goes t.target target)
-              (cases.core_first c rules core_rules layered now d related owns r next goes t.target target) none
-      by_fork (as_split super held splits j leads forked) = by_effects t.effects refl
-        where
-          s_there : IsState k s
-          s_there = whole.is_state_super c rules core_rules s super
+            by_effects : (es : List Effect) → t.effects ≡ es → Followed
+            by_effects (e ∷ es) some =
+                staying_terminates k core i rows (ticks.nested c rules core_rules) (whole.core_tree c rules core_rules).nested
+                (ticks.counts c rules core_rules) stages.written_at stages.counters
+                (whole.tree c rules core_rules).children now d related r s held t tests stands join parts.works parts.free no_trigger s_there super stay
+                core_stands target Told (inl refl) next goes e es some
+            by_effects [] none =
+                staying_enters k core i rows (ticks.nested c rules core_rules) (whole.core_tree c rules core_rules).nested
+                (ticks.counts c rules core_rules) stages.written_at stages.counters
+                (whole.tree c rules core_rules).children now d related r s held t tests stands join parts.works parts.free no_trigger s_there super stay
+                core_stands target Told (inl refl) next goes (told_silent k core i) (cases.law_of_entering c rules core_rules stages)
+                (whole.super_there c rules core_rules) (cases.chart_first c rules core_rules stages now d related owns r next goes t.target target)
+                (cases.core_first c rules core_rules stages now d related owns r next goes t.target target) none
+        by_fork (as_split super held splits j leads forked) = by_effects t.effects refl
+          where
+            s_there : IsState k s
+            s_there = whole.is_state_super c rules core_rules s super
 
-          target : t.target < length (region_at k r).states
-          target = cases.target_of c rules core_rules layered now d related owns r next goes s t s_there held own_one
+            target : t.target < length (region_at k r).states
+            target = cases.target_of c rules core_rules stages now d related owns r next goes s t s_there held own_one
 
-          by_effects : (es : List Effect) → t.effects ≡ es → Followed
-          by_effects (e ∷ es) some =
-              split_terminates k core i rows (layered_rows c rules core_rules layered) (ticks.nested c rules core_rules)
-              (whole.core_tree c rules core_rules).nested (ticks.counts c rules core_rules) (ticks.written_at c rules core_rules)
-              (counter_rows c rules core_rules) (opening_rows c rules core_rules) (writes_low c rules core_rules) (strong_at c rules core_rules)
-              (whole.super_there c rules core_rules) (whole.tree c rules core_rules).children Told (told_silent k core i) now d related r s held t tests
-              stands join parts.works parts.free no_trigger s_there super splits j leads forked (counter_given c rules core_rules)
-              (alone c rules core_rules) target (λ e last at_last same. inl refl) next goes e es some
-          by_effects [] none =
-              split_enters k core i rows (layered_rows c rules core_rules layered) (ticks.nested c rules core_rules)
-              (whole.core_tree c rules core_rules).nested (ticks.counts c rules core_rules) (ticks.written_at c rules core_rules)
-              (counter_rows c rules core_rules) (opening_rows c rules core_rules) (writes_low c rules core_rules) (strong_at c rules core_rules)
-              (whole.super_there c rules core_rules) (whole.tree c rules core_rules).children Told (told_silent k core i) now d related r s held t tests
-              stands join parts.works parts.free no_trigger s_there super splits j leads forked (counter_given c rules core_rules)
-              (alone c rules core_rules) target (λ e last at_last same. inl refl) next goes (cases.law_of_entering c rules core_rules layered)
-              (cases.chart_first c rules core_rules layered now d related owns r next goes t.target target)
-              (cases.core_first c rules core_rules layered now d related owns r next goes t.target target) none
+            by_effects : (es : List Effect) → t.effects ≡ es → Followed
+            by_effects (e ∷ es) some =
+                split_terminates k core i rows (alone_rows c rules core_rules) (ticks.nested c rules core_rules)
+                (whole.core_tree c rules core_rules).nested (ticks.counts c rules core_rules) stages.written_at
+                stages.counters (opening_rows c rules core_rules) stages.low stages.strong_zero
+                (whole.super_there c rules core_rules) (whole.tree c rules core_rules).children Told (told_silent k core i) now d related r s held t tests
+                stands join parts.works parts.free no_trigger s_there super splits j leads forked (counter_given c rules core_rules)
+                (alone c rules core_rules) target (λ e last at_last same. inl refl) next goes e es some
+            by_effects [] none =
+                split_enters k core i rows (alone_rows c rules core_rules) (ticks.nested c rules core_rules)
+                (whole.core_tree c rules core_rules).nested (ticks.counts c rules core_rules) stages.written_at
+                stages.counters (opening_rows c rules core_rules) stages.low stages.strong_zero
+                (whole.super_there c rules core_rules) (whole.tree c rules core_rules).children Told (told_silent k core i) now d related r s held t tests
+                stands join parts.works parts.free no_trigger s_there super splits j leads forked (counter_given c rules core_rules)
+                (alone c rules core_rules) target (λ e last at_last same. inl refl) next goes (cases.law_of_entering c rules core_rules stages)
+                (cases.chart_first c rules core_rules stages now d related owns r next goes t.target target)
+                (cases.core_first c rules core_rules stages now d related owns r next goes t.target target) none
 
-      pub terminated : Followed
-      terminated =
-          by_fork (open_as k core i r s now (standing_of now r) (standing_of d (i.thread_of r))
-          (related.regions r (cases.there c rules core_rules layered now d related owns r next goes)) (t ∷ tests) stands joined)
+        pub terminated : Followed
+        terminated =
+            by_fork (open_as k core i r s now (standing_of now r) (standing_of d (i.thread_of r))
+            (related.regions r (cases.there c rules core_rules stages now d related owns r next goes)) (t ∷ tests) stands joined)

@@ -32,7 +32,7 @@ use Rattle.abort_expansion_laws.specs.Related.{guards as watch_guards}
 use Rattle.abort_expansion_laws.proofs.Fronts.{front_free}
 use Rattle.abort_expansion_laws.specs.StageReached.{some_work, stage_of, Stage}
 use Rattle.abort_expansion_laws.proofs.KnownVariables.{present_there}
-use Rattle.abort_expansion_laws.proofs.InsideLeaves.{LayeredRows}
+use Rattle.abort_expansion_laws.proofs.InsideLeaves.{AloneRows}
 use Rattle.abort_expansion_laws.proofs.MoreValues.{lowered_verdict, other_verdict}
 use Rattle.abort_expansion_laws.proofs.FlagAccess.{raised_access, number_access}
 use Rattle.abort_expansion_laws.proofs.StartingRegions.{CounterRows}
@@ -67,7 +67,7 @@ kept_is P ts n t e = among (filter P ts) n (each_kept P ts) e
     among (u ∷ us) zero all e = subst (λ z. P z ≡ true) (same_Some u t e) all.0
     among (u ∷ us) (suc n) all e = among us n all.1 e
 
-module _ (k core : Table) (i : Images) (rows : CoreRows k core i) (layered : LayeredRows k core i) (tree : IsNested k) (counts : ℕ → Bool) (written_at : ℕ → ℕ)
+module _ (k core : Table) (i : Images) (rows : CoreRows k core i) (lone : AloneRows k core i) (tree : IsNested k) (counts : ℕ → Bool) (written_at : ℕ → ℕ)
     (counters : CounterRows k core i rows counts written_at) (opening : OpeningRows k core i rows) (start_rows : StartRows k core i rows)
     (written_low : (x : ℕ) → written_at x < 3) (Told : Configuration → Entry → Type 0)
     (told : (e : Configuration) (t : ℕ) (stage : Option (ℕ × ℕ)) (a : Access) → Told e (Silent t stage a))

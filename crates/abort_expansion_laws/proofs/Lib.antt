@@ -14,7 +14,6 @@ pub mod RegionGoesOn
 pub mod StageReached
 pub mod FrontFirst
 pub mod ImageSteps
-pub mod KindsApart
 pub mod KnownVariables
 pub mod TestFails
 pub mod SilentSteps
@@ -127,7 +126,7 @@ pub mod TickStarts
 pub mod WokenMonitors
 pub mod LaterTicks
 pub mod LocalVariables
-pub mod LayeredChartRows
+pub mod TickRows
 pub mod ChecksInside
 pub mod FrontsChanged
 pub mod LastStrongFails
@@ -180,6 +179,7 @@ pub mod FinalTargetWaits
 pub mod FinalTargetOver
 pub mod FinalTargetPending
 pub mod Entering
+pub mod FlagStages
 pub mod ChartsOpened
 pub mod TargetsEntered
 pub mod EffectAhead
@@ -206,6 +206,7 @@ pub mod LeavesFollowed
 pub mod WeakTestReady
 pub mod StrongTestReady
 pub mod StepsByCase
+pub mod ApartTicks
 pub mod HasLooked
 pub mod LooksBefore
 pub mod LookDropped

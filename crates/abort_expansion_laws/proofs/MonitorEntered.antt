@@ -13,7 +13,7 @@ use Rattle.chart_machine_laws.specs.Tree.{IsNested, holder}
 use Rattle.abort_expansion_laws.specs.CoreRows.{own, IsState, Images, CoreRows, flags_around}
 use Rattle.abort_expansion_laws.specs.Related.{monitor_last}
 use Rattle.abort_expansion_laws.specs.Related.{raise_each, raises, AreAmong, Watches, waits}
-use Rattle.abort_expansion_laws.proofs.InsideLeaves.{LayeredRows}
+use Rattle.abort_expansion_laws.proofs.InsideLeaves.{AloneRows}
 use Rattle.abort_expansion_laws.proofs.EnteringSimple.{once_append, weak_once}
 use Rattle.abort_expansion_laws.proofs.WokenConfigurations.{numbered_from, numbered_are, all_among, raising_is, each_kept}
 use Rattle.abort_expansion_laws.proofs.TickStarts.{StartRows}
@@ -78,7 +78,7 @@ once_last k core i o =
     ∙ (ap (λ zs. zs ++ at_once (weak_checks true 1 (flags_around k core i (holder k o)))) (once_count (i.flags_of o).counter)
     ∙ ap (λ zs. all_ended (i.flags_of o).counter ++ zs) (weak_once 1 (flags_around k core i (holder k o))))
 
-module _ (k core : Table) (i : Images) (rows : CoreRows k core i) (layered : LayeredRows k core i) (tree : IsNested k) (more_rows : StartRows k core i rows)
+module _ (k core : Table) (i : Images) (rows : CoreRows k core i) (lone : AloneRows k core i) (tree : IsNested k) (more_rows : StartRows k core i rows)
     (o : ℕ) (here : IsState k o) (has : has_aborts (own k o) ≡ true) where
   abbrev some : List (ℕ × Transition)
   some = numbered_from 0 (weak_aborts (own k o))
@@ -88,7 +88,7 @@ module _ (k core : Table) (i : Images) (rows : CoreRows k core i) (layered : Lay
 
   row_is : row ≡ strong_checks false 1 (flags_around k core i (holder k o)) ++ (raising (λ t. false) 1 (i.flags_of o).strong 1 (strong_aborts (own k o))
       ++ (raising (λ t. t.immediate) 1 (i.flags_of o).weak 1 (weak_aborts (own k o)) ++ monitor_last k core i o))
-  row_is = sym (ap (λ z. z.transitions) (rows.watcher o here has).row) ∙ transitions_are k core i rows layered tree more_rows o here has
+  row_is = sym (ap (λ z. z.transitions) (rows.watcher o here has).row) ∙ transitions_are k core i rows lone tree more_rows o here has
 
   once_row : at_once row ≡ raise_each (λ t. t.immediate) (i.flags_of o).weak (kept (λ t. t.immediate) some) ++ monitor_last k core i o
   once_row =

@@ -1,7 +1,7 @@
 -- Each monitor inside of a superstate whose weak abort is taken leaves: it sees the raised flag, and is not to end by its count.
 use Rattle.abort_expansion_laws.proofs.WeakSeen.{some_still_in}
-use Rattle.std.proofs.Common.{◌≡◌, ◌≢◌, ℕ, ◌<◌, ◌≤◌, inl, inr, Bool, true, false, pos, Option, Some, None, List, [], map}
-use Rattle.std.proofs.Common.{◌∷◌, ◌++◌, length, slice_get, Contains, refl, sym, ap, subst, ◌∙◌, arith}
+use Rattle.std.proofs.Common.{◌≡◌, ◌≢◌, ℕ, ◌<◌, inl, inr, Bool, true, false, pos, Option, Some, None, List, [], map}
+use Rattle.std.proofs.Common.{◌∷◌, ◌++◌, slice_get, Contains, refl, sym, ap, subst, ◌∙◌, arith}
 use Rattle.sc_values.specs.declared.value.Value.TheVariants as value_is
 use Rattle.core_charts.specs.declared.region.Transition.{Transition}
 use Rattle.core_charts.specs.Tests.{terminations, is_join, is_weak}
@@ -12,7 +12,7 @@ use Rattle.chart_machine.specs.declared.standing.Configuration.{Configuration}
 use Rattle.chart_machine.specs.declared.table.Table.{Table}
 use Rattle.chart_machine.specs.Table.{state_at}
 use Rattle.chart_machine.specs.Turns.{standing_of, has_work, inside}
-use Rattle.chart_machine.specs.Steps.{verdict, access_of_trigger}
+use Rattle.chart_machine.specs.Steps.{verdict}
 use Rattle.abort_expansion.specs.Transitions.{is_raised, is_number, go, weak_checks}
 use Rattle.abort_expansion.specs.Superstates.{all_ended}
 use Rattle.abort_expansion_laws.specs.Stages.{Correspondence, IsSilent}
@@ -27,8 +27,8 @@ use Rattle.abort_expansion_laws.proofs.KnownVariables.{present_there}
 use Rattle.abort_expansion_laws.proofs.StartingRegions.{CounterRows}
 use Rattle.abort_expansion_laws.proofs.OpensFork.{OpeningRows}
 use Rattle.abort_expansion_laws.proofs.TickStarts.{StartRows}
-use Rattle.abort_expansion_laws.proofs.MayLeave.{leads_out, fails_before, out, tries, is_forked}
-use Rattle.abort_expansion_laws.proofs.InsideLeaves.{LayeredRows}
+use Rattle.abort_expansion_laws.proofs.MayLeave.{fails_before, out, tries, is_forked}
+use Rattle.abort_expansion_laws.proofs.InsideLeaves.{AloneRows}
 use Rattle.abort_expansion_laws.proofs.LeftTests.{kept_is}
 use Rattle.abort_expansion_laws.proofs.LaterTicks.{weak_no_join}
 use Rattle.abort_expansion_laws.proofs.TickStarts.{some_kept}
@@ -38,7 +38,7 @@ use Rattle.abort_expansion_laws.specs.Related.{Watches, waits, looks_strong, loo
 use Rattle.abort_expansion_laws.specs.Related.{guards as watch_guards}
 use Rattle.abort_expansion_laws.proofs.WeakSeen as seen
 
-module _ (k core : Table) (i : Images) (rows : CoreRows k core i) (layered : LayeredRows k core i) (tree : IsNested k)
+module _ (k core : Table) (i : Images) (rows : CoreRows k core i) (lone : AloneRows k core i) (tree : IsNested k)
     (deep : (q s : ℕ) → Contains (around core q) s → holder core s < q) (alone : (v : ℕ) → (state_at core v).regions ≡ [] → inside core v ≡ [])
     (core_children : (s r : ℕ) → Contains (state_at core s).regions r → around core r ≡ s ∷ around core (holder core s))
     (children : (s r : ℕ) → Contains (state_at k s).regions r → around k r ≡ s ∷ around k (holder k s))
@@ -46,56 +46,41 @@ module _ (k core : Table) (i : Images) (rows : CoreRows k core i) (layered : Lay
     (start_rows : StartRows k core i rows) (written_low : (x : ℕ) → written_at x < 3)
     (strong_at : (s x : ℕ) → (i.flags_of s).strong ≡ Some x → written_at x ≡ 0)
     (c d : Configuration) (related : Related k core i c d) (r o x : ℕ) (flag : (i.flags_of o).weak ≡ Some x) (held : holder k o ≡ r)
+    (early : (s y : ℕ) → Contains (around k r) s → (i.flags_of s).weak ≡ Some y → written_at y ≡ 0)
     (o_there : IsState k o) (open_tests : List Transition) (stands : standing_of c r ≡ at.Within o open_tests)
     (idle : (q : ℕ) → IsThere k q → Contains (around k q) o → has_work k c (standing_of c q) ≡ false)
     (first : Configuration) (raised : verdict first.variables (Some (is_raised x)) ≡ Some true)
     (values : (y : ℕ) → y ≢ x → slice_get first.variables y ≡ slice_get d.variables y)
     (same : (g : ℕ) → g ≢ i.watcher_of o → standing_of first g ≡ standing_of d g) where
   abbrev corr : Correspondence
-  corr = seen.corr k core i rows layered tree deep alone core_children children counts written_at counters opening start_rows written_low strong_at c d
-      related r o x flag held
+  corr = seen.corr k core i rows lone tree deep alone core_children children counts written_at counters opening start_rows written_low strong_at c d
+      related r o x flag held early
       o_there open_tests stands idle first raised values same
 
   abbrev Leaves : ℕ → Standing → Type 0
-  Leaves = seen.Leaves k core i rows layered tree deep alone core_children children counts written_at counters opening start_rows written_low strong_at c d
-      related r o x flag held
+  Leaves = seen.Leaves k core i rows lone tree deep alone core_children children counts written_at counters opening start_rows written_low strong_at c d
+      related r o x flag held early
       o_there open_tests stands idle first raised values same
 
   abbrev LeavesAt : ℕ → List Transition → Type 0
-  LeavesAt = seen.LeavesAt k core i rows layered tree deep alone core_children children counts written_at counters opening start_rows written_low strong_at c
-      d related r o x flag held
-      o_there open_tests stands idle first raised values same
-
-  abbrev sees_at : ℕ → Transition
-  sees_at = seen.sees_at k core i rows layered tree deep alone core_children children counts written_at counters opening start_rows written_low strong_at c d
-      related r o x flag held
-      o_there open_tests stands idle first raised values same
-
-  abbrev one_weak : (q place : ℕ) → Contains (around k q) o → weak_checks true place (flags_around k core i q) ≡ sees_at place ∷ []
-  one_weak = seen.one_weak k core i rows layered tree deep alone core_children children counts written_at counters opening start_rows written_low strong_at c
-      d related r o x flag held
+  LeavesAt = seen.LeavesAt k core i rows lone tree deep alone core_children children counts written_at counters opening start_rows written_low strong_at c
+      d related r o x flag held early
       o_there open_tests stands idle first raised values same
 
   abbrev in_fork : (q s : ℕ) → Contains (around k q) s → Contains (around core (i.thread_of q)) (i.main_of s)
-  in_fork = seen.in_fork k core i rows layered tree deep alone core_children children counts written_at counters opening start_rows written_low strong_at c d
-      related r o x flag held
-      o_there open_tests stands idle first raised values same
-
-  abbrev looks_from : (t y : ℕ) → Contains (around core t) (i.main_of o) → length k.variables ≤ y → rows.of_flag y ≡ o → counts y ≡ false →
-      IsSilent corr t (Some (i.thread_of r, 3)) (access_of_trigger (Some (is_raised y)))
-  looks_from = seen.looks_from k core i rows layered tree deep alone core_children children counts written_at counters opening start_rows written_low
-      strong_at c d related r o x flag held
+  in_fork = seen.in_fork k core i rows lone tree deep alone core_children children counts written_at counters opening start_rows written_low strong_at c d
+      related r o x flag held early
       o_there open_tests stands idle first raised values same
 
   abbrev in_its_fork : (s : ℕ) → IsState k s → has_aborts (own k s) ≡ true → IsThere k (holder k s) → (tests : List Transition) →
       standing_of c (holder k s) ≡ at.Within s tests → is_forked (standing_of first (i.thread_of (holder k s))) ≡ true
-  in_its_fork = seen.in_its_fork k core i rows layered tree deep alone core_children children counts written_at counters opening start_rows written_low
-      strong_at c d related r o x flag held
+  in_its_fork = seen.in_its_fork k core i rows lone tree deep alone core_children children counts written_at counters opening start_rows written_low
+      strong_at c d related r o x flag held early
       o_there open_tests stands idle first raised values same
 
   abbrev works_not : (q : ℕ) → IsThere k q → Contains (around k q) o → (w : Standing) → standing_of c q ≡ w → has_work k c w ≡ true → ⊥
-  works_not = seen.works_not k core i rows layered tree deep alone core_children children counts written_at counters opening start_rows written_low strong_at
-      c d related r o x flag held
+  works_not = seen.works_not k core i rows lone tree deep alone core_children children counts written_at counters opening start_rows written_low strong_at
+      c d related r o x flag held early
       o_there open_tests stands idle first raised values same
 
   -- ---- each monitor inside
@@ -110,16 +95,23 @@ module _ (k core : Table) (i : Images) (rows : CoreRows k core i) (layered : Lay
     g_in_u : Contains (around core (i.watcher_of u)) (i.main_of u)
     g_in_u = subst (λ zs. Contains zs (i.main_of u)) (sym image.encloses) (head_in (i.main_of u) (around core (i.thread_of (holder k u))))
 
-    g_in_o : Contains (around core (i.watcher_of u)) (i.main_of o)
-    g_in_o =
-        subst (λ zs. Contains zs (i.main_of o)) (sym image.encloses)
-        (tail_in (i.main_of u) (i.main_of o) (around core (i.thread_of (holder k u))) (in_fork (holder k u) o in_o))
+    outer_around : (s : ℕ) → Contains (around k r) s → Contains (around k (holder k u)) s
+    outer_around s outer =
+        seen.outer_around k core i rows lone tree deep alone core_children children counts written_at counters opening start_rows written_low strong_at c
+        d related r o x flag held early
+        o_there open_tests stands idle first raised values same (holder k u) s in_o outer
+
+    in_outer : (s : ℕ) → Contains (around k (holder k u)) s → Contains (around core (i.watcher_of u)) (i.main_of s)
+    in_outer s outer =
+        subst (λ zs. Contains zs (i.main_of s)) (sym image.encloses)
+        (tail_in (i.main_of u) (i.main_of s) (around core (i.thread_of (holder k u))) (in_fork (holder k u) s outer))
 
     checks_leave : LeavesAt (i.watcher_of u) (weak_checks true 1 (flags_around k core i (holder k u)))
     checks_leave =
-        subst (LeavesAt (i.watcher_of u)) (sym (one_weak (holder k u) 1 in_o))
-        (leads_out (sees_at 1) [] raised refl (ap (λ n. (state_at core n).entered) image.ended ∙ image.watched) (Some (i.thread_of r, 3)) (inr (inl refl))
-        (looks_from (i.watcher_of u) x g_in_o (rows.weak_added o x flag) (opening.flag_of o x (inr (inl flag))).0 (counters.weak_not o x flag)))
+        seen.checks_leave k core i rows lone tree deep alone core_children children counts written_at counters opening start_rows written_low strong_at c
+        d related r o x flag held early
+        o_there open_tests stands idle first raised values same (i.watcher_of u) 1 (in_outer o in_o) (λ s outer. in_outer s (outer_around s outer))
+        (ap (λ n. (state_at core n).entered) image.ended ∙ image.watched) (holder k u) in_o
 
     module _ (is : IsThere k (holder k u)) (tests : List Transition) (stood : standing_of c (holder k u) ≡ at.Within u tests) where
       inside_u : IsInside k core i u (standing_of c (holder k u))

@@ -15,7 +15,7 @@ use Rattle.chart_machine_laws.proofs.LyingIn.{none_in, head_in, tail_in, head_or
 use Rattle.chart_machine_laws.proofs.ChartTables.{around_there}
 use Rattle.abort_expansion_laws.specs.CoreRows.{own, IsState, IsSuper, Images, flags_around, counter_over}
 use Rattle.abort_expansion_laws.specs.Related.{Watches}
-use Rattle.abort_expansion_laws.proofs.InsideLeaves.{LayeredRows}
+use Rattle.abort_expansion_laws.proofs.InsideLeaves.{AloneRows}
 use Rattle.abort_expansion_laws.proofs.TickStarts.{StartRows}
 use Rattle.abort_expansion_laws.proofs.Pending.{goes_in, still_going}
 use Rattle.abort_expansion_laws.proofs.OpenedRows.{Opens, OpenedRows}
@@ -28,7 +28,7 @@ use Rattle.abort_expansion_laws.proofs.EnteredMonitors.{Unflagged, entered_watch
 use Rattle.abort_expansion_laws.proofs.MonitorEntered.{monitor_entered}
 use Rattle.abort_expansion_laws.proofs.EnteredReady.{opened_later, over_now}
 
-module _ (k core : Table) (i : Images) (more : EntryRows k core i) (layered : LayeredRows k core i) (start_rows : StartRows k core i more.rows)
+module _ (k core : Table) (i : Images) (more : EntryRows k core i) (lone : AloneRows k core i) (start_rows : StartRows k core i more.rows)
     (alone : (v : ℕ) → (state_at core v).regions ≡ [] → inside core v ≡ [])
     (counter_joins : (s x : ℕ) → (i.flags_of s).counter ≡ Some x → has_join (own k s) ≡ true)
     (unflagged : (u : ℕ) → IsSuper k u → is_prepared (flags_around k core i (holder k u)) (own k u) ≡ false → Unflagged k core i u)
@@ -79,7 +79,7 @@ module _ (k core : Table) (i : Images) (more : EntryRows k core i) (layered : La
         (standing_of c) (standing_of e) s o.there super (more.alike s o.there super) fresh core_fresh has in
         subst (λ x. Watches k core i s x (standing_of e (i.watcher_of s))) (sym (o.open_in_chart ∙ ap (at.Within s) o.untested))
         (subst (Watches k core i s (at.Within s (first_closing_tests (own k s)))) (sym stands)
-        (monitor_entered k core i more.rows layered more.tree.nested start_rows s o.there has))
+        (monitor_entered k core i more.rows lone more.tree.nested start_rows s o.there has))
 
     -- ---- who counts down
 

@@ -1,4 +1,4 @@
--- What a simulation of the chart's steps owes, as statements: entering, the start and the end of a tick. Of each expanded layered chart they
+-- What a simulation of the chart's steps owes, as statements: entering, the start and the end of a tick. Of each expanded chart they
 -- hold: `Enters` (`TargetsEntered`), `Begins` (`TicksBegin`) and `Finishes` (`TicksFinish`). Of the steps between, `StepsFollowed` of
 -- `TickFollowed` does (`StepsByCase`).
 use Rattle.std.proofs.Common.{◌≡◌, ◌≢◌, ℕ, suc, Bool, true, false, Option, Some, List, [], ◌∷◌, ◌++◌, map, length, slice_set, Contains}

@@ -1,4 +1,4 @@
--- The law of the expansion of aborts, from one thing: that each step of a layered chart is followed by its core chart.
+-- The law of the expansion of aborts, from one thing: that each step of a chart is followed by its core chart.
 use Rattle.std.proofs.Common.{ℕ, List}
 use Rattle.sc_graph.specs.Tick.{AreAccepted}
 use Rattle.core_charts.specs.declared.features.Features.TheVariants as features
@@ -8,7 +8,6 @@ use Rattle.chart_machine.specs.declared.standing.Configuration.{Configuration}
 use Rattle.chart_machine.specs.declared.standing.Move.{Move}
 use Rattle.chart_machine.specs.Table.{table, state_at}
 use Rattle.abort_expansion.specs.Expansion.{expanded}
-use Rattle.abort_expansion_laws.specs.Layered.{IsWeaklyLayered}
 use Rattle.abort_expansion_laws.specs.CoreRows.{IsState, IsSuper}
 use Rattle.abort_expansion_laws.specs.Stages.{Entry}
 use Rattle.abort_expansion_laws.specs.Ticks.{Keeps}
@@ -23,6 +22,7 @@ use Rattle.abort_expansion_laws.proofs.PreemptionFollows.{preemption_follows}
 use Rattle.abort_expansion_laws.proofs.TestsSpared.{tests_are_spared}
 use Rattle.abort_expansion_laws.proofs.TickFollowed as ticks
 use Rattle.abort_expansion_laws.proofs.ToldSteps.{Told, told_silent}
+use Rattle.abort_expansion_laws.proofs.FlagStages.{usual}
 
 module _ (c : Chart) (rules : IsChart features.Extended c) (core_rules : IsChart features.Core (expanded c)) where
   -- what is told of the core's steps that stand for one of the chart
@@ -46,9 +46,10 @@ module _ (c : Chart) (rules : IsChart features.Extended c) (core_rules : IsChart
           (state_at (table c) s).opened inner
       opens s here super = let alike = (whole.state_fits c rules core_rules s here).opens super in (alike.inner, alike.regions)
 
-  pub preemption_kept : IsWeaklyLayered c → (image : HasImage c) → ticks.StepsFollowed c rules core_rules (OwnTests (table c)) ToldHere →
+  pub preemption_kept : (image : HasImage c) → ticks.StepsFollowed c rules core_rules (usual c rules core_rules) (λ now r. Unit {0})
+      (OwnTests (table c)) ToldHere →
       Keeps (chart_machine c) (chart_machine (expanded c)) (AreAccepted image.program) (SeenAlike c)
-  preemption_kept layered image followed =
-      preemption_follows c rules core_rules layered (AreAccepted image.program) ToldHere
-      (told_silent (table c) (table (expanded c)) (ticks.i c rules core_rules)) (tests_are_spared c rules core_rules layered image) (OwnTests (table c))
+  preemption_kept image followed =
+      preemption_follows c rules core_rules (AreAccepted image.program) ToldHere
+      (told_silent (table c) (table (expanded c)) (ticks.i c rules core_rules)) (tests_are_spared c rules core_rules image) (OwnTests (table c))
       own_tests_kept followed

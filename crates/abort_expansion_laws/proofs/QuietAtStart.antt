@@ -29,7 +29,7 @@ use Rattle.abort_expansion_laws.specs.CoreRows.{own, IsState, Images, CoreRows}
 use Rattle.abort_expansion_laws.specs.Related.{Watches, guards as watch_guards, waits, looks_strong, looks}
 use Rattle.abort_expansion_laws.specs.Related.{elsewhere}
 use Rattle.abort_expansion_laws.specs.Related.{Related}
-use Rattle.abort_expansion_laws.proofs.InsideLeaves.{LayeredRows}
+use Rattle.abort_expansion_laws.proofs.InsideLeaves.{AloneRows}
 use Rattle.abort_expansion_laws.proofs.BesideMonitors.{LiesBeside, a_region, a_monitor, none_at_root, lies_beside, beside_apart, check_below}
 use Rattle.abort_expansion_laws.proofs.SeesFirst.{SeesFirst, out, over, checks, forks, sees_first, monitor_sees}
 use Rattle.chart_machine.specs.Turns.{ForkedApart}
@@ -49,7 +49,7 @@ module _ (k core : Table) (i : Images) where
   monitor_late o _ _ (looks yet seen parted first some ends among all) late = inr (map (λ (z : ℕ × Transition). z.1) (first ∷ some) ++ ends, refl)
   monitor_late o x _ (elsewhere _ a b) late = absurd cc
 
-module _ (k core : Table) (i : Images) (rows : CoreRows k core i) (layered : LayeredRows k core i) (tree : IsNested k) (core_tree : IsNested core)
+module _ (k core : Table) (i : Images) (rows : CoreRows k core i) (lone : AloneRows k core i) (tree : IsNested k) (core_tree : IsNested core)
     (core_children : (s r : ℕ) → Contains (state_at core s).regions r → around core r ≡ s ∷ around core (holder core s))
     (children : (s r : ℕ) → Contains (state_at k s).regions r → around k r ≡ s ∷ around k (holder k s))
     (super_there : (r s : ℕ) → Contains (around k r) s → IsState k s) (holds_there : (s : ℕ) → IsState k s → IsThere k (holder k s))
@@ -73,7 +73,7 @@ module _ (k core : Table) (i : Images) (rows : CoreRows k core i) (layered : Lay
     -- a thread that resumes at its check, be it that of a region or a monitor
     module _ (t : ℕ) (apart : ForkedApart core t (i.watcher_of o) (i.thread_of (holder k o))) where
       by_first : (y : Standing) →
-          SeesFirst k core i rows layered tree core_children children c d related o raises_it.flag has raises_it.is_flag (ap guards guarding_now) y →
+          SeesFirst k core i rows lone tree core_children children c d related o raises_it.flag has raises_it.is_flag (ap guards guarding_now) y →
           WakesLow p q m t y → Low t
       by_first _ out (wakes_tests u tests is soon) = absurd cc
       by_first _ out (wakes_fork u is) = absurd cc
@@ -110,7 +110,7 @@ module _ (k core : Table) (i : Images) (rows : CoreRows k core i) (layered : Lay
         present = woken_there t (standing_of d t) woke
 
         by_sees : ForkedApart core t (i.watcher_of o) (i.thread_of (holder k o)) →
-            SeesFirst k core i rows layered tree core_children children c d related o raises_it.flag has raises_it.is_flag (ap guards guarding_now)
+            SeesFirst k core i rows lone tree core_children children c d related o raises_it.flag has raises_it.is_flag (ap guards guarding_now)
             (standing_of d t) → Low t
         by_sees apart sees = by_first t apart (standing_of d t) sees woke
 
@@ -120,17 +120,17 @@ module _ (k core : Table) (i : Images) (rows : CoreRows k core i) (layered : Lay
             by_sees
             (beside_apart k core i rows tree core_tree super_there holds_there p q valid Alike lowered top_parent c d related o o_there has others
             guarding_now t (a_region v there is in_o))
-            (subst (λ z. SeesFirst k core i rows layered tree core_children children c d related o raises_it.flag has raises_it.is_flag
+            (subst (λ z. SeesFirst k core i rows lone tree core_children children c d related o raises_it.flag has raises_it.is_flag
             (ap guards guarding_now) (standing_of d z)) (sym is)
-            (sees_first k core i rows layered tree core_children children c d related o raises_it.flag has raises_it.is_flag (ap guards guarding_now) v there
+            (sees_first k core i rows lone tree core_children children c d related o raises_it.flag has raises_it.is_flag (ap guards guarding_now) v there
             in_o))
         by_sort (a_monitor w there has_too is in_o) =
             by_sees
             (beside_apart k core i rows tree core_tree super_there holds_there p q valid Alike lowered top_parent c d related o o_there has others
             guarding_now t (a_monitor w there has_too is in_o))
-            (subst (λ z. SeesFirst k core i rows layered tree core_children children c d related o raises_it.flag has raises_it.is_flag
+            (subst (λ z. SeesFirst k core i rows lone tree core_children children c d related o raises_it.flag has raises_it.is_flag
             (ap guards guarding_now) (standing_of d z)) (sym is)
-            (monitor_sees k core i rows layered tree core_children children c d related o raises_it.flag has raises_it.is_flag (ap guards guarding_now) w there
+            (monitor_sees k core i rows lone tree core_children children c d related o raises_it.flag has raises_it.is_flag (ap guards guarding_now) w there
             has_too in_o))
 
   pub starts_low : (o : ℕ) → IsState k o → has_aborts (own k o) ≡ true → is_late (standing_of d (i.watcher_of o)) ≡ true → (n : ℕ) →

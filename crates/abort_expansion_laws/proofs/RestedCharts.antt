@@ -1,4 +1,4 @@
--- A layered chart and its core chart that rest alike are seen alike, and where the one is over the other one is.
+-- A chart and its core chart that rest alike are seen alike, and where the one is over the other one is.
 use Rattle.sc_values.specs.Runs.{IsOver}
 use Rattle.core_charts.specs.declared.features.Features.TheVariants as features
 use Rattle.core_charts.specs.Chart.{Chart}

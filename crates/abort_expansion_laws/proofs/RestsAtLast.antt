@@ -18,7 +18,7 @@ use Rattle.abort_expansion_laws.specs.Related.{Stands, outside, ended, left, try
 use Rattle.abort_expansion_laws.specs.Related.{within, behind, Watches, waits, looks_strong, looks, elsewhere, FlagsAreDown, Related}
 use Rattle.abort_expansion_laws.specs.Related.{guards as watch_guards}
 use Rattle.abort_expansion_laws.specs.StageReached.{Stage}
-use Rattle.abort_expansion_laws.proofs.InsideLeaves.{LayeredRows}
+use Rattle.abort_expansion_laws.proofs.InsideLeaves.{AloneRows}
 use Rattle.abort_expansion_laws.proofs.StartingRegions.{CounterRows}
 use Rattle.abort_expansion_laws.proofs.OpensFork.{OpeningRows}
 use Rattle.abort_expansion_laws.proofs.Supplying.{climbs_fewer}
@@ -30,7 +30,7 @@ use Rattle.abort_expansion_laws.proofs.LeftTests as left_tests
 use Rattle.abort_expansion_laws.proofs.Owed.{RestsIn, rests_outside, rests_ended, rests_left, rests_trying, rests_staying, rests_within, rests_behind}
 use Rattle.abort_expansion_laws.proofs.Owed.{WatchRests, watch_within, watch_elsewhere, Resting}
 
-module _ (k core : Table) (i : Images) (rows : CoreRows k core i) (layered : LayeredRows k core i) (tree : IsNested k) (counts : ℕ → Bool) (written_at : ℕ → ℕ)
+module _ (k core : Table) (i : Images) (rows : CoreRows k core i) (lone : AloneRows k core i) (tree : IsNested k) (counts : ℕ → Bool) (written_at : ℕ → ℕ)
     (counters : CounterRows k core i rows counts written_at) (opening : OpeningRows k core i rows) (start_rows : StartRows k core i rows)
     (written_low : (x : ℕ) → written_at x < 3) (Told : Configuration → Entry → Type 0)
     (told : (e : Configuration) (t : ℕ) (stage : Option (ℕ × ℕ)) (a : Access) → Told e (Silent t stage a))
@@ -43,7 +43,7 @@ module _ (k core : Table) (i : Images) (rows : CoreRows k core i) (layered : Lay
 
   works_not : (r : ℕ) (x : Standing) → standing_of c r ≡ x → has_work k c x ≡ true → ⊥
   works_not =
-      left_tests.works_not k core i rows layered tree counts written_at counters opening start_rows written_low Told told c d related deep over
+      left_tests.works_not k core i rows lone tree counts written_at counters opening start_rows written_low Told told c d related deep over
 
   -- ---- where each region rests
 
@@ -128,5 +128,5 @@ module _ (k core : Table) (i : Images) (rows : CoreRows k core i) (layered : Lay
         tests : Passing core corr Told told d Reached d (Done core corr Told told d Reached (length d.regions))
         tests =
             tests_end core corr Told told d Reached
-            (left_tests.all_end k core i rows layered tree counts written_at counters opening start_rows written_low Told told c d related deep over)
+            (left_tests.all_end k core i rows lone tree counts written_at counters opening start_rows written_low Told told c d related deep over)
             (no_guards k core i rows c d related)

@@ -23,12 +23,12 @@ use Rattle.abort_expansion_laws.specs.Related.{trying, acting, entering, guardin
 use Rattle.abort_expansion_laws.specs.Related.{Related, LooksFirst, looks_never, looks_first}
 use Rattle.abort_expansion_laws.proofs.Fronts.{guards_not, guards_here}
 use Rattle.abort_expansion_laws.proofs.ChecksUpTo.{ChecksUpTo, strong_around, up_to_own}
-use Rattle.abort_expansion_laws.proofs.InsideLeaves.{LayeredRows}
+use Rattle.abort_expansion_laws.proofs.InsideLeaves.{AloneRows}
 use Rattle.abort_expansion_laws.proofs.AbortsHere.{aborts_here}
 use Rattle.abort_expansion_laws.proofs.CalmStandings.{calm_acting, calm_entering}
 use Rattle.abort_expansion_laws.proofs.YetToLook.{in_reversed, checks_are}
 
-module _ (k core : Table) (i : Images) (rows : CoreRows k core i) (layered : LayeredRows k core i) (tree : IsNested k)
+module _ (k core : Table) (i : Images) (rows : CoreRows k core i) (lone : AloneRows k core i) (tree : IsNested k)
     (core_children : (s r : ℕ) → Contains (state_at core s).regions r → around core r ≡ s ∷ around core (holder core s))
     (children : (s r : ℕ) → Contains (state_at k s).regions r → around k r ≡ s ∷ around k (holder k s))
     (c d : Configuration) (related : Related k core i c d)
@@ -95,7 +95,7 @@ module _ (k core : Table) (i : Images) (rows : CoreRows k core i) (layered : Lay
 
     fronts : (b : Bool) (rest : List Transition) → ChecksUpTo x (i.places_of q).left (strong_around k o) (front k core i b c q ++ rest)
     fronts b rest =
-        up_to_own k core i tree layered.no_strong o x (i.places_of q).left b (λ s. ahead k core i b (i.places_of q).left c s)
+        up_to_own k core i tree lone.no_strong o x (i.places_of q).left b (λ s. ahead k core i b (i.places_of q).left c s)
         (guards_here k core i b (i.places_of q).left c o guards_now ∙ ap (check b (i.places_of q).left) flag) (ahead_or_not b) (around k q) []
         q (sym (append-nil (around k q))) in_o rest
 
@@ -111,5 +111,5 @@ module _ (k core : Table) (i : Images) (rows : CoreRows k core i) (layered : Lay
       by_place _ (looks_first yet seen rest parted inner) =
           checks (i.watching_of u) 1 (strong_checks false 1 (map i.flags_of yet) ++ rest)
           (subst (λ zs. ChecksUpTo x 1 (strong_around k o) (zs ++ rest)) (sym (checks_are i false 1 yet))
-          (up_to_own k core i tree layered.no_strong o x 1 false (λ s. check false 1 (i.flags_of s).strong) (ap (check false 1) flag) (λ s. inr refl)
+          (up_to_own k core i tree lone.no_strong o x 1 false (λ s. check false 1 (i.flags_of s).strong) (ap (check false 1) flag) (λ s. inr refl)
           (reverse yet) seen (holder k u) parted (in_reversed yet o inner) rest))

@@ -6,7 +6,7 @@ use Rattle.sc_values.specs.Runs.{Machine, replay, IsOver, Act, act_of, acts, act
 use Rattle.abort_expansion_laws.specs.Stages.{Entry, Image, Watched, Silent, Correspondence, IsCorrespondence, core_act, core_log, chart_log, EachFits}
 use Rattle.abort_expansion_laws.specs.Stages.{Climbs, NoneReached, EachSpared}
 use Rattle.abort_expansion_laws.proofs.StagesKept.{stages_kept}
-pub use Rattle.abort_expansion_laws.specs.Segments.{threads, Follows, Segment, Simulation}
+pub use Rattle.abort_expansion_laws.specs.Segments.{threads, Follows, Segment, EachMay, Simulation}
 
 module _ (n : Machine) (k : Correspondence) (Told : n.Configuration → Entry → Type 0) where
   follows_replay : (log : List Entry) (d e : n.Configuration) → Follows n k Told d log e → replay n (threads k log) d ≡ Some e
@@ -52,37 +52,38 @@ module _ (n : Machine) (k : Correspondence) (Told : n.Configuration → Entry �
       }
 
 module _ (m n : Machine) (k : Correspondence) (Told : n.Configuration → Entry → Type 0) (sim : Simulation m n k Told) where
-  first_followed : (r : ℕ) (run : List ℕ) (c last : m.Configuration) (d : n.Configuration) → sim.Related c d →
-      ((next : m.Configuration) (e : n.Configuration) → sim.Related next e → replay m run next ≡ Some last → IsOver m last →
+  first_followed : (r : ℕ) (run : List ℕ) (c last : m.Configuration) (d : n.Configuration) → sim.Related c d → EachMay m sim.May (r ∷ run) c →
+      ((next : m.Configuration) (e : n.Configuration) → sim.Related next e → EachMay m sim.May run next → replay m run next ≡ Some last → IsOver m last →
       Segment n k Told e (sim.Stage next e) (sim.Stage last) (acts m run next) (sim.Rested last)) →
       (next : Option m.Configuration) → m.step r c ≡ next → replay m (r ∷ run) c ≡ Some last → IsOver m last →
       Segment n k Told d (sim.Stage c d) (sim.Stage last) (acts m (r ∷ run) c) (sim.Rested last)
-  first_followed r run c last d related rest None e runs over =
+  first_followed r run c last d related each rest None e runs over =
       let none : option_and_then (replay m run) None ≡ Some last = ap (option_and_then (replay m run)) (sym e) ∙ runs in absurd (cc)
-  first_followed r run c last d related rest (Some next) e runs over =
-      let one = sim.advance c d related r next e in
+  first_followed r run c last d related each rest (Some next) e runs over =
+      let one = sim.advance c d related r next each.0 e in
       let runs_on : replay m run next ≡ Some last = ap (option_and_then (replay m run)) (sym e) ∙ runs in
       let logs : act_of m c r ∷ acts m run next ≡ acts m (r ∷ run) c = ap (λ z. act_of m c r ∷ acts_after m (acts m run) z) (sym e) in
       subst (λ z. Segment n k Told d (sim.Stage c d) (sim.Stage last) z (sim.Rested last)) logs
       (segment_on n k Told d (sim.Stage c d) (sim.Stage next) (sim.Stage last) (act_of m c r ∷ []) (acts m run next) (sim.Related next) (sim.Rested last) one
-      (rest next one.last one.reaches runs_on over))
+      (rest next one.last one.reaches (each.1 next e) runs_on over))
 
   -- each complete run of the chart is followed to its end
-  followed : (run : List ℕ) (c last : m.Configuration) (d : n.Configuration) → sim.Related c d → replay m run c ≡ Some last → IsOver m last →
+  followed : (run : List ℕ) (c last : m.Configuration) (d : n.Configuration) → sim.Related c d → EachMay m sim.May run c → replay m run c ≡ Some last →
+      IsOver m last →
       Segment n k Told d (sim.Stage c d) (sim.Stage last) (acts m run c) (sim.Rested last)
-  followed [] c last d related runs over =
+  followed [] c last d related each runs over =
       subst (λ z. Segment n k Told d (sim.Stage c d) (sim.Stage z) [] (sim.Rested z)) (same_Some c last runs)
       (sim.finish c d related (subst (IsOver m) (sym (same_Some c last runs)) over))
-  followed (r ∷ run) c last d related runs over =
-      first_followed r run c last d related (λ next e. followed run next last e) (m.step r c) refl runs over
+  followed (r ∷ run) c last d related each runs over =
+      first_followed r run c last d related each (λ next e. followed run next last e) (m.step r c) refl runs over
 
   -- an end of the chart's tick is an end of the core's: `spared` is what validity gives
   pub ends_kept : IsCorrespondence k → ((steps : List Act) → IsOrdered m.ForkedApart steps → IsOrdered k.ChartApart steps) →
       ((steps : List Act) → IsOrdered k.CoreApart steps → IsOrdered n.ForkedApart steps) →
       (c last : m.Configuration) (d : n.Configuration) → sim.Started c d →
       ((log : List Entry) (e : n.Configuration) → Follows n k Told d log e → EachFits k log → EachSpared k log) →
-      Ends m c last → (e : n.Configuration) × Ends n d e × sim.Rested last e
-  ends_kept is chart_same core_same c last d started spared ends = (
+      (ends : Ends m c last) → EachMay m sim.May ends.run c → (e : n.Configuration) × Ends n d e × sim.Rested last e
+  ends_kept is chart_same core_same c last d started spared ends each = (
     s.last,
     record {
       run = threads k s.log;
@@ -102,7 +103,7 @@ module _ (m n : Machine) (k : Correspondence) (Told : n.Configuration → Entry 
       s : Segment n k Told d NoneReached (sim.Stage last) (acts m ends.run c) (sim.Rested last)
       s =
           segment_on n k Told d NoneReached (sim.Stage c) (sim.Stage last) [] (acts m ends.run c) (sim.Related c) (sim.Rested last) first
-          (followed ends.run c last first.last first.reaches ends.complete.runs ends.complete.over)
+          (followed ends.run c last first.last first.reaches each ends.complete.runs ends.complete.over)
 
       climbs : Climbs k NoneReached s.log
       climbs = subst (Climbs k NoneReached) (append-nil s.log) (s.climbs [] tt)

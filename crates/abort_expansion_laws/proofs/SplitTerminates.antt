@@ -34,7 +34,7 @@ use Rattle.abort_expansion_laws.proofs.StartingRegions.{CounterRows}
 use Rattle.abort_expansion_laws.proofs.OpensFork.{OpeningRows}
 use Rattle.abort_expansion_laws.proofs.FailedChecks.{IsDown, AllDown, checks_fail}
 use Rattle.abort_expansion_laws.proofs.YetToLook.{in_reverse}
-use Rattle.abort_expansion_laws.proofs.InsideLeaves.{LayeredRows}
+use Rattle.abort_expansion_laws.proofs.InsideLeaves.{AloneRows}
 use Rattle.abort_expansion_laws.proofs.Answering.{AllFail, Passed, tests_fail}
 use Rattle.abort_expansion_laws.proofs.CoreSteps.{takes_any}
 use Rattle.abort_expansion_laws.proofs.EffectAhead.{BeginsAt}
@@ -49,7 +49,7 @@ use Rattle.abort_expansion_laws.proofs.Unchanged.{unguarded}
 use Rattle.abort_expansion_laws.proofs.SplitTests.{continuation_tests}
 use Rattle.abort_expansion_laws.proofs.SplitTests as split
 
-module _ (k core : Table) (i : Images) (rows : CoreRows k core i) (layered : LayeredRows k core i) (tree : IsNested k) (core_tree : IsNested core)
+module _ (k core : Table) (i : Images) (rows : CoreRows k core i) (lone : AloneRows k core i) (tree : IsNested k) (core_tree : IsNested core)
     (counts : ℕ → Bool) (written_at : ℕ → ℕ)
     (counters : CounterRows k core i rows counts written_at) (opening : OpeningRows k core i rows) (written_low : (x : ℕ) → written_at x < 3)
     (strong_at : (s x : ℕ) → (i.flags_of s).strong ≡ Some x → written_at x ≡ 0) (super_there : (q s : ℕ) → Contains (around k q) s → IsState k s)
@@ -233,7 +233,7 @@ module _ (k core : Table) (i : Images) (rows : CoreRows k core i) (layered : Lay
         silent_step (machine core) corr Told told answer_part.last leads_to (i.thread_of r) None (access_of_trigger takes.trigger) Now Now (λ w. w ≡ leads_to)
         (takes_any core answer_part.last (i.thread_of r) (i.behind_of s) (led_by (i.places_of r) takes.trigger t) takes.later
         (unguarded core answer_part.last quiet_z (around core (i.thread_of r))) home_is
-        (subst (λ vs. verdict vs takes.trigger ≡ Some true) (sym values_are) takes.true_there) (layered.behind_alone s))
+        (subst (λ vs. verdict vs takes.trigger ≡ Some true) (sym values_are) takes.true_there) (lone.behind_alone s))
         (ap access_of home_is) takes.silent
         (λ more climbs. climbs_home corr (Stage k i.thread_of c1 d) (i.thread_of r) 0 (access_of_trigger takes.trigger) more climbs) refl
 

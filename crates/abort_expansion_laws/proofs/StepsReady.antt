@@ -1,6 +1,5 @@
 -- Each tick begins, and each step is followed, so that all monitors that have their turn with a weak test are at it.
-use Rattle.std.proofs.Common.{◌≡◌, ℕ, Some, [], ◌∷◌}
-use Rattle.sc_values.specs.Runs.{act_of}
+use Rattle.std.proofs.Common.{◌≡◌, ℕ, Some, []}
 use Rattle.core_charts.specs.declared.features.Features.TheVariants as features
 use Rattle.core_charts.specs.Chart.{Chart}
 use Rattle.core_charts.specs.Rules.{IsChart}
@@ -10,7 +9,7 @@ use Rattle.chart_machine.specs.Table.{table}
 use Rattle.chart_machine.specs.Steps.{step}
 use Rattle.chart_machine.specs.Machine.{machine}
 use Rattle.abort_expansion.specs.Expansion.{expanded}
-use Rattle.abort_expansion_laws.specs.Layered.{IsWeaklyLayered}
+use Rattle.chart_machine_laws.specs.Tree.{around}
 use Rattle.abort_expansion_laws.specs.CoreRows.{Images}
 use Rattle.abort_expansion_laws.specs.Related.{Related}
 use Rattle.abort_expansion_laws.specs.Stages.{Entry, NoneReached}
@@ -22,12 +21,14 @@ use Rattle.abort_expansion_laws.proofs.Owed.{Started}
 use Rattle.abort_expansion_laws.proofs.OwnTests.{OwnTests}
 use Rattle.abort_expansion_laws.proofs.PreemptionKept.{ToldHere}
 use Rattle.abort_expansion_laws.proofs.RowsOfCharts as whole
-use Rattle.abort_expansion_laws.proofs.StepsByCase.{steps_followed}
+use Rattle.abort_expansion_laws.proofs.CasesFollowed.{Followed}
+use Rattle.abort_expansion_laws.proofs.FlagStages.{usual, early_stages}
+use Rattle.abort_expansion_laws.proofs.StepsByCase.{each_step_followed}
 use Rattle.abort_expansion_laws.proofs.TickFollowed as ticks
 use Rattle.abort_expansion_laws.proofs.TicksBegin.{ticks_begin}
 use Rattle.abort_expansion_laws.proofs.ToldSteps.{told_silent}
 
-module _ (c : Chart) (rules : IsChart features.Extended c) (core_rules : IsChart features.Core (expanded c)) (layered : IsWeaklyLayered c) where
+module _ (c : Chart) (rules : IsChart features.Extended c) (core_rules : IsChart features.Core (expanded c)) where
   abbrev k : Table
   k = table c
 
@@ -47,17 +48,21 @@ module _ (c : Chart) (rules : IsChart features.Extended c) (core_rules : IsChart
       (ticks.written_at c rules core_rules) (counter_rows c rules core_rules) (opening_rows c rules core_rules) (strong_at c rules core_rules)
       (whole.super_there c rules core_rules) Told (told_silent k core i) now d related
 
+  -- each step is followed, and then the monitors look
+  pub record StepReady (now d : Configuration) (r : ℕ) (next : Configuration) : Type 0 where
+    pub step : Followed c rules core_rules (early_stages c rules core_rules (around k r)) now d r next
+    pub looks : Segment (machine core) (ticks.corr c rules core_rules) Told step.last (Stage k i.thread_of next step.last) (Stage k i.thread_of next) []
+        (AllReady k core i next)
+
   pub steps_ready : (now d : Configuration) → Related k core i now d → OwnTests k now → (r : ℕ) (next : Configuration) → step k r now ≡ Some next →
-      Segment (machine core) (ticks.corr c rules core_rules) Told d (Stage k i.thread_of now d) (Stage k i.thread_of next)
-      (act_of (machine k) now r ∷ []) (AllReady k core i next)
+      StepReady now d r next
   steps_ready now d related owns r next goes =
-      let first = steps_followed c rules core_rules layered now d related owns r next goes in
-      segment_on (machine core) (ticks.corr c rules core_rules) Told d (Stage k i.thread_of now d) (Stage k i.thread_of next) (Stage k i.thread_of next)
-      (act_of (machine k) now r ∷ []) [] (Related k core i next) (AllReady k core i next) first (readied next first.last first.reaches)
+      let first = each_step_followed c rules core_rules now d related owns r next goes in
+      record { step = first; looks = readied next first.last first.reaches }
 
   pub ticks_ready : (now d : Configuration) → Started k core i now d →
       Segment (machine core) (ticks.corr c rules core_rules) Told d NoneReached (Stage k i.thread_of now) [] (AllReady k core i now)
   ticks_ready now d started =
-      let first = ticks_begin c rules core_rules layered Told (told_silent k core i) now d started in
+      let first = ticks_begin c rules core_rules (usual c rules core_rules) Told (told_silent k core i) now d started in
       segment_on (machine core) (ticks.corr c rules core_rules) Told d NoneReached (Stage k i.thread_of now) (Stage k i.thread_of now) [] []
       (Related k core i now) (AllReady k core i now) first (readied now first.last first.reaches)

@@ -40,7 +40,6 @@ use Rattle.compiled_charts_laws.proofs.Stands.{stand_alike, waits_there}
 use Rattle.compiled_charts_laws.proofs.TestNodes.{test_node}
 use Rattle.compiled_charts_laws.proofs.TickStarts as tick_starts
 use Rattle.chart_machine_laws.specs.Tree.{holder}
-use Rattle.abort_expansion_laws.specs.Layered.{IsWeaklyLayered}
 use Rattle.abort_expansion_laws.specs.Preemption.{HasImage}
 use Rattle.abort_expansion_laws.specs.Segments.{Follows}
 use Rattle.abort_expansion_laws.specs.Stages.{Entry, Image, Watched, Silent, Correspondence, IsSpared, EachSpared}
@@ -48,7 +47,7 @@ use Rattle.abort_expansion_laws.specs.CoreRows.{own, IsState, Images, CoreRows}
 use Rattle.abort_expansion_laws.proofs.CheckNodes.{wakes_low}
 use Rattle.abort_expansion_laws.proofs.DelayedBefore.{late_before, first_prompt}
 use Rattle.abort_expansion_laws.proofs.EachSpared.{each_spared}
-use Rattle.abort_expansion_laws.proofs.LayeredChartRows.{layered_rows, start_rows, started_related}
+use Rattle.abort_expansion_laws.proofs.TickRows.{alone_rows, start_rows, started_related}
 use Rattle.abort_expansion_laws.proofs.LaterTicks.{chart_has_begun, never}
 use Rattle.abort_expansion_laws.proofs.Owed.{Resting}
 use Rattle.abort_expansion_laws.proofs.PreemptionFollows.{RestsAlike, SparesTests}
@@ -60,6 +59,7 @@ use Rattle.abort_expansion_laws.proofs.StrongTestsQuiet.{ToldOf, precedes_writes
 use Rattle.abort_expansion_laws.proofs.TickFollowed as ticks
 use Rattle.abort_expansion_laws.proofs.ToldSteps.{ImageTold, Told, fork_around}
 use Rattle.abort_expansion_laws.proofs.WokenConfigurations.{woken_at}
+use Rattle.abort_expansion_laws.proofs.FlagStages.{FlagStages}
 
 -- ---- that it is spared is a denial
 
@@ -103,7 +103,7 @@ writes_not b a none first = precedes_writes b a first (ap (λ z. z.writes) none)
 
 -- ---- the image of a chart
 
-module _ (c : Chart) (rules : IsChart features.Extended c) (core_rules : IsChart features.Core (expanded c)) (layered : IsWeaklyLayered c)
+module _ (c : Chart) (rules : IsChart features.Extended c) (core_rules : IsChart features.Core (expanded c))
     (scl : Scl) (low : IsLowering (expanded c) scl) (q : Tables) (valid : IsValid (program_of (numbered scl)) q) where
   abbrev k : Table
   k = table c
@@ -158,10 +158,11 @@ module _ (c : Chart) (rules : IsChart features.Extended c) (core_rules : IsChart
         enclosed = fork_around k core i rows d u told;
       }
 
-  tick_spared : (log : List Entry) (d e : Configuration) → Follows (machine core) (ticks.corr c rules core_rules) (Told k core i) d log e → Keeps d →
-      EachSpared (ticks.corr c rules core_rules) log
-  tick_spared log d e follows keeps =
-      each_spared (machine core) (ticks.corr c rules core_rules) (Told k core i) Keeps Quiet
+  tick_spared : (stages : FlagStages c rules core_rules) (log : List Entry) (d e : Configuration) →
+      Follows (machine core) (ticks.corr_at c rules core_rules stages) (Told k core i) d log e → Keeps d →
+      EachSpared (ticks.corr_at c rules core_rules stages) log
+  tick_spared stages log d e follows keeps =
+      each_spared (machine core) (ticks.corr_at c rules core_rules stages) (Told k core i) Keeps Quiet
       (λ d next t keeps goes.
       monitors_stay_low k core i rows (whole.core_tree c rules core_rules).nested p q valid Alike lowered tests earlier d next t keeps goes)
       (λ r g a d next keeps told goes.
@@ -183,8 +184,8 @@ module _ (c : Chart) (rules : IsChart features.Extended c) (core_rules : IsChart
   module _ (inputs : Inputs) (accepted : AreAccepted p inputs) (before d : Configuration) (m : Control) (between : Between d m) where
     never_guards : Resting k core i before d → (r u : ℕ) (others : List Transition) → standing_of before r ≢ at.Guarding u others
     never_guards rests r u others e =
-        never k core i rows (layered_rows c rules core_rules layered) (whole.tree c rules core_rules).nested
-        (start_rows c rules core_rules layered) before d rests inputs r u others e
+        never k core i rows (alone_rows c rules core_rules) (whole.tree c rules core_rules).nested
+        (start_rows c rules core_rules) before d rests inputs r u others e
 
     plain_open : Resting k core i before d → (o : ℕ) (others : List Transition) → standing_of (start k inputs before) (holder k o) ≡ at.Within o others →
         strong_aborts (own k o) ≡ []
@@ -212,22 +213,23 @@ module _ (c : Chart) (rules : IsChart features.Extended c) (core_rules : IsChart
             ∙ first_prompt features.Core (expanded c) core_rules inputs (i.watcher_of o)) in
             absurd cc
         by (inr rested) o there has late n raises_it =
-            starts_low k core i rows (layered_rows c rules core_rules layered) (whole.tree c rules core_rules).nested
+            starts_low k core i rows (alone_rows c rules core_rules) (whole.tree c rules core_rules).nested
             (whole.core_tree c rules core_rules).nested (whole.core_tree c rules core_rules).children (whole.tree c rules core_rules).children
             (whole.super_there c rules core_rules) (λ s here. (whole.state_fits c rules core_rules s here).region.here)
-            (start_rows c rules core_rules layered).strong_for p q valid Alike lowered tests earlier
+            (start_rows c rules core_rules).strong_for p q valid Alike lowered tests earlier
             (λ t there none. tick_starts.top_parent (expanded c) scl q low valid t there none) (start k inputs before) (start core inputs d)
-            (started_related c rules core_rules layered before d rested.rests inputs) (graph_tick.start p inputs m)
+            (started_related c rules core_rules before d rested.rests inputs) (graph_tick.start p inputs m)
             (tick_starts.starts_alike (expanded c) scl q low valid inputs accepted d m between)
             (wakes_low (expanded c) scl low q valid inputs accepted d m between) (plain_open rested.rests) o there has late n raises_it
 
-    pub spared_in_tick : RestsAlike c rules core_rules before d → (log : List Entry) (e : Configuration) →
-        Follows (machine core) (ticks.corr c rules core_rules) (Told k core i) (start core inputs d) log e → EachSpared (ticks.corr c rules core_rules) log
-    spared_in_tick rests log e follows = tick_spared log (start core inputs d) e follows (starts_keeping rests)
+    pub spared_in_tick : RestsAlike c rules core_rules before d → (stages : FlagStages c rules core_rules) (log : List Entry) (e : Configuration) →
+        Follows (machine core) (ticks.corr_at c rules core_rules stages) (Told k core i) (start core inputs d) log e →
+        EachSpared (ticks.corr_at c rules core_rules stages) log
+    spared_in_tick rests stages log e follows = tick_spared stages log (start core inputs d) e follows (starts_keeping rests)
 
 -- ---- over lists of ticks
 
-module _ (c : Chart) (rules : IsChart features.Extended c) (core_rules : IsChart features.Core (expanded c)) (layered : IsWeaklyLayered c)
+module _ (c : Chart) (rules : IsChart features.Extended c) (core_rules : IsChart features.Core (expanded c))
     (image : HasImage c) where
   abbrev Kept : Type 0
   Kept = KeepsRules image.scl.name image.scl.variables image.scl.body
@@ -244,7 +246,7 @@ module _ (c : Chart) (rules : IsChart features.Extended c) (core_rules : IsChart
 
   -- the graph rests where the core chart does
   abbrev Rests : Configuration → Type 0
-  Rests d = (kept : Kept) × (m : Control) × Between c rules core_rules layered image.scl (lowers kept) image.tables is_valid d m
+  Rests d = (kept : Kept) × (m : Control) × Between c rules core_rules image.scl (lowers kept) image.tables is_valid d m
 
   pub tests_are_spared : SparesTests c rules core_rules (AreAccepted image.program) (Told (table c) (table (expanded c)) (whole.i c rules core_rules))
   tests_are_spared =
@@ -258,9 +260,9 @@ module _ (c : Chart) (rules : IsChart features.Extended c) (core_rules : IsChart
         goes_on = λ inputs d e accepted rests ends. ∥∥₁_map rests (λ x.
             let to = tick_starts.goes_to (expanded c) image.scl image.tables (lowers x.0) is_valid inputs (takes inputs accepted) d x.1 x.2 e ends in
             (x.0, to.0, to.1));
-        spared = λ inputs before d accepted rests alike log e follows fits.
-            stable_all (ticks.corr c rules core_rules) log
+        spared = λ inputs before d accepted rests alike stages log e follows fits.
+            stable_all (ticks.corr_at c rules core_rules stages) log
             (λ none. not_there rests (λ x.
-            none (spared_in_tick c rules core_rules layered image.scl (lowers x.0) image.tables is_valid inputs (takes inputs accepted) before d x.1 x.2 alike
-            log e follows)));
+            none (spared_in_tick c rules core_rules image.scl (lowers x.0) image.tables is_valid inputs (takes inputs accepted) before d x.1 x.2 alike
+            stages log e follows)));
       }

@@ -30,7 +30,7 @@ use Rattle.abort_expansion_laws.specs.Related.{is_behind, Stands, outside, ended
 use Rattle.abort_expansion_laws.specs.Related.{staying, within, behind, IsInside, guarded}
 use Rattle.abort_expansion_laws.specs.Related.{open_inside}
 use Rattle.abort_expansion_laws.proofs.Fronts.{none_of_each, front_whole}
-use Rattle.abort_expansion_laws.proofs.InsideLeaves.{LayeredRows}
+use Rattle.abort_expansion_laws.proofs.InsideLeaves.{AloneRows}
 use Rattle.abort_expansion_laws.proofs.Owed.{RestsIn, rests_outside, rests_ended, rests_left}
 use Rattle.abort_expansion_laws.proofs.Owed.{rests_trying, rests_staying, rests_within, rests_behind}
 use Rattle.abort_expansion_laws.proofs.Owed.{Resting}
@@ -98,7 +98,7 @@ pub record StartRows (k core : Table) (i : Images) (rows : CoreRows k core i) : 
   pub super_there : (r s : ℕ) → Contains (around k r) s → IsState k s
   pub locals : Each IsLocal rows.added
 
-module _ (k core : Table) (i : Images) (rows : CoreRows k core i) (layered : LayeredRows k core i) (tree : IsNested k) (more_rows : StartRows k core i rows)
+module _ (k core : Table) (i : Images) (rows : CoreRows k core i) (lone : AloneRows k core i) (tree : IsNested k) (more_rows : StartRows k core i rows)
     (before core_before : Configuration) (rests : Resting k core i before core_before) (inputs : Inputs) where
   abbrev pub c : Configuration
   c = record { variables = values_at_start inputs k.variables before.variables; regions = map (woken k) before.regions }

@@ -34,7 +34,7 @@ use Rattle.chart_machine_laws.proofs.ChartTables.{no_regions_past, within_or_pas
 use Rattle.abort_expansion_laws.proofs.TickStarts.{StartRows}
 use Rattle.abort_expansion_laws.proofs.EnteringSimple.{weak_once}
 use Rattle.abort_expansion_laws.proofs.MayLeave.{leads_out, fails_before, out, over, tries}
-use Rattle.abort_expansion_laws.proofs.InsideLeaves.{LayeredRows, fork_leaves, all_may_leave}
+use Rattle.abort_expansion_laws.proofs.InsideLeaves.{AloneRows, fork_leaves, all_may_leave}
 use Rattle.abort_expansion_laws.proofs.SplitTests.{continuation_tests}
 use Rattle.abort_expansion_laws.proofs.InsideAround.{one_in_other}
 use Rattle.abort_expansion_laws.proofs.StageReached.{none_of, holds_other}
@@ -42,7 +42,7 @@ use Rattle.abort_expansion_laws.proofs.WeakSeen as seen
 use Rattle.abort_expansion_laws.proofs.MonitorsLeave as monitors
 use Rattle.abort_expansion_laws.proofs.WeakSeen.{any_none, some_still_in}
 
-module _ (k core : Table) (i : Images) (rows : CoreRows k core i) (layered : LayeredRows k core i) (tree : IsNested k)
+module _ (k core : Table) (i : Images) (rows : CoreRows k core i) (lone : AloneRows k core i) (tree : IsNested k)
     (deep : (q s : ℕ) → Contains (around core q) s → holder core s < q) (alone : (v : ℕ) → (state_at core v).regions ≡ [] → inside core v ≡ [])
     (core_children : (s r : ℕ) → Contains (state_at core s).regions r → around core r ≡ s ∷ around core (holder core s))
     (children : (s r : ℕ) → Contains (state_at k s).regions r → around k r ≡ s ∷ around k (holder k s))
@@ -50,71 +50,62 @@ module _ (k core : Table) (i : Images) (rows : CoreRows k core i) (layered : Lay
     (start_rows : StartRows k core i rows) (written_low : (x : ℕ) → written_at x < 3)
     (strong_at : (s x : ℕ) → (i.flags_of s).strong ≡ Some x → written_at x ≡ 0)
     (c d : Configuration) (related : Related k core i c d) (r o x : ℕ) (flag : (i.flags_of o).weak ≡ Some x) (held : holder k o ≡ r)
+    (early : (s y : ℕ) → Contains (around k r) s → (i.flags_of s).weak ≡ Some y → written_at y ≡ 0)
     (o_there : IsState k o) (open_tests : List Transition) (stands : standing_of c r ≡ at.Within o open_tests)
     (idle : (q : ℕ) → IsThere k q → Contains (around k q) o → has_work k c (standing_of c q) ≡ false)
     (first : Configuration) (raised : verdict first.variables (Some (is_raised x)) ≡ Some true)
     (values : (y : ℕ) → y ≢ x → slice_get first.variables y ≡ slice_get d.variables y)
     (same : (g : ℕ) → g ≢ i.watcher_of o → standing_of first g ≡ standing_of d g) (free : is_guarded k c (around k r) ≡ false) where
   abbrev corr : Correspondence
-  corr = seen.corr k core i rows layered tree deep alone core_children children counts written_at counters opening start_rows written_low strong_at c d
-      related r o x flag held
+  corr = seen.corr k core i rows lone tree deep alone core_children children counts written_at counters opening start_rows written_low strong_at c d
+      related r o x flag held early
       o_there open_tests stands idle first raised values same
 
   abbrev has : has_aborts (own k o) ≡ true
-  has = seen.has k core i rows layered tree deep alone core_children children counts written_at counters opening start_rows written_low strong_at c d related
-      r o x flag held
+  has = seen.has k core i rows lone tree deep alone core_children children counts written_at counters opening start_rows written_low strong_at c d related
+      r o x flag held early
       o_there open_tests stands idle first raised values same
 
   abbrev Leaves : ℕ → Standing → Type 0
-  Leaves = seen.Leaves k core i rows layered tree deep alone core_children children counts written_at counters opening start_rows written_low strong_at c d
-      related r o x flag held
+  Leaves = seen.Leaves k core i rows lone tree deep alone core_children children counts written_at counters opening start_rows written_low strong_at c d
+      related r o x flag held early
       o_there open_tests stands idle first raised values same
 
   abbrev LeavesTests : ℕ → List Transition → Type 0
-  LeavesTests = seen.LeavesTests k core i rows layered tree deep alone core_children children counts written_at counters opening start_rows written_low
-      strong_at c d related r o x flag held
-      o_there open_tests stands idle first raised values same
-
-  abbrev sees : ℕ → Transition
-  sees = seen.sees k core i rows layered tree deep alone core_children children counts written_at counters opening start_rows written_low strong_at c d
-      related r o x flag held
-      o_there open_tests stands idle first raised values same
-
-  abbrev one_held : (q : ℕ) → Contains (around k q) o → held_back k core i q ≡ sees q ∷ []
-  one_held = seen.one_held k core i rows layered tree deep alone core_children children counts written_at counters opening start_rows written_low strong_at c
-      d related r o x flag held
+  LeavesTests = seen.LeavesTests k core i rows lone tree deep alone core_children children counts written_at counters opening start_rows written_low
+      strong_at c d related r o x flag held early
       o_there open_tests stands idle first raised values same
 
   abbrev weak_here : (q : ℕ) → Contains (around k q) o → weak_around (flags_around k core i q) ≡ true
-  weak_here = seen.weak_here k core i rows layered tree deep alone core_children children counts written_at counters opening start_rows written_low strong_at
-      c d related r o x flag held
+  weak_here = seen.weak_here k core i rows lone tree deep alone core_children children counts written_at counters opening start_rows written_low strong_at
+      c d related r o x flag held early
       o_there open_tests stands idle first raised values same
 
   abbrev aborts_here : (q : ℕ) → Contains (around k q) o → aborts_around (flags_around k core i q) ≡ true
-  aborts_here = seen.aborts_here k core i rows layered tree deep alone core_children children counts written_at counters opening start_rows written_low
-      strong_at c d related r o x flag held
+  aborts_here = seen.aborts_here k core i rows lone tree deep alone core_children children counts written_at counters opening start_rows written_low
+      strong_at c d related r o x flag held early
       o_there open_tests stands idle first raised values same
 
   abbrev ends_there : (q : ℕ) → IsThere k q → Contains (around k q) o →
       (state_at core (state_in core (i.thread_of q) (i.places_of q).left)).entered ≡ to (i.thread_of q) at.Ended ∷ []
-  ends_there = seen.ends_there k core i rows layered tree deep alone core_children children counts written_at counters opening start_rows written_low
-      strong_at c d related r o x flag held
+  ends_there = seen.ends_there k core i rows lone tree deep alone core_children children counts written_at counters opening start_rows written_low
+      strong_at c d related r o x flag held early
       o_there open_tests stands idle first raised values same
 
-  abbrev sees_it : (q : ℕ) → IsThere k q → Contains (around k q) o → LeavesTests q (sees q ∷ [])
-  sees_it = seen.sees_it k core i rows layered tree deep alone core_children children counts written_at counters opening start_rows written_low strong_at c d
-      related r o x flag held
+  abbrev held_leaves : (q : ℕ) → IsThere k q → Contains (around k q) o → LeavesTests q (held_back k core i q)
+  held_leaves = seen.held_leaves k core i rows lone tree deep alone core_children children counts written_at counters opening start_rows written_low
+      strong_at c d related r o x flag held early
       o_there open_tests stands idle first raised values same
 
   abbrev strong_fails : (q : ℕ) → IsThere k q → standing_of c q ≢ at.Outside → Contains (around k q) o → (rest : List Transition) → LeavesTests q rest →
       LeavesTests q (strong_checks true (i.places_of q).left (flags_around k core i q) ++ rest)
-  strong_fails = seen.strong_fails k core i rows layered tree deep alone core_children children counts written_at counters opening start_rows written_low
-      strong_at c d related r o x flag held
+  strong_fails = seen.strong_fails k core i rows lone tree deep alone core_children children counts written_at counters opening start_rows written_low
+      strong_at c d related r o x flag held early
       o_there open_tests stands idle first raised values same
 
   abbrev works_not : (q : ℕ) → IsThere k q → Contains (around k q) o → (w : Standing) → standing_of c q ≡ w → has_work k c w ≡ true → ⊥
-  works_not = seen.works_not k core i rows layered tree deep alone core_children children counts written_at counters opening start_rows written_low strong_at
-      c d related r o x flag held
+  works_not = seen.works_not k core i rows lone tree deep alone core_children children counts written_at counters opening start_rows written_low strong_at
+      c d related r o x flag held early
       o_there open_tests stands idle first raised values same
 
   -- ---- nobody guards
@@ -193,7 +184,7 @@ module _ (k core : Table) (i : Images) (rows : CoreRows k core i) (layered : Lay
         by_ends : (ts : List Transition) → terminations (own k s) ≡ ts →
             LeavesTests q (at_once (closing (flags_around k core i q) (i.flags_of s) (i.places_of q) ts))
         by_ends [] e =
-            subst (LeavesTests q) (sym (weak_once (i.places_of q).left (flags_around k core i q) ∙ one_held q in_o)) (sees_it q there in_o)
+            subst (LeavesTests q) (sym (weak_once (i.places_of q).left (flags_around k core i q))) (held_leaves q there in_o)
         by_ends (t ∷ more) e =
             subst (λ b. LeavesTests q (at_once (if b then joined_or_left (i.places_of q) (i.flags_of s).counter t else led_by (i.places_of q) None t ∷ [])))
             (sym (weak_here q in_o)) (by_counter (i.flags_of s).counter refl t more e)
@@ -269,8 +260,8 @@ module _ (k core : Table) (i : Images) (rows : CoreRows k core i) (layered : Lay
   only_held q u b there in_o present alone =
       let not_around : is_guarded k c (around k q) ≡ false = not_guarded q there in_o present in
       let none : front k core i b c q ≡ [] = front_free k core i c q not_around b in
-      let all : front k core i b c q ++ held_back k core i q ≡ sees q ∷ [] = ap (λ zs. zs ++ held_back k core i q) none ∙ one_held q in_o in
-      subst (λ zs. Leaves (i.thread_of q) (at.Trying u zs)) (sym all) (tries u (sees q ∷ []) alone (sees_it q there in_o))
+      let all : front k core i b c q ++ held_back k core i q ≡ held_back k core i q = ap (λ zs. zs ++ held_back k core i q) none in
+      subst (λ zs. Leaves (i.thread_of q) (at.Trying u zs)) (sym all) (tries u (held_back k core i q) alone (held_leaves q there in_o))
 
   super_state : (s : ℕ) → IsSuper k s → IsState k s
   super_state s super = ⊎_elim (λ lt. lt) (λ past. absurd (super (no_regions_past k s past))) (within_or_past s (length k.states))
@@ -281,24 +272,24 @@ module _ (k core : Table) (i : Images) (rows : CoreRows k core i) (layered : Lay
   by_stands q there in_o _ _ (left s ss e over_it) is = out
   by_stands q there in_o _ _ (trying s [] simple its) is =
       subst (λ zs. Leaves (i.thread_of q) (at.Trying (i.main_of s) (zs ++ held_back k core i q))) (sym (append-nil (front k core i false c q)))
-      (only_held q (i.main_of s) false there in_o (λ e. let wrong : at.Trying s [] ≡ at.Outside = sym is ∙ e in absurd cc) (layered.simple_alone s simple))
+      (only_held q (i.main_of s) false there in_o (λ e. let wrong : at.Trying s [] ≡ at.Outside = sym is ∙ e in absurd cc) (lone.simple_alone s simple))
   by_stands q there in_o _ _ (trying s (t ∷ tests) simple its) is = absurd (works_not q there in_o (at.Trying s (t ∷ tests)) is refl)
   by_stands q there in_o _ _ (acting s u p g effects lt) is = absurd (works_not q there in_o (at.Acting s (g ∷ effects) p) is refl)
   by_stands q there in_o _ _ (entering s fork t tests super its leads) is = absurd (works_not q there in_o (at.Entering s (t ∷ tests)) is refl)
   by_stands q there in_o _ _ (guarding s join t tests has_some its leads) is = absurd (works_not q there in_o (at.Guarding s (t ∷ tests)) is refl)
   by_stands q there in_o _ _ (staying s tests super its stay) is = absurd (never_stays q s in_o stay)
   by_stands q there in_o _ _ (within s join tests super its stays_not open_still leads) is =
-      fork_leaves k core i rows layered tree core_children children o has c d related corr (i.thread_of r) 3 first same o_there q s join in_o
+      fork_leaves k core i rows lone tree core_children children o has c d related corr (i.thread_of r) 3 first same o_there q s join in_o
       (subst (IsInside k core i s) (sym is) (open_inside tests)) super its
       stays_not open_still leads (continuation_leaves q s there in_o (super_state s super) its tests is)
   by_stands q there in_o _ _ (behind s tests super its over_it) is =
-      only_held q (i.behind_of s) true there in_o (λ e. let wrong : at.Within s tests ≡ at.Outside = sym is ∙ e in absurd cc) (layered.behind_alone s)
+      only_held q (i.behind_of s) true there in_o (λ e. let wrong : at.Within s tests ≡ at.Outside = sym is ∙ e in absurd cc) (lone.behind_alone s)
 
   pub idle_may_leave : standing_of first (i.watcher_of o) ≡ at.Ended → (t : ℕ) → Contains (around core t) (i.main_of o) → Leaves t (standing_of first t)
   idle_may_leave =
-      all_may_leave k core i rows layered tree core_children children o has c d related corr (i.thread_of r) 3 first same o_there
-      (λ u u_there some in_o. monitors.monitor_leaves k core i rows layered tree deep alone core_children children counts written_at counters opening
-      start_rows written_low strong_at c d related r o x flag held o_there open_tests stands idle first raised values same u u_there some in_o
+      all_may_leave k core i rows lone tree core_children children o has c d related corr (i.thread_of r) 3 first same o_there
+      (λ u u_there some in_o. monitors.monitor_leaves k core i rows lone tree deep alone core_children children counts written_at counters opening
+      start_rows written_low strong_at c d related r o x flag held early o_there open_tests stands idle first raised values same u u_there some in_o
       (standing_of c (holder k u)) (standing_of d (i.watcher_of u)) refl
       (related.watchers u u_there some))
       (λ q there in_o. by_stands q there in_o (standing_of c q) (standing_of d (i.thread_of q)) (related.regions q there) refl)

@@ -1,7 +1,7 @@
 -- What is inside of a superstate whose weak abort is taken sees the raised flag, and all strong flags around it are down.
-use Rattle.std.proofs.Common.{◌≡◌, ◌≢◌, ℕ, ◌+◌, ◌<◌, ◌≤◌, inl, inr, Bool, true, false, not, ◌&&◌, ◌||◌, Option, Some, None, List, [], map, ◌⊎◌}
+use Rattle.std.proofs.Common.{◌≡◌, ◌≢◌, ℕ, ◌+◌, ◌<◌, ◌≤◌, inl, inr, Bool, true, false, not, ◌&&◌, ◌||◌, ⊎_elim, Option, Some, None, List, [], map, ◌⊎◌}
 use Rattle.std.proofs.Common.{◌∷◌, ◌++◌, length, slice_get, Contains, refl, sym, ap, subst, ◌∙◌, arith, if◌then◌else◌}
-use Rattle.std.specs.Prelude.{reverse}
+use Rattle.std.specs.Prelude.{reverse, flat_map}
 use Rattle.std.specs.List.{list_all, list_any}
 use Rattle.std.proofs.lemmas.Bool.{or_parts}
 use Rattle.std.proofs.lemmas.List.{append_assoc}
@@ -22,7 +22,7 @@ use Rattle.abort_expansion.specs.Transitions.{is_raised, go, check, strong_check
 use Rattle.tick_laws.proofs.Lists.{map_contains}
 use Rattle.abort_expansion_laws.specs.Stages.{Correspondence, IsSilent}
 use Rattle.abort_expansion_laws.proofs.Supplying.{silent_test, tests}
-use Rattle.chart_machine_laws.proofs.LyingIn.{IsNested, around, holder, head_in, tail_in}
+use Rattle.chart_machine_laws.proofs.LyingIn.{IsNested, around, holder, none_in, head_or_tail, head_in, tail_in, around_around}
 use Rattle.abort_expansion_laws.proofs.TablesCorrespond.{IsThere}
 use Rattle.abort_expansion_laws.proofs.MoreValues.{lowered_verdict}
 use Rattle.abort_expansion_laws.proofs.FlagAccess.{raised_access}
@@ -34,25 +34,16 @@ use Rattle.abort_expansion_laws.proofs.StartingRegions.{CounterRows}
 use Rattle.abort_expansion_laws.proofs.Resets.{Apart}
 use Rattle.abort_expansion_laws.proofs.OpensFork.{OpeningRows}
 use Rattle.abort_expansion_laws.proofs.TickStarts.{StartRows}
-use Rattle.abort_expansion_laws.proofs.YetToLook.{in_reverse}
+use Rattle.abort_expansion_laws.proofs.YetToLook.{in_reverse, in_reversed}
 use Rattle.abort_expansion_laws.proofs.MayLeave.{LeavesBy, leads_out, fails_before, MayLeave, is_forked}
-use Rattle.abort_expansion_laws.proofs.InsideLeaves.{LayeredRows, one_checked}
+use Rattle.abort_expansion_laws.proofs.InsideLeaves.{AloneRows}
 use Rattle.abort_expansion_laws.proofs.WeakNotTaken.{IsWithin, within_back}
 use Rattle.abort_expansion_laws.proofs.InsideAround.{one_in_other}
 use Rattle.abort_expansion_laws.proofs.StandsInside.{inside_present}
+use Rattle.abort_expansion_laws.proofs.Fronts.{reversed}
+use Rattle.abort_expansion_laws.proofs.StageReached.{holds_other}
 
 -- ---- weak flags around
-
-none_there : (b : Bool) (place : ℕ) (o : Option ℕ) → is_there o ≡ false → check b place o ≡ []
-none_there b place None e = refl
-none_there b place (Some x) e = absurd cc
-
-no_weak_around : (b : Bool) (place : ℕ) (fs : List Flags) → weak_around fs ≡ false → weak_checks b place fs ≡ []
-no_weak_around b place [] e = refl
-no_weak_around b place (f ∷ fs) e =
-    let both = or_parts (is_there f.weak) (weak_around fs) e in
-    let own_none : check b place f.weak ≡ [] = none_there b place f.weak both.0 in
-    let rest : weak_checks b place fs ≡ [] = no_weak_around b place fs both.1 in rw (own_none, rest) refl
 
 none_around : (fs : List Flags) → aborts_around fs ≡ false → weak_around fs ≡ false
 none_around [] e = refl
@@ -101,7 +92,7 @@ module _ (k core : Table) (i : Images) (c : Configuration) where
       or_true true = refl
       or_true false = refl
 
-module _ (k core : Table) (i : Images) (rows : CoreRows k core i) (layered : LayeredRows k core i) (tree : IsNested k)
+module _ (k core : Table) (i : Images) (rows : CoreRows k core i) (lone : AloneRows k core i) (tree : IsNested k)
     (deep : (q s : ℕ) → Contains (around core q) s → holder core s < q) (alone : (v : ℕ) → (state_at core v).regions ≡ [] → inside core v ≡ [])
     (core_children : (s r : ℕ) → Contains (state_at core s).regions r → around core r ≡ s ∷ around core (holder core s))
     (children : (s r : ℕ) → Contains (state_at k s).regions r → around k r ≡ s ∷ around k (holder k s))
@@ -109,6 +100,7 @@ module _ (k core : Table) (i : Images) (rows : CoreRows k core i) (layered : Lay
     (start_rows : StartRows k core i rows) (written_low : (x : ℕ) → written_at x < 3)
     (strong_at : (s x : ℕ) → (i.flags_of s).strong ≡ Some x → written_at x ≡ 0)
     (c d : Configuration) (related : Related k core i c d) (r o x : ℕ) (flag : (i.flags_of o).weak ≡ Some x) (held : holder k o ≡ r)
+    (early : (s y : ℕ) → Contains (around k r) s → (i.flags_of s).weak ≡ Some y → written_at y ≡ 0)
     (o_there : IsState k o) (open_tests : List Transition) (stands : standing_of c r ≡ at.Within o open_tests)
     (idle : (q : ℕ) → IsThere k q → Contains (around k q) o → has_work k c (standing_of c q) ≡ false)
     (first : Configuration) (raised : verdict first.variables (Some (is_raised x)) ≡ Some true)
@@ -144,29 +136,18 @@ module _ (k core : Table) (i : Images) (rows : CoreRows k core i) (layered : Lay
   abbrev pub sees_at : ℕ → Transition
   sees_at place = go true (Some (is_raised x)) [] place
 
-  abbrev pub sees : ℕ → Transition
-  sees q = sees_at (i.places_of q).left
-
-  pub one_weak : (q place : ℕ) → Contains (around k q) o → weak_checks true place (flags_around k core i q) ≡ sees_at place ∷ []
-  one_weak q place in_o =
-      flat_map-map (λ f. check true place f.weak) i.flags_of (reverse (around k q))
-      ∙ (one_checked k tree (λ s. check true place (i.flags_of s).weak) (around k q) q o refl in_o
-      (λ s h differs. ap (check true place) (none s h differs)) ∙ ap (check true place) flag)
+  weak_among : (zs : List ℕ) → Contains zs o → weak_around (map i.flags_of zs) ≡ true
+  weak_among [] h = absurd (none_in o h)
+  weak_among (s ∷ zs) h =
+      ⊎_elim (λ same. let its : (i.flags_of s).weak ≡ Some x = ap (λ v. (i.flags_of v).weak) same ∙ flag in rw (its) refl)
+      (λ tail. or_second (is_there (i.flags_of s).weak) (weak_around (map i.flags_of zs)) (weak_among zs tail)) (head_or_tail s o zs h)
     where
-      none : (s : ℕ) → Contains (around k q) s → s ≢ o → (i.flags_of s).weak ≡ None
-      none s h differs = by_flag (i.flags_of s).weak refl
-        where
-          by_flag : (w : Option ℕ) → (i.flags_of s).weak ≡ w → (i.flags_of s).weak ≡ None
-          by_flag None e = e
-          by_flag (Some y) e = absurd (differs (layered.weak_once q o s in_o h has_some_weak (start_rows.weak_for s y e)))
-
-  pub one_held : (q : ℕ) → Contains (around k q) o → held_back k core i q ≡ sees q ∷ []
-  one_held q in_o = one_weak q (i.places_of q).left in_o
+      or_second : (p q : Bool) → q ≡ true → (p || q) ≡ true
+      or_second true q e = refl
+      or_second false q e = e
 
   pub weak_here : (q : ℕ) → Contains (around k q) o → weak_around (flags_around k core i q) ≡ true
-  weak_here q in_o =
-      not_false (weak_around (flags_around k core i q))
-      (λ e. let wrong : sees q ∷ [] ≡ [] = sym (one_held q in_o) ∙ no_weak_around true (i.places_of q).left (flags_around k core i q) e in absurd cc)
+  weak_here q in_o = weak_among (reverse (around k q)) (in_reversed (around k q) o in_o)
 
   pub aborts_here : (q : ℕ) → Contains (around k q) o → aborts_around (flags_around k core i q) ≡ true
   aborts_here q in_o =
@@ -198,10 +179,107 @@ module _ (k core : Table) (i : Images) (rows : CoreRows k core i) (layered : Lay
       (state_at core (state_in core (i.thread_of q) (i.places_of q).left)).entered ≡ to (i.thread_of q) at.Ended ∷ []
   ends_there q there in_o = (rows.region q there).left (aborts_here q in_o)
 
-  pub sees_it : (q : ℕ) → IsThere k q → Contains (around k q) o → LeavesTests q (sees q ∷ [])
-  sees_it q there in_o =
-      leads_out (sees q) [] raised refl (ends_there q there in_o) (Some (i.thread_of r, 3)) (inr (inl refl))
-      (looks_at q x in_o (rows.weak_added o x flag) (opening.flag_of o x (inr (inl flag))).0 (counters.weak_not o x flag))
+  -- who holds o is there, and so inside of all that is around it
+  inside_outer : (s : ℕ) → Contains (around k r) s → IsInside k core i s (standing_of c (holder k s))
+  inside_outer s outer = related.enclosed r s (present_there k core i c d related r present) present outer
+    where
+      present : standing_of c r ≢ at.Outside
+      present e = let wrong : at.Within o open_tests ≡ at.Outside = sym stands ∙ e in absurd cc
+
+  -- the weak flag of a superstate around o is down, and is looked at first: early, since that superstate has yet to test
+  module _ (t place : ℕ) (in_o : Contains (around core t) (i.main_of o))
+      (in_outer : (s : ℕ) → Contains (around k r) s → Contains (around core t) (i.main_of s)) where
+    outer_fails : (s y : ℕ) → Contains (around k r) s → (i.flags_of s).weak ≡ Some y → (rest : List Transition) → LeavesAt t rest →
+        LeavesAt t (go true (Some (is_raised y)) [] place ∷ rest)
+    outer_fails s y outer weak rest then_leaves =
+        fails_before (go true (Some (is_raised y)) [] place) rest low (Some (i.thread_of (holder k s), 1))
+        (inr (inr (inr (record {
+          superstate = i.main_of s;
+          around_home = in_fork r s outer;
+          is = ap (λ (h : ℕ). Some (h, 1)) (sym (rows.held s));
+        }))))
+        (subst (IsSilent corr t (Some (i.thread_of (holder k s), 1))) (sym (raised_access y))
+        (silent_test corr t (Some (i.thread_of (holder k s), 1)) y (rows.weak_added s y weak)
+        (inr (
+          inr (counters.weak_not s y weak, subst (λ v. Contains (around core t) (i.main_of v)) (sym owner_is) (in_outer s outer)),
+          (
+            1,
+            ap (λ (h : ℕ). Some (h, 1)) (sym (ap (λ v. holder core (i.main_of v)) owner_is ∙ rows.held s)),
+            (let zero_is = early s y outer weak in omega (zero_is, arith)),
+          ),
+        )))) then_leaves
+      where
+        owner_is : rows.of_flag y ≡ s
+        owner_is = (opening.flag_of s y (inr (inl weak))).0
+
+        differs : y ≢ x
+        differs e =
+            let owner : s ≡ o = sym owner_is ∙ (ap rows.of_flag e ∙ (opening.flag_of o x (inr (inl flag))).0) in
+            holds_other k tree r o (subst (Contains (around k r)) owner outer) held
+
+        low : verdict first.variables (Some (is_raised y)) ≡ Some false
+        low =
+            lowered_verdict y first.variables
+            (values y differs
+            ∙ subst (λ f. Stores k core i d.variables f 0) weak (related.flags s (start_rows.super_there r s outer) (inside_outer s outer)).weak)
+
+    all_fail : (zs : List ℕ) → ((s : ℕ) → Contains zs s → Contains (around k r) s) → (rest : List Transition) → LeavesAt t rest →
+        LeavesAt t (flat_map (λ s. check true place (i.flags_of s).weak) zs ++ rest)
+    all_fail [] outer rest then_leaves = then_leaves
+    all_fail (s ∷ zs) outer rest then_leaves =
+        subst (LeavesAt t)
+        (sym (append_assoc (check true place (i.flags_of s).weak) (flat_map (λ u. check true place (i.flags_of u).weak) zs) rest))
+        (by_flag (i.flags_of s).weak refl (flat_map (λ u. check true place (i.flags_of u).weak) zs ++ rest)
+        (all_fail zs (λ u h. outer u (tail_in s u zs h)) rest then_leaves))
+      where
+        by_flag : (f : Option ℕ) → (i.flags_of s).weak ≡ f → (others : List Transition) → LeavesAt t others → LeavesAt t (check true place f ++ others)
+        by_flag None e others leaves = leaves
+        by_flag (Some y) e others leaves = outer_fails s y (outer s (head_in s zs)) e others leaves
+
+    more_behind : (xs ys : List Transition) → LeavesAt t xs → LeavesAt t (xs ++ ys)
+    more_behind _ ys (leads_out w rest holds none ends staged within silent) = leads_out w (rest ++ ys) holds none ends staged within silent
+    more_behind _ ys (fails_before w rest fails staged within silent others) =
+        fails_before w (rest ++ ys) fails staged within silent (more_behind rest ys others)
+
+    module _ (ends_at : (state_at core (state_in core t place)).entered ≡ to t at.Ended ∷ []) where
+      own_leads : (rest : List Transition) → LeavesAt t (sees_at place ∷ rest)
+      own_leads rest =
+          leads_out (sees_at place) rest raised refl ends_at (Some (i.thread_of r, 3)) (inr (inl refl))
+          (looks_from t x in_o (rows.weak_added o x flag) (opening.flag_of o x (inr (inl flag))).0 (counters.weak_not o x flag))
+
+      each_leaves : (zs : List ℕ) (q : ℕ) → around k q ≡ zs → Contains zs o →
+          LeavesAt t (flat_map (λ s. check true place (i.flags_of s).weak) (reverse zs))
+      each_leaves [] q round h = absurd (none_in o h)
+      each_leaves (s ∷ zs) q round h =
+          subst (LeavesAt t) (sym (reversed (λ u. check true place (i.flags_of u).weak) s zs))
+          (⊎_elim (λ same. here same)
+          (λ tail.
+          more_behind (flat_map (λ u. check true place (i.flags_of u).weak) (reverse zs)) (check true place (i.flags_of s).weak ++ [])
+          (each_leaves zs (holder k s) (sym (tree.upward q s zs round)) tail)) (head_or_tail s o zs h))
+        where
+          here : s ≡ o →
+              LeavesAt t (flat_map (λ u. check true place (i.flags_of u).weak) (reverse zs) ++ (check true place (i.flags_of s).weak ++ []))
+          here same =
+              all_fail (reverse zs)
+              (λ u inner.
+              subst (λ ys. Contains ys u) (tree.upward q s zs round ∙ ap (λ v. around k (holder k v)) same ∙ ap (around k) held)
+              (in_reverse zs u inner)) (check true place (i.flags_of s).weak ++ [])
+              (subst (λ f. LeavesAt t (check true place f ++ [])) (sym (ap (λ v. (i.flags_of v).weak) same ∙ flag)) (own_leads []))
+
+      -- so the checks of all weak flags around lead out
+      pub checks_leave : (q : ℕ) → Contains (around k q) o → LeavesAt t (weak_checks true place (flags_around k core i q))
+      checks_leave q round =
+          subst (LeavesAt t) (sym (flat_map-map (λ f. check true place f.weak) i.flags_of (reverse (around k q))))
+          (each_leaves (around k q) q refl round)
+
+  -- what is around o is around whatever lies inside of it
+  pub outer_around : (q s : ℕ) → Contains (around k q) o → Contains (around k r) s → Contains (around k q) s
+  outer_around q s in_o outer = around_around k tree (around k q) q o s refl in_o (subst (λ p. Contains (around k p) s) (sym held) outer)
+
+  pub held_leaves : (q : ℕ) → IsThere k q → Contains (around k q) o → LeavesTests q (held_back k core i q)
+  held_leaves q there in_o =
+      checks_leave (i.thread_of q) (i.places_of q).left (in_fork q o in_o) (λ s outer. in_fork q s (outer_around q s in_o outer))
+      (ends_there q there in_o) q in_o
 
   -- ---- strong checks fail
 

@@ -38,7 +38,7 @@ use Rattle.abort_expansion_laws.proofs.OpensFork.{OpeningRows}
 use Rattle.abort_expansion_laws.proofs.TickStarts.{StartRows}
 use Rattle.abort_expansion_laws.proofs.LaterTicks.{weak_no_join}
 use Rattle.abort_expansion_laws.proofs.WeakNotTaken.{IsWithin, within_back, MonitorWaits}
-use Rattle.abort_expansion_laws.proofs.InsideLeaves.{LayeredRows}
+use Rattle.abort_expansion_laws.proofs.InsideLeaves.{AloneRows}
 use Rattle.abort_expansion_laws.proofs.SplitTests.{continuation_tests}
 use Rattle.abort_expansion_laws.proofs.WeakLeaves.{idle_may_leave}
 use Rattle.abort_expansion_laws.proofs.Answering.{AllFail, none_answered, answers_first}
@@ -61,19 +61,21 @@ none_any p (x ∷ xs) e =
     let both = both_true (not (p x)) (list_all (λ q. not (p q)) xs) e in
     let own_none : p x ≡ false = not_so (p x) both.0 in rw (own_none, none_any p xs both.1) refl
 
-module _ (k core : Table) (i : Images) (rows : CoreRows k core i) (more : LayeredRows k core i) (tree : IsNested k) (core_tree : IsNested core)
+module _ (k core : Table) (i : Images) (rows : CoreRows k core i) (more : AloneRows k core i) (tree : IsNested k) (core_tree : IsNested core)
     (deep : (q s : ℕ) → Contains (around core q) s → holder core s < q)
     (core_children : (s r : ℕ) → Contains (state_at core s).regions r → around core r ≡ s ∷ around core (holder core s))
     (children : (s r : ℕ) → Contains (state_at k s).regions r → around k r ≡ s ∷ around k (holder k s))
     (counts : ℕ → Bool) (written_at : ℕ → ℕ) (counters : CounterRows k core i rows counts written_at) (opening : OpeningRows k core i rows)
     (start_rows : StartRows k core i rows) (written_low : (x : ℕ) → written_at x < 3)
     (strong_at : (s x : ℕ) → (i.flags_of s).strong ≡ Some x → written_at x ≡ 0)
-    (weak_at : (s x : ℕ) → (i.flags_of s).weak ≡ Some x → written_at x ≡ 2) (alone : (v : ℕ) → (state_at core v).regions ≡ [] → inside core v ≡ [])
+    (alone : (v : ℕ) → (state_at core v).regions ≡ [] → inside core v ≡ [])
     (c d : Configuration) (related : Related k core i c d) (r o : ℕ) (o_there : IsState k o) (has : has_aborts (own k o) ≡ true) (t : Transition)
     (weak : is_weak t.kind ≡ true) (others : List Transition) (stands : standing_of c r ≡ at.Within o (t ∷ others))
     (monitor : MonitorWaits k core i o t others (standing_of d (i.watcher_of o)))
     (true_there : verdict c.variables t.trigger ≡ Some true)
-    (free : is_guarded k c (around k r) ≡ false) (done : inside_is_done k c (standing_of c r) ≡ true) where
+    (free : is_guarded k c (around k r) ≡ false) (done : inside_is_done k c (standing_of c r) ≡ true)
+    (weak_at : (x : ℕ) → (i.flags_of o).weak ≡ Some x → written_at x ≡ 2)
+    (early : (s y : ℕ) → Contains (around k r) s → (i.flags_of s).weak ≡ Some y → written_at y ≡ 0) where
   abbrev corr : Correspondence
   corr = pair k core i rows tree counts written_at
 
@@ -217,12 +219,12 @@ module _ (k core : Table) (i : Images) (rows : CoreRows k core i) (more : Layere
         is_int = (opening.flag_of o flag.0 (inr (inl flag.1))).1.0;
         of_flag = (opening.flag_of o flag.0 (inr (inl flag.1))).0;
         no_counter = counters.weak_not o flag.0 flag.1;
-        written = weak_at o flag.0 flag.1;
+        written = weak_at flag.0 flag.1;
         flags_differ = others_differ;
         leaves = λ first raised values same over.
             idle_may_leave k core i rows more tree deep alone core_children children counts written_at counters opening start_rows written_low strong_at c d
             related r o flag.0
-            flag.1 region.held o_there (t ∷ others) stands idle first raised values same free over;
+            flag.1 region.held early o_there (t ∷ others) stands idle first raised values same free over;
         around_down = around_down;
         earlier = answers (i.places_of r) (i.flags_of o).strong 1 (strong_aborts (own k o));
         aborts = weak_aborts (own k o);

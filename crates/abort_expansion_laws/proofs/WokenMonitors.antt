@@ -17,7 +17,7 @@ use Rattle.chart_machine_laws.specs.Tree.{IsNested, around, holder}
 use Rattle.abort_expansion_laws.specs.CoreRows.{own, IsState, Images, CoreRows, flags_around}
 use Rattle.abort_expansion_laws.specs.Related.{monitor_last}
 use Rattle.abort_expansion_laws.specs.Related.{raise_each, AreAmong, Watches, looks_strong, looks, elsewhere, LooksFirst, looks_never, looks_first}
-use Rattle.abort_expansion_laws.proofs.InsideLeaves.{LayeredRows}
+use Rattle.abort_expansion_laws.proofs.InsideLeaves.{AloneRows}
 use Rattle.abort_expansion_laws.proofs.Owed.{WatchRests, watch_within, watch_elsewhere}
 use Rattle.abort_expansion_laws.proofs.WokenConfigurations.{numbered_from, numbered_are, all_among, raising_is, each_kept, guards_then, open_then}
 use Rattle.abort_expansion_laws.proofs.TickStarts.{StartRows, some_kept}
@@ -35,7 +35,7 @@ second_of : (a b : Bool) → a ≡ false → (a || b) ≡ true → b ≡ true
 second_of true b e f = absurd cc
 second_of false b e f = f
 
-module _ (k core : Table) (i : Images) (rows : CoreRows k core i) (layered : LayeredRows k core i) (tree : IsNested k) (more_rows : StartRows k core i rows)
+module _ (k core : Table) (i : Images) (rows : CoreRows k core i) (lone : AloneRows k core i) (tree : IsNested k) (more_rows : StartRows k core i rows)
     (o : ℕ) (here : IsState k o) (has : has_aborts (own k o) ≡ true) where
   abbrev checks : List Transition
   checks = strong_checks false 1 (flags_around k core i (holder k o))

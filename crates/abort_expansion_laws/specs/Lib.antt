@@ -2,6 +2,7 @@ pub mod Flat
 pub mod Layered
 pub mod Ticks
 pub mod Preemption
+pub mod Apart
 pub mod Stages
 pub mod Expanded
 pub mod CoreRows

@@ -1,4 +1,4 @@
--- A configuration of a weakly layered chart within a tick, and that of its core chart which stands for it. The core's is given by the
+-- A configuration of a chart within a tick, and that of its core chart which stands for it. The core's is given by the
 -- chart's, but for monitors that have yet to look at strong flags around: weak checks and the count test of a monitor are always held
 -- back to the end of the tick, or to an abort.
 use Rattle.std.specs.Prelude.{◌≡◌, ◌≢◌, ℕ, suc, ◌+◌, ◌<◌, Bool, true, false, not, ◌&&◌, pos, Option, Some, None, List, [], ◌∷◌, ◌++◌, map, length, slice_get}

@@ -4,6 +4,7 @@
 //! state (`specs/CoreRows`) on, is listed in `proofs/Proved`.
 #![tactic(auto)]
 
+ghost use Rattle.abort_expansion_laws.specs.Apart.{ApartTicksAreKept};
 ghost use Rattle.abort_expansion_laws.specs.Laws.{ExpandedChartsHaveRows, StagesKeepOrder};
 ghost use Rattle.abort_expansion_laws.specs.Layered.{FlatChartsAreLayered};
 ghost use Rattle.abort_expansion_laws.specs.Preemption.{PreemptionIsKept};
@@ -35,6 +36,14 @@ pub fn expanded_charts_have_rows()
 /// are active. This function does nothing; its contract is the law.
 pub fn preemption_is_kept()
     ensures { PreemptionIsKept }
+{}
+
+/// In ticks in which of the superstates that are left by weak aborts none lies inside of another one, a chart that has
+/// a valid image is kept by its core chart, however aborts lie in others: each list of ends of the chart, to each of
+/// which such a run leads, has one of the core chart for the same inputs that is seen alike. This function does
+/// nothing; its contract is the law.
+pub fn apart_ticks_are_kept()
+    ensures { ApartTicksAreKept }
 {}
 
 /// Flat charts are layered: where no superstate with aborts lies inside another one with such, none does so with those

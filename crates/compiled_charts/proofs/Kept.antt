@@ -9,7 +9,7 @@ use Rattle.sc_values.specs.Runs.{Ends}
 use Rattle.sc_graph.specs.declared.control.Control.{Control}
 use Rattle.sc_graph.specs.Machine.{machine}
 use Rattle.sc_graph.specs.Program.{Program}
-use Rattle.sc_graph.specs.Tick.{Inputs, initial, start}
+use Rattle.sc_graph.specs.Tick.{Inputs, AreAccepted, initial, start}
 use Rattle.sc_graph.specs.Valid.{IsValid}
 use Rattle.core_charts.specs.declared.features.Features.TheVariants as features
 use Rattle.core_charts.specs.Chart.{Chart}
@@ -40,13 +40,15 @@ use Rattle.compiled_charts_laws.proofs.Ticks.{one_reaction}
 use Rattle.compiled_charts_laws.proofs.Told.{as_many_states, nodes_stand}
 use Rattle.abort_expansion_laws.specs.Layered.{IsWeaklyLayered}
 use Rattle.abort_expansion_laws.specs.Preemption.{HasImage}
+use Rattle.abort_expansion_laws.specs.Ticks.{AllOf}
 use Rattle.abort_expansion_laws.proofs.StepsByCase.{preemption_holds}
-use Rattle.reaction_laws.proofs.LayeredRanks.{reacts_in_one_way}
+use Rattle.reaction_laws.proofs.RanksOfCharts.{charts_react}
+use Rattle.reaction_laws.specs.Reacts.{ReactsInOneWay}
 use Rattle.compiled_charts.specs.Ticks.{AreTicks}
 use Rattle.compiled_charts.specs.Compiled.{CompiledChart}
 use Rattle.compiled_charts.specs.Kept.{AreSeenAlike, IsReactionSeen, Reacts, ShowsItsReaction}
 use Rattle.compiled_charts.proofs.ActiveStates.{same_numbers}
-use Rattle.compiled_charts.proofs.LayeredCharts.{layered_shown, layered_reacts, layered_only}
+use Rattle.compiled_charts.proofs.LayeredCharts.{layered_shown, chart_reacts, chart_only}
 
 -- ---- ticks
 
@@ -178,6 +180,19 @@ module _ (c : Chart) (image : Image) (is : IsImageOfChart c image) (kept : Keeps
     valid = is.image_of.valid;
   }
 
+  accepted : AllAccepted image.program ticks
+  accepted = (are_reaction image ticks (initial image.program) controls are).accepted
+
+  one_way : IsChart features.Extended c → (inputs : List Inputs) → AllOf (AreAccepted image.program) inputs → ReactsInOneWay c inputs
+  unfolding has_image
+  one_way rules inputs accepted = charts_react c rules has_image low inputs accepted
+
+  some_reaction : IsChart features.Extended c → (ends : List Configuration) × Reacts c ticks ends
+  some_reaction rules = chart_reacts c rules image.program (one_way rules) ticks accepted
+
+  in_one_way : IsChart features.Extended c → (ds es : List Configuration) → Reacts c ticks ds → Reacts c ticks es → ds ≡ es
+  in_one_way rules ds es first second = chart_only c rules image.program (one_way rules) ticks accepted ds es first second
+
   layered_seen : IsChart features.Extended c → IsWeaklyLayered c → IsReactionSeen c (stands_for c) (state_count c) ticks controls
   unfolding has_image
   layered_seen rules layered =
@@ -185,14 +200,8 @@ module _ (c : Chart) (image : Image) (is : IsImageOfChart c image) (kept : Keeps
       record {
         each = layered_shown c rules image.program (preemption_holds c rules is.lowers.core layered has_image) ticks controls r.accepted
             (λ ends reacts. (one (state_of_node core) own).each ticks ends controls r.accepted reacts r.reacts);
-        some = layered_reacts c rules image.program (reacts_in_one_way c rules layered has_image low) ticks r.accepted;
+        some = some_reaction rules;
       }
-
-  layered_in_one_way : IsChart features.Extended c → IsWeaklyLayered c → (ds es : List Configuration) → Reacts c ticks ds → Reacts c ticks es → ds ≡ es
-  unfolding has_image
-  layered_in_one_way rules layered ds es first second =
-      let r : AreReaction image ticks (initial image.program) controls = are_reaction image ticks (initial image.program) controls are in
-      layered_only c rules image.program (reacts_in_one_way c rules layered has_image low) ticks r.accepted ds es first second
 
 pub shows_its_reaction : (x : CompiledChart) (ticks : List Inputs) (controls : List Control) → AreTicks x.image ticks (initial x.image.program) controls →
     ShowsItsReaction x ticks controls
@@ -206,7 +215,8 @@ shows_its_reaction x ticks controls are c is = ∥∥₁_map is.image.lowers.rul
       subst (λ nodes. IsReactionSeen c nodes x.states ticks controls) (sym is.nodes)
       (subst (λ states. IsReactionSeen c (stands_for c) states ticks controls) (sym is.states)
       (layered_seen c x.image is.image kept ticks controls are is.rules layered));
-  only = λ layered ds es first second. layered_in_one_way c x.image is.image kept ticks controls are is.rules layered ds es first second;
+  reacts = some_reaction c x.image is.image kept ticks controls are is.rules;
+  only = λ ds es first second. in_one_way c x.image is.image kept ticks controls are is.rules ds es first second;
 })
 
 -- ticks that were run show it

@@ -1,4 +1,4 @@
--- What shows the reaction of the core chart of a weakly layered chart shows the reaction of the chart, which has one and no other.
+-- A chart has one reaction and no other; and what shows the reaction of the core chart of a weakly layered chart shows that of the chart.
 use Rattle.std.proofs.Common.{ℕ, ◌≡◌, ◌<◌, true, Some, List, [], ◌∷◌, length, take, sym, ap, subst, ◌∙◌}
 use Rattle.sc_graph.specs.declared.control.Control.{Control}
 use Rattle.sc_graph.specs.Program.{Program}
@@ -107,10 +107,10 @@ module _ (c : Chart) (rules : IsChart features.Extended c) where
     one : ReactsInOneWay c ticks
     one = has ticks (all_of q ticks accepted)
 
-    pub layered_reacts : (ends : List Configuration) × Reacts c ticks ends
-    layered_reacts = (one.ends, back (chart_machine c) ticks (chart.initial (table c)) one.ends one.reacts)
+    pub chart_reacts : (ends : List Configuration) × Reacts c ticks ends
+    chart_reacts = (one.ends, back (chart_machine c) ticks (chart.initial (table c)) one.ends one.reacts)
 
-    pub layered_only : (ds es : List Configuration) → Reacts c ticks ds → Reacts c ticks es → ds ≡ es
-    layered_only ds es first second =
+    pub chart_only : (ds es : List Configuration) → Reacts c ticks ds → Reacts c ticks es → ds ≡ es
+    chart_only ds es first second =
         one.only ds (there (chart_machine c) ticks (chart.initial (table c)) ds first)
         ∙ sym (one.only es (there (chart_machine c) ticks (chart.initial (table c)) es second))

@@ -37,13 +37,14 @@ pub record IsReactionSeen (c : Chart) (nodes : List (Option ℕ)) (states : ℕ)
   pub each : IsEachSeen c nodes states ticks controls
   pub some : (ends : List Configuration) × Reacts c ticks ends
 
--- the core chart's reaction is seen in these configurations, and so is that of the chart, where it has no aborts or is weakly layered. In the second
--- case it is the only one
+-- the core chart's reaction is seen in these configurations, and so is that of the chart, where it has no aborts or is weakly layered. Whichever chart
+-- it is, it has a reaction, and no other one
 pub record ShowsReaction (c : Chart) (x : CompiledChart) (ticks : List Inputs) (controls : List Control) : Type 0 where
   pub core : IsReactionSeen (expanded c) (state_of_node (expanded c)) (length (table (expanded c)).states) ticks controls
   pub without_aborts : chart_has_aborts c ≡ false → IsReactionSeen c x.nodes x.states ticks controls
   pub weakly_layered : IsWeaklyLayered c → IsReactionSeen c x.nodes x.states ticks controls
-  pub only : IsWeaklyLayered c → (ds es : List Configuration) → Reacts c ticks ds → Reacts c ticks es → ds ≡ es
+  pub reacts : (ends : List Configuration) × Reacts c ticks ends
+  pub only : (ds es : List Configuration) → Reacts c ticks ds → Reacts c ticks es → ds ≡ es
 
 -- of whichever chart this was compiled
 abbrev pub ShowsItsReaction : CompiledChart → List Inputs → List Control → Type 0

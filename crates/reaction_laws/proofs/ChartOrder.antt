@@ -1,4 +1,4 @@
--- Of two concurrent steps of a layered chart the one whose thread in the core chart is at a node of no smaller priority may come first.
+-- Of two concurrent steps of a chart the one whose thread in the core chart is at a node of no smaller priority may come first.
 use Rattle.std.proofs.Common.{◌≡◌, ℕ, ◌≤◌, true, sym, ap, subst, subst₂}
 use Rattle.sc_values.specs.Access.{no_access, MayPrecede}
 use Rattle.sc_graph.specs.declared.control.Control.{Control}

@@ -38,12 +38,11 @@ use Rattle.compiled_charts_laws.proofs.AtJoins as at_joins
 use Rattle.compiled_charts_laws.proofs.Stands.{stand_alike}
 use Rattle.compiled_charts_laws.proofs.TickStarts as tick_starts
 use Rattle.abort_expansion_laws.specs.CoreRows.{own, IsState, Images, CoreRows}
-use Rattle.abort_expansion_laws.specs.Layered.{IsWeaklyLayered}
 use Rattle.abort_expansion_laws.proofs.BesideMonitors.{LiesBeside, a_region, a_monitor, lies_beside, beside_apart, check_below}
 use Rattle.abort_expansion_laws.proofs.ChecksNext.{SeesIt, region_next, monitor_next}
 use Rattle.abort_expansion_laws.proofs.FlagAccess.{raised_access}
-use Rattle.abort_expansion_laws.proofs.InsideLeaves.{LayeredRows}
-use Rattle.abort_expansion_laws.proofs.LayeredChartRows.{layered_rows}
+use Rattle.abort_expansion_laws.proofs.InsideLeaves.{AloneRows}
+use Rattle.abort_expansion_laws.proofs.TickRows.{alone_rows}
 use Rattle.abort_expansion_laws.proofs.MonitorsReady.{AllReady}
 use Rattle.abort_expansion_laws.proofs.RowsOfCharts as whole
 use Rattle.abort_expansion_laws.proofs.SeesFirst.{out, over, checks, forks}
@@ -56,7 +55,7 @@ use Rattle.reaction_laws.proofs.TestsThere.{IsTest, tests_there}
 reads_flag : (x : ℕ) → access_of_trigger (Some (is_raised x)) ≢ no_access
 reads_flag x none = let wrong : x ∷ [] ≡ [] = ap (λ a. a.reads) (sym (raised_access x) ∙ none) in absurd cc
 
-module _ (c : Chart) (rules : IsChart features.Extended c) (core_rules : IsChart features.Core (expanded c)) (layered : IsWeaklyLayered c) (p : Scl)
+module _ (c : Chart) (rules : IsChart features.Extended c) (core_rules : IsChart features.Core (expanded c)) (p : Scl)
     (q : Tables) (low : IsLowering (expanded c) p) (valid : IsValid (program_of (numbered p)) q) (now d : Configuration) (m : Control)
     (all : AllAt c rules core_rules p q low valid now d m) (alike : Alike (expanded c) p d m) where
   abbrev k : Table
@@ -71,8 +70,8 @@ module _ (c : Chart) (rules : IsChart features.Extended c) (core_rules : IsChart
   abbrev rows : CoreRows k core i
   rows = whole.rows_of_chart c rules core_rules
 
-  abbrev more : LayeredRows k core i
-  more = layered_rows c rules core_rules layered
+  abbrev more : AloneRows k core i
+  more = alone_rows c rules core_rules
 
   abbrev tree : IsNested k
   tree = (whole.tree c rules core_rules).nested

@@ -1,4 +1,4 @@
--- Each step of a layered chart that reads or writes is one that a thread of its core chart may take now: that of its region, or a monitor.
+-- Each step of a chart that reads or writes is one that a thread of its core chart may take now: that of its region, or a monitor.
 use Rattle.std.proofs.Common.{◌≡◌, ℕ, Bool, true, false, not, if◌then◌else◌, ◌&&◌, None, List, [], ◌∷◌, ◌++◌}
 use Rattle.std.proofs.Common.{map, Contains, refl, sym, ap, subst}
 use Rattle.std.proofs.lemmas.Bool.{cases_Bool}

@@ -1,6 +1,6 @@
--- Where a core chart goes along with its layered chart, its graph comes along, to where the threads are at their nodes and monitors quiet; and who
+-- Where a core chart goes along with its chart, its graph comes along, to where the threads are at their nodes and monitors quiet; and who
 -- leaves its superstate there leaves its join.
-use Rattle.std.proofs.Common.{◌≡◌, ℕ, true, Some, List, [], ◌∷◌, ◌++◌, Contains, refl, ap, subst, ◌∙◌}
+use Rattle.std.proofs.Common.{◌≡◌, ℕ, true, Some, List, ◌++◌, Contains, ◌∙◌}
 use Rattle.sc_values.specs.Runs.{replay}
 use Rattle.sc_graph.specs.declared.control.Control.{Control}
 use Rattle.sc_graph.specs.declared.control.Status.TheVariants as status
@@ -27,23 +27,15 @@ use Rattle.chart_lowering_laws.specs.Laws.{IsLowering}
 use Rattle.compiled_charts_laws.proofs.LateTests.{is_late}
 use Rattle.abort_expansion_laws.specs.CoreRows.{Images}
 use Rattle.abort_expansion_laws.specs.Related.{Related}
-use Rattle.abort_expansion_laws.specs.Segments.{threads, Follows}
-use Rattle.abort_expansion_laws.specs.Stages.{Entry, Correspondence}
-use Rattle.abort_expansion_laws.proofs.PreemptionKept.{ToldHere}
 use Rattle.abort_expansion_laws.proofs.OwnTests.{OwnTests}
 use Rattle.abort_expansion_laws.proofs.QuietBegins.{LoweredTests}
 use Rattle.abort_expansion_laws.proofs.TickFollowed as ticks
 use Rattle.reaction_laws.specs.StepNodes.{Alike}
 use Rattle.reaction_laws.proofs.ChartOrder.{AllAt}
-use Rattle.reaction_laws.proofs.LayeredRuns.{replay_behind}
 use Rattle.reaction_laws.proofs.GraphRuns.{GoesToNodes, goes_to_nodes, comes_own}
 use Rattle.reaction_laws.proofs.MonitorsLow.{lowered, MonitorsQuiet}
 use Rattle.reaction_laws.proofs.QuietRuns.{steps_keep, coming_keeps}
 use Rattle.abort_expansion_laws.proofs.MonitorsReady.{IsReady}
-
-all_of : (xs : List ℕ) → xs ≡ xs ++ []
-all_of [] = refl
-all_of (x ∷ xs) = ap (λ ys. x ∷ ys) (all_of xs)
 
 module _ (c : Chart) (rules : IsChart features.Extended c) (core_rules : IsChart features.Core (expanded c)) (p : Scl) (q : Tables)
     (low : IsLowering (expanded c) p) (valid : IsValid (program_of (numbered p)) q)
@@ -59,27 +51,20 @@ module _ (c : Chart) (rules : IsChart features.Extended c) (core_rules : IsChart
   abbrev i : Images
   i = ticks.i c rules core_rules
 
-  abbrev corr : Correspondence
-  corr = ticks.corr c rules core_rules
-
   abbrev G : Program
   G = program_of (numbered p)
-
-  abbrev Told : Configuration → Entry → Type 0
-  Told = ToldHere c rules core_rules
 
   abbrev Quiet : Configuration → Control → Type 0
   Quiet = MonitorsQuiet c rules core_rules p q low valid lowered_tests earlier
 
   -- ---- the graph comes along with the core chart
 
-  module _ (now d e : Configuration) (m : Control) (alike : Alike (expanded c) p d m) (quiet : Quiet d m) (log : List Entry)
-      (follows : Follows (machine core) corr Told d log e) (related : Related k core i now e)
+  module _ (now d e : Configuration) (m : Control) (alike : Alike (expanded c) p d m) (quiet : Quiet d m) (steps : List ℕ)
+      (runs : replay (machine core) steps d ≡ Some e) (related : Related k core i now e)
       (ready : (o : ℕ) → IsReady k core i now e o) (owns : OwnTests k now) where
     there : GoesToNodes (expanded c) p q low valid Quiet (steps_keep c rules core_rules p q low valid lowered_tests earlier) e m
     there =
-        goes_to_nodes (expanded c) p q low valid Quiet (steps_keep c rules core_rules p q low valid lowered_tests earlier) (threads corr log ++ []) d e m
-        alike quiet (replay_behind (machine core) corr Told log d e [] follows)
+        goes_to_nodes (expanded c) p q low valid Quiet (steps_keep c rules core_rules p q low valid lowered_tests earlier) steps d e m alike quiet runs
 
     pub graph_run : List ℕ
     graph_run = there.between.run ++ there.come.nodes.run
@@ -113,9 +98,9 @@ module _ (c : Chart) (rules : IsChart features.Extended c) (core_rules : IsChart
     unfolding graph_next
     quiet_there = coming_keeps c rules core_rules p q low valid lowered_tests earlier e there.between.last there.come there.between.holds
 
-    -- a thread of the log that waits at a join has stepped
-    pub own_there : (t j : ℕ) → status_of m t ≡ status.Waiting j → Contains (threads corr log) t → Contains graph_run t
+    -- a thread of that run that waits at a join has stepped
+    pub own_there : (t j : ℕ) → status_of m t ≡ status.Waiting j → Contains steps t → Contains graph_run t
     unfolding graph_run there
     own_there t j waits has =
-        comes_own (expanded c) p q low valid Quiet (steps_keep c rules core_rules p q low valid lowered_tests earlier) t j (threads corr log ++ []) d e m
-        alike quiet (replay_behind (machine core) corr Told log d e [] follows) waits (subst (λ ts. Contains ts t) (all_of (threads corr log)) has)
+        comes_own (expanded c) p q low valid Quiet (steps_keep c rules core_rules p q low valid lowered_tests earlier) t j steps d e m alike quiet runs
+        waits has

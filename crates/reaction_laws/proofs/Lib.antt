@@ -18,7 +18,10 @@ pub mod CappedRanks
 pub mod SilentTests
 pub mod CoreRuns
 pub mod RunsComplete
-pub mod LayeredRuns
+pub mod OwnSteps
+pub mod StepRuns
+pub mod CoreCompletes
+pub mod ChartRuns
 pub mod SeenInGraph
 pub mod RanksReact
 pub mod OneReaction
@@ -40,7 +43,6 @@ pub mod StillWaits
 pub mod NextLow
 pub mod IdleInside
 pub mod OpenedThreads
-pub mod OwnSteps
 pub mod StepLow
 pub mod GuardsLow
 pub mod TestsThere
@@ -51,5 +53,6 @@ pub mod QuietRuns
 pub mod GraphComes
 pub mod NextCapped
 pub mod QuietStarts
+pub mod RanksOfCharts
 pub mod LayeredRanks
 pub mod Proved

@@ -40,7 +40,6 @@ use Rattle.chart_machine_laws.specs.Tree.{IsThere}
 use Rattle.compiled_charts_laws.proofs.LateTests.{is_late}
 use Rattle.compiled_charts_laws.proofs.Stands.{stand_alike}
 use Rattle.abort_expansion_laws.specs.CoreRows.{own, IsState, Images, CoreRows}
-use Rattle.abort_expansion_laws.specs.Layered.{IsWeaklyLayered}
 use Rattle.abort_expansion_laws.specs.Related.{monitor_last}
 use Rattle.abort_expansion_laws.specs.Related.{raises, raise_each}
 use Rattle.abort_expansion_laws.proofs.ChecksUpTo.{strong_around}
@@ -103,122 +102,122 @@ module _ (c : Chart) (rules : IsChart features.Extended c) (core_rules : IsChart
 
     module _ (now d : Configuration) (m : Control) (all : AllAt c rules core_rules p q low valid now d m) (alike : Alike (expanded c) p d m)
         (quiet : MonitorsQuiet d m) (t : ℕ) (on : is_enabled k now t ≡ true)
-        (layered : IsWeaklyLayered c) where
-      module _ (o : ℕ) (test : Transition) (tests : List Transition) (e : Expr) (guards : standing_of now t ≡ at.Guarding o (test ∷ tests))
-          (triggered : test.trigger ≡ Some e) where
-        there : IsThere k t
-        there =
-            present_there k core i now d all.related t
-            (λ out. let wrong : at.Outside ≡ at.Guarding o (test ∷ tests) = sym out ∙ guards in absurd cc)
+      where
+        module _ (o : ℕ) (test : Transition) (tests : List Transition) (e : Expr) (guards : standing_of now t ≡ at.Guarding o (test ∷ tests))
+            (triggered : test.trigger ≡ Some e) where
+          there : IsThere k t
+          there =
+              present_there k core i now d all.related t
+              (λ out. let wrong : at.Outside ≡ at.Guarding o (test ∷ tests) = sym out ∙ guards in absurd cc)
 
-        b : StandsGuarding k core i t o (standing_of d (i.thread_of t))
-        b = guarding_back k core i now t (standing_of now t) (standing_of d (i.thread_of t)) (all.related.regions t there) o (test ∷ tests) guards
+          b : StandsGuarding k core i t o (standing_of d (i.thread_of t))
+          b = guarding_back k core i now t (standing_of now t) (standing_of d (i.thread_of t)) (all.related.regions t there) o (test ∷ tests) guards
 
-        o_there : IsState k o
-        o_there = state_with_aborts k o b.has
+          o_there : IsState k o
+          o_there = state_with_aborts k o b.has
 
-        both : (has_work k now (standing_of now t) ≡ true)
-            × ((not (is_guarded k now (around k t)) && inside_is_done k now (standing_of now t)) ≡ true)
-        both = both_true (has_work k now (standing_of now t)) (not (is_guarded k now (around k t)) && inside_is_done k now (standing_of now t)) on
+          both : (has_work k now (standing_of now t) ≡ true)
+              × ((not (is_guarded k now (around k t)) && inside_is_done k now (standing_of now t)) ≡ true)
+          both = both_true (has_work k now (standing_of now t)) (not (is_guarded k now (around k t)) && inside_is_done k now (standing_of now t)) on
 
-        free : is_guarded k now (around k t) ≡ false
-        free = not_so (is_guarded k now (around k t)) (both_true (not (is_guarded k now (around k t))) (inside_is_done k now (standing_of now t)) both.1).0
+          free : is_guarded k now (around k t) ≡ false
+          free = not_so (is_guarded k now (around k t)) (both_true (not (is_guarded k now (around k t))) (inside_is_done k now (standing_of now t)) both.1).0
 
-        monitor : MonitorGuards k core i o test tests (standing_of d (i.watcher_of o))
-        monitor =
-            looked_strong k core i o (standing_of now (holder k o)) (standing_of d (i.watcher_of o))
-            ((all.ready o).looked o_there b.has (subst (λ p. is_guarded k now (around k p) ≡ false) (sym b.held) free)) test
-            tests (ap (standing_of now) b.held ∙ guards)
+          monitor : MonitorGuards k core i o test tests (standing_of d (i.watcher_of o))
+          monitor =
+              looked_strong k core i o (standing_of now (holder k o)) (standing_of d (i.watcher_of o))
+              ((all.ready o).looked o_there b.has (subst (λ p. is_guarded k now (around k p) ≡ false) (sym b.held) free)) test
+              tests (ap (standing_of now) b.held ∙ guards)
 
-        flag : (x : ℕ) × ((i.flags_of o).strong ≡ Some x)
-        flag = rows.strong_there o monitor.number test o_there monitor.first
+          flag : (x : ℕ) × ((i.flags_of o).strong ≡ Some x)
+          flag = rows.strong_there o monitor.number test o_there monitor.first
 
-        abbrev first_test : Transition
-        first_test = raises (λ z. false) flag.0 (monitor.number, test)
+          abbrev first_test : Transition
+          first_test = raises (λ z. false) flag.0 (monitor.number, test)
 
-        abbrev other_tests : List Transition
-        other_tests =
-            map (raises (λ z. false) flag.0) monitor.others
-            ++ (raising (λ z. z.immediate) 1 (i.flags_of o).weak 1 (weak_aborts (own k o)) ++ monitor_last k core i o)
+          abbrev other_tests : List Transition
+          other_tests =
+              map (raises (λ z. false) flag.0) monitor.others
+              ++ (raising (λ z. z.immediate) 1 (i.flags_of o).weak 1 (weak_aborts (own k o)) ++ monitor_last k core i o)
 
-        core_stands : standing_of d (i.watcher_of o) ≡ at.Trying (i.watching_of o) (first_test ∷ other_tests)
-        core_stands =
-            monitor.is
-            ∙ ap (λ f. at.Trying (i.watching_of o) (raise_each (λ z. false) f ((monitor.number, test) ∷ monitor.others)
-            ++ (raising (λ z. z.immediate) 1 (i.flags_of o).weak 1 (weak_aborts (own k o)) ++ monitor_last k core i o))) flag.1
+          core_stands : standing_of d (i.watcher_of o) ≡ at.Trying (i.watching_of o) (first_test ∷ other_tests)
+          core_stands =
+              monitor.is
+              ∙ ap (λ f. at.Trying (i.watching_of o) (raise_each (λ z. false) f ((monitor.number, test) ∷ monitor.others)
+              ++ (raising (λ z. z.immediate) 1 (i.flags_of o).weak 1 (weak_aborts (own k o)) ++ monitor_last k core i o))) flag.1
 
-        raise : LeadsToEffect G m (i.watcher_of o) (put flag.0 (suc monitor.number))
-        raise =
-            all.firsts (i.watcher_of o) (i.watching_of o) first_test other_tests e (put flag.0 (suc monitor.number)) [] core_stands triggered refl
+          raise : LeadsToEffect G m (i.watcher_of o) (put flag.0 (suc monitor.number))
+          raise =
+              all.firsts (i.watcher_of o) (i.watching_of o) first_test other_tests e (put flag.0 (suc monitor.number)) [] core_stands triggered refl
 
-        raises_it : Raises o raise.taken
-        raises_it =
-            record {
-              owned = raise.owned;
-              flag = flag.0;
-              is_flag = flag.1;
-              inits = (
-                Some (value_is.Int (pos (suc monitor.number))),
-                ap (λ z. z.writes) (raise.does ∙ put_access flag.0 (suc monitor.number)),
-              );
-            }
+          raises_it : Raises o raise.taken
+          raises_it =
+              record {
+                owned = raise.owned;
+                flag = flag.0;
+                is_flag = flag.1;
+                inits = (
+                  Some (value_is.Int (pos (suc monitor.number))),
+                  ap (λ z. z.writes) (raise.does ∙ put_access flag.0 (suc monitor.number)),
+                );
+              }
 
-        stays : Stays o raise.taken m
-        stays = quiet o o_there b.has (ap is_late core_stands) raise.taken raises_it
+          stays : Stays o raise.taken m
+          stays = quiet o o_there b.has (ap is_late core_stands) raise.taken raises_it
 
-        abbrev IsLower : ℕ → Type 0
-        IsLower u = priority_of q (status_of m u) < priority q raise.taken
+          abbrev IsLower : ℕ → Type 0
+          IsLower u = priority_of q (status_of m u) < priority q raise.taken
 
-        -- who is below the node soon is so, since nobody resumes, and whoever is at a test is at its check of the flag
-        by_soon : (child u : ℕ) → parent_of G child ≡ Some (i.thread_of (holder k o)) → child ≢ i.watcher_of o → Below G u child → Enabled G m u →
-            (many n : ℕ) → SoonLow G q (priority q raise.taken) many n → StandsAt (status_of m u) n → IsLower u
-        by_soon child u up ne under on_u _ _ (soon_low many n lt) there =
-            subst (λ z. z < priority q raise.taken) (sym (at_priority q (status_of m u) n there)) lt
-        by_soon child u up ne under on_u _ _ (soon_resumed many n to found soon) there =
-            absurd (no_resume G (valid_formed G q valid) m u n to (all.resumed u) on_u there found)
-        by_soon child u up ne under on_u _ _ (soon_tested many n on_true on_false code found first second) there =
-            subst (λ z. z < priority q raise.taken) (sym (at_priority q (status_of m u) n there))
-            (test_below c rules core_rules layered p q low valid now d m all alike o raises_it.flag raise.taken o_there b.has (test ∷ tests)
-            (ap (standing_of now) b.held ∙ guards) (subst (λ r. is_guarded k now (around k r) ≡ false) (sym b.held) free) raises_it.is_flag
-            raise.owned raises_it.inits
-            u child up ne under n
-            (at_test G (valid_formed G q valid) m u n (node_step.Cond code on_true on_false) tt on_u there found)
-            (node_step.Cond code on_true on_false) tt found)
+          -- who is below the node soon is so, since nobody resumes, and whoever is at a test is at its check of the flag
+          by_soon : (child u : ℕ) → parent_of G child ≡ Some (i.thread_of (holder k o)) → child ≢ i.watcher_of o → Below G u child → Enabled G m u →
+              (many n : ℕ) → SoonLow G q (priority q raise.taken) many n → StandsAt (status_of m u) n → IsLower u
+          by_soon child u up ne under on_u _ _ (soon_low many n lt) there =
+              subst (λ z. z < priority q raise.taken) (sym (at_priority q (status_of m u) n there)) lt
+          by_soon child u up ne under on_u _ _ (soon_resumed many n to found soon) there =
+              absurd (no_resume G (valid_formed G q valid) m u n to (all.resumed u) on_u there found)
+          by_soon child u up ne under on_u _ _ (soon_tested many n on_true on_false code found first second) there =
+              subst (λ z. z < priority q raise.taken) (sym (at_priority q (status_of m u) n there))
+              (test_below c rules core_rules p q low valid now d m all alike o raises_it.flag raise.taken o_there b.has (test ∷ tests)
+              (ap (standing_of now) b.held ∙ guards) (subst (λ r. is_guarded k now (around k r) ≡ false) (sym b.held) free) raises_it.is_flag
+              raise.owned raises_it.inits
+              u child up ne under n
+              (at_test G (valid_formed G q valid) m u n (node_step.Cond code on_true on_false) tt on_u there found)
+              (node_step.Cond code on_true on_false) tt found)
 
-        beside : BesideLow G q valid m alike.is_configuration (i.thread_of t) (i.watcher_of o)
-        beside child u parent ne under on_u =
-            less_then (priority_of q (status_of m u)) (priority q raise.taken) (priority_of q (status_of m (i.watcher_of o)))
-            (⊎_elim (λ lower. lower) (λ soon. by_soon child u up ne under (enabled_view G m u on_u) (strong_around k o) soon.0 soon.2 soon.1)
-            (stays.low u (child, (up, ne), under) (enabled_view G m u on_u)))
-            (taken_lower G q valid m (i.watcher_of o) (put flag.0 (suc monitor.number)) raise)
+          beside : BesideLow G q valid m alike.is_configuration (i.thread_of t) (i.watcher_of o)
+          beside child u parent ne under on_u =
+              less_then (priority_of q (status_of m u)) (priority q raise.taken) (priority_of q (status_of m (i.watcher_of o)))
+              (⊎_elim (λ lower. lower) (λ soon. by_soon child u up ne under (enabled_view G m u on_u) (strong_around k o) soon.0 soon.2 soon.1)
+              (stays.low u (child, (up, ne), under) (enabled_view G m u on_u)))
+              (taken_lower G q valid m (i.watcher_of o) (put flag.0 (suc monitor.number)) raise)
+            where
+              up : parent_of G child ≡ Some (i.thread_of (holder k o))
+              up = parent ∙ ap (λ h. Some (i.thread_of h)) (sym b.held)
+
+          guarding_low : access_of (standing_of now t) ≢ no_access → LowAhead G q (step_priority c rules core_rules p q low valid now m t) (i.thread_of t) m
+          guarding_low some = guard_low c rules core_rules p q low valid now d m all alike t o (test ∷ tests) on guards some beside
+
+        -- so the lines of regions that guard are as low as their monitors
+        pub guards_low : IsGuarding (standing_of now t) → access_of (standing_of now t) ≢ no_access →
+            LowAhead G q (step_priority c rules core_rules p q low valid now m t) (i.thread_of t) m
+        guards_low guarding some = by (standing_of now t) refl guarding
           where
-            up : parent_of G child ≡ Some (i.thread_of (holder k o))
-            up = parent ∙ ap (λ h. Some (i.thread_of h)) (sym b.held)
+            none : (x : Standing) → standing_of now t ≡ x → access_of x ≡ no_access → ⊥
+            none x is idle = some (ap access_of is ∙ idle)
 
-        guarding_low : access_of (standing_of now t) ≢ no_access → LowAhead G q (step_priority c rules core_rules p q low valid now m t) (i.thread_of t) m
-        guarding_low some = guard_low c rules core_rules p q low valid now d m all alike t o (test ∷ tests) on guards some beside
+            by_trigger : (o : ℕ) (test : Transition) (tests : List Transition) (trigger : Option Expr) → test.trigger ≡ trigger →
+                standing_of now t ≡ at.Guarding o (test ∷ tests) →
+                LowAhead G q (step_priority c rules core_rules p q low valid now m t) (i.thread_of t) m
+            by_trigger o test tests None untriggered is = absurd (none (at.Guarding o (test ∷ tests)) is (ap access_of_trigger untriggered))
+            by_trigger o test tests (Some e) triggered is = guarding_low o test tests e is triggered some
 
-      -- so the lines of regions that guard are as low as their monitors
-      pub guards_low : IsGuarding (standing_of now t) → access_of (standing_of now t) ≢ no_access →
-          LowAhead G q (step_priority c rules core_rules p q low valid now m t) (i.thread_of t) m
-      guards_low guarding some = by (standing_of now t) refl guarding
-        where
-          none : (x : Standing) → standing_of now t ≡ x → access_of x ≡ no_access → ⊥
-          none x is idle = some (ap access_of is ∙ idle)
-
-          by_trigger : (o : ℕ) (test : Transition) (tests : List Transition) (trigger : Option Expr) → test.trigger ≡ trigger →
-              standing_of now t ≡ at.Guarding o (test ∷ tests) →
-              LowAhead G q (step_priority c rules core_rules p q low valid now m t) (i.thread_of t) m
-          by_trigger o test tests None untriggered is = absurd (none (at.Guarding o (test ∷ tests)) is (ap access_of_trigger untriggered))
-          by_trigger o test tests (Some e) triggered is = guarding_low o test tests e is triggered some
-
-          by : (x : Standing) → standing_of now t ≡ x → IsGuarding x →
-              LowAhead G q (step_priority c rules core_rules p q low valid now m t) (i.thread_of t) m
-          by (at.Guarding o []) is h = absurd (none (at.Guarding o []) is refl)
-          by (at.Guarding o (test ∷ tests)) is h = by_trigger o test tests test.trigger refl is
-          by (at.Within s tests) is h = absurd h
-          by at.Outside is h = absurd h
-          by at.Ended is h = absurd h
-          by (at.Trying s tests) is h = absurd h
-          by (at.Entering s tests) is h = absurd h
-          by (at.Acting s effects place) is h = absurd h
+            by : (x : Standing) → standing_of now t ≡ x → IsGuarding x →
+                LowAhead G q (step_priority c rules core_rules p q low valid now m t) (i.thread_of t) m
+            by (at.Guarding o []) is h = absurd (none (at.Guarding o []) is refl)
+            by (at.Guarding o (test ∷ tests)) is h = by_trigger o test tests test.trigger refl is
+            by (at.Within s tests) is h = absurd h
+            by at.Outside is h = absurd h
+            by at.Ended is h = absurd h
+            by (at.Trying s tests) is h = absurd h
+            by (at.Entering s tests) is h = absurd h
+            by (at.Acting s effects place) is h = absurd h

@@ -1,22 +1,17 @@
--- What is known of a layered chart, its core chart and its graph, as a tick starts, and again behind each step, for a number its ranks were within.
-use Rattle.std.proofs.Common.{◌≡◌, ℕ, ◌≤◌, true, Some, List, [], ◌∷◌, Contains, refl, sym, subst, ◌∙◌, arith}
-use Rattle.std.specs.List.{list_any}
-use Rattle.sc_values.specs.Runs.{replay, act_of}
+-- What is known of a chart, its core chart and its graph, as a tick starts, and again behind each step, for a number its ranks were within.
+use Rattle.std.proofs.Common.{◌≡◌, ℕ, true, Some, List, ◌∷◌, sym, ◌∙◌}
+use Rattle.sc_values.specs.Runs.{replay}
 use Rattle.sc_graph.specs.declared.control.Control.{Control}
 use Rattle.sc_graph.specs.declared.tables.Tables.{Tables}
 use Rattle.sc_graph.specs.Machine as graph
 use Rattle.sc_graph.specs.Program.{Program}
 use Rattle.sc_graph.specs.Valid.{IsValid}
 use Rattle.core_charts.specs.declared.features.Features.TheVariants as features
-use Rattle.core_charts.specs.declared.region.Transition.{Transition}
-use Rattle.core_charts.specs.Aborts.{has_aborts}
 use Rattle.core_charts.specs.Chart.{Chart}
 use Rattle.core_charts.specs.Rules.{IsChart}
-use Rattle.core_charts.specs.Tests.{is_weak}
 use Rattle.chart_machine.specs.declared.standing.Standing.TheVariants as at
 use Rattle.chart_machine.specs.declared.standing.Configuration.{Configuration}
 use Rattle.chart_machine.specs.declared.table.Table.{Table}
-use Rattle.chart_machine.specs.Machine.{machine}
 use Rattle.chart_machine.specs.Table.{table}
 use Rattle.chart_machine.specs.Turns.{standing_of}
 use Rattle.chart_machine.specs.Steps.{step}
@@ -28,19 +23,12 @@ use Rattle.chart_lowering_laws.specs.Laws.{IsLowering}
 use Rattle.chart_machine_laws.specs.Tree.{IsThere}
 use Rattle.compiled_charts_laws.proofs.AtJoins as at_joins
 use Rattle.compiled_charts_laws.proofs.LateTests.{is_late}
-use Rattle.abort_expansion_laws.specs.CoreRows.{own, Images, CoreRows}
-use Rattle.abort_expansion_laws.specs.Layered.{IsWeaklyLayered}
-use Rattle.abort_expansion_laws.specs.Segments.{Segment, threads}
-use Rattle.abort_expansion_laws.specs.StageReached.{some_work, stage_of, Stage}
-use Rattle.abort_expansion_laws.specs.Stages.{Entry, Correspondence, NoneReached}
+use Rattle.abort_expansion_laws.specs.CoreRows.{Images}
 use Rattle.abort_expansion_laws.proofs.KnownVariables.{present_there}
 use Rattle.abort_expansion_laws.proofs.Owed.{Started}
 use Rattle.abort_expansion_laws.proofs.OwnTests.{OwnTests}
-use Rattle.abort_expansion_laws.proofs.PreemptionKept.{ToldHere, own_tests_kept}
+use Rattle.abort_expansion_laws.proofs.PreemptionKept.{own_tests_kept}
 use Rattle.abort_expansion_laws.proofs.QuietBegins.{LoweredTests}
-use Rattle.abort_expansion_laws.proofs.StageReached.{one_at_least}
-use Rattle.abort_expansion_laws.proofs.MonitorsReady.{AllReady}
-use Rattle.abort_expansion_laws.proofs.StepsReady.{steps_ready, ticks_ready}
 use Rattle.abort_expansion_laws.proofs.TickFollowed as ticks
 use Rattle.reaction_laws.specs.StepNodes.{Alike}
 use Rattle.reaction_laws.proofs.CappedSteps.{IsCapped}
@@ -50,10 +38,10 @@ use Rattle.reaction_laws.proofs.GreatestPriority.{greatest_priority, all_ahead, 
 use Rattle.reaction_laws.proofs.MonitorsLow.{lowered, MonitorsQuiet, guards_low}
 use Rattle.reaction_laws.proofs.OpenedThreads.{waits_there}
 use Rattle.reaction_laws.proofs.OthersLow.{RanksWithin}
-use Rattle.reaction_laws.proofs.OwnSteps.{touched, touched_climbs, has_own_step}
-use Rattle.reaction_laws.proofs.StepLow.{LinesLow, step_low}
+use Rattle.reaction_laws.proofs.StepLow.{LinesLow, StepsItself, step_low}
+use Rattle.reaction_laws.proofs.StepRuns.{StepRun, step_run, StartRun, start_run}
 
-module _ (c : Chart) (rules : IsChart features.Extended c) (core_rules : IsChart features.Core (expanded c)) (layered : IsWeaklyLayered c) (p : Scl)
+module _ (c : Chart) (rules : IsChart features.Extended c) (core_rules : IsChart features.Core (expanded c)) (p : Scl)
     (q : Tables) (low : IsLowering (expanded c) p) (valid : IsValid (program_of (numbered p)) q)
     (lowered_tests : LoweredTests (table (expanded c)) (program_of (numbered p)) (Alike (expanded c) p) (lowered c rules core_rules p q low valid))
     (earlier : (d next : Configuration) (t g : ℕ) → step (table (expanded c)) t d ≡ Some next → is_late (standing_of next g) ≡ true →
@@ -67,17 +55,8 @@ module _ (c : Chart) (rules : IsChart features.Extended c) (core_rules : IsChart
   abbrev i : Images
   i = ticks.i c rules core_rules
 
-  abbrev rows : CoreRows k core i
-  rows = ticks.rows c rules core_rules
-
-  abbrev corr : Correspondence
-  corr = ticks.corr c rules core_rules
-
   abbrev G : Program
   G = program_of (numbered p)
-
-  abbrev Told : Configuration → Entry → Type 0
-  Told = ToldHere c rules core_rules
 
   abbrev Quiet : Configuration → Control → Type 0
   Quiet = MonitorsQuiet c rules core_rules p q low valid lowered_tests earlier
@@ -86,74 +65,53 @@ module _ (c : Chart) (rules : IsChart features.Extended c) (core_rules : IsChart
 
   module _ (now next d : Configuration) (m : Control) (most least : ℕ) (known : IsCapped c rules core_rules p q low valid now d m most) (quiet : Quiet d m)
       (ranks : RanksWithin c rules core_rules p q low valid now m most least) (r : ℕ) (steps : step k r now ≡ Some next) where
-    pub followed : Segment (machine core) corr Told d (Stage k i.thread_of now d) (Stage k i.thread_of next) (act_of (machine k) now r ∷ [])
-        (AllReady k core i next)
-    followed = steps_ready c rules core_rules layered now d known.all.related known.all.owns r next steps
+    pub followed : StepRun c rules core_rules now d r next
+    followed = step_run c rules core_rules now d known.all.related known.all.owns r next steps
 
     pub owns_next : OwnTests k next
     owns_next = (own_tests_kept c rules core_rules).steps now next r known.all.owns steps
 
     abbrev pub run : List ℕ
     run =
-        graph_run c rules core_rules p q low valid lowered_tests earlier next d followed.last m known.alike quiet followed.log followed.follows
-        followed.reaches.related followed.reaches.ready owns_next
+        graph_run c rules core_rules p q low valid lowered_tests earlier next d followed.last m known.alike quiet followed.run followed.runs
+        followed.ready.related followed.ready.ready owns_next
 
     abbrev pub n : Control
     n =
-        graph_next c rules core_rules p q low valid lowered_tests earlier next d followed.last m known.alike quiet followed.log followed.follows
-        followed.reaches.related followed.reaches.ready owns_next
+        graph_next c rules core_rules p q low valid lowered_tests earlier next d followed.last m known.alike quiet followed.run followed.runs
+        followed.ready.related followed.ready.ready owns_next
 
     pub quiet_next : Quiet followed.last n
     quiet_next =
-        quiet_there c rules core_rules p q low valid lowered_tests earlier next d followed.last m known.alike quiet followed.log followed.follows
-        followed.reaches.related followed.reaches.ready owns_next
+        quiet_there c rules core_rules p q low valid lowered_tests earlier next d followed.last m known.alike quiet followed.run followed.runs
+        followed.ready.related followed.ready.ready owns_next
 
     all_next : AllAt c rules core_rules p q low valid next followed.last n
     all_next =
-        all_there c rules core_rules p q low valid lowered_tests earlier next d followed.last m known.alike quiet followed.log followed.follows
-        followed.reaches.related followed.reaches.ready owns_next
+        all_there c rules core_rules p q low valid lowered_tests earlier next d followed.last m known.alike quiet followed.run followed.runs
+        followed.ready.related followed.ready.ready owns_next
 
     alike_next : Alike (expanded c) p followed.last n
     alike_next =
-        alike_there c rules core_rules p q low valid lowered_tests earlier next d followed.last m known.alike quiet followed.log followed.follows
-        followed.reaches.related followed.reaches.ready owns_next
+        alike_there c rules core_rules p q low valid lowered_tests earlier next d followed.last m known.alike quiet followed.run followed.runs
+        followed.ready.related followed.ready.ready owns_next
 
     leads_next : replay (graph.machine G) run m ≡ Some n
     leads_next =
-        graph_leads c rules core_rules p q low valid lowered_tests earlier next d followed.last m known.alike quiet followed.log followed.follows
-        followed.reaches.related followed.reaches.ready owns_next
+        graph_leads c rules core_rules p q low valid lowered_tests earlier next d followed.last m known.alike quiet followed.run followed.runs
+        followed.ready.related followed.ready.ready owns_next
 
     -- who tests an opened superstate has his thread step
-    module _ (s : ℕ) (t : Transition) (tests : List Transition) (was : standing_of now r ≡ at.Within s (t ∷ tests))
-        (low_stage : stage_of k next (standing_of next r) ≤ 1) where
-      r_there : IsThere k r
-      r_there =
-          present_there k core i now d known.all.related r
-          (λ out. let wrong : at.Outside ≡ at.Within s (t ∷ tests) = sym out ∙ was in absurd cc)
-
-      stage_now : Stage k i.thread_of now d (i.thread_of r) 1
-      stage_now =
-          record {
-            regions = λ u there same.
-                subst (λ v. 1 ≤ stage_of k now (standing_of now v)) (rows.region_once r u same)
-                (subst (λ x. 1 ≤ stage_of k now x) (sym was)
-                (one_at_least (has_aborts (own k s)) (some_work k now s) (list_any (λ z. is_weak z.kind) (t ∷ tests))));
-            chart = λ same. omega arith;
-          }
-
-      stage_next : (n : ℕ) → Stage k i.thread_of next followed.last (i.thread_of r) n → n ≤ 1
-      stage_next n reached = let most_now = reached.regions r r_there refl in omega (most_now, low_stage, arith)
-
-      in_log : Contains (threads corr followed.log) (i.thread_of r)
-      in_log =
-          has_own_step corr r (act_of (machine k) now r) refl followed.log (Stage k i.thread_of now d) stage_now
-          (followed.climbs (touched corr r) (touched_climbs corr r (Stage k i.thread_of next followed.last) stage_next)) followed.fits followed.charted
-
-      in_run : Contains run (i.thread_of r)
-      in_run =
-          own_there c rules core_rules p q low valid lowered_tests earlier next d followed.last m known.alike quiet followed.log followed.follows
-          followed.reaches.related followed.reaches.ready owns_next (i.thread_of r) (at_joins.join_of (expanded c) p low (i.main_of s))
-          (waits_there c rules core_rules p q low valid now d m r s t tests known.all r_there was) in_log
+    in_run : StepsItself c rules core_rules now next r run
+    in_run s t tests was low_stage =
+        own_there c rules core_rules p q low valid lowered_tests earlier next d followed.last m known.alike quiet followed.run followed.runs
+        followed.ready.related followed.ready.ready owns_next (i.thread_of r) (at_joins.join_of (expanded c) p low (i.main_of s))
+        (waits_there c rules core_rules p q low valid now d m r s t tests known.all there was) (followed.own s t tests was low_stage)
+      where
+        there : IsThere k r
+        there =
+            present_there k core i now d known.all.related r
+            (λ out. let wrong : at.Outside ≡ at.Within s (t ∷ tests) = sym out ∙ was in absurd cc)
 
     low_next : LinesLow c rules core_rules p q low valid next n least
     low_next = step_low c rules core_rules p q low valid now d next followed.last m n most least r run known ranks steps leads_next all_next in_run
@@ -167,35 +125,35 @@ module _ (c : Chart) (rules : IsChart features.Extended c) (core_rules : IsChart
           joins = low_next.joins;
           guarded = λ t on guards some.
               guards_low c rules core_rules p q low valid lowered_tests earlier next followed.last n all_next alike_next quiet_next t on
-              layered guards some;
+              guards some;
         }
 
   -- ---- as a tick starts
 
   module _ (now d : Configuration) (m : Control) (started : Started k core i now d) (owns : OwnTests k now) (alike : Alike (expanded c) p d m)
       (quiet : Quiet d m) where
-    pub first : Segment (machine core) corr Told d NoneReached (Stage k i.thread_of now) [] (AllReady k core i now)
-    first = ticks_ready c rules core_rules layered now d started
+    pub first : StartRun c rules core_rules now d
+    first = start_run c rules core_rules now d started
 
     abbrev pub m_first : Control
     m_first =
-        graph_next c rules core_rules p q low valid lowered_tests earlier now d first.last m alike quiet first.log first.follows first.reaches.related
-        first.reaches.ready owns
+        graph_next c rules core_rules p q low valid lowered_tests earlier now d first.last m alike quiet first.run first.runs first.ready.related
+        first.ready.ready owns
 
     pub quiet_first : Quiet first.last m_first
     quiet_first =
-        quiet_there c rules core_rules p q low valid lowered_tests earlier now d first.last m alike quiet first.log first.follows first.reaches.related
-        first.reaches.ready owns
+        quiet_there c rules core_rules p q low valid lowered_tests earlier now d first.last m alike quiet first.run first.runs first.ready.related
+        first.ready.ready owns
 
     all_first : AllAt c rules core_rules p q low valid now first.last m_first
     all_first =
-        all_there c rules core_rules p q low valid lowered_tests earlier now d first.last m alike quiet first.log first.follows first.reaches.related
-        first.reaches.ready owns
+        all_there c rules core_rules p q low valid lowered_tests earlier now d first.last m alike quiet first.run first.runs first.ready.related
+        first.ready.ready owns
 
     alike_first : Alike (expanded c) p first.last m_first
     alike_first =
-        alike_there c rules core_rules p q low valid lowered_tests earlier now d first.last m alike quiet first.log first.follows first.reaches.related
-        first.reaches.ready owns
+        alike_there c rules core_rules p q low valid lowered_tests earlier now d first.last m alike quiet first.run first.runs first.ready.related
+        first.ready.ready owns
 
     pub first_capped : IsCapped c rules core_rules p q low valid now first.last m_first (greatest_priority q)
     first_capped =
@@ -206,5 +164,5 @@ module _ (c : Chart) (rules : IsChart features.Extended c) (core_rules : IsChart
           joins = λ t on inside. all_once_stepped G q (i.thread_of t) m_first;
           guarded = λ t on guards some.
               guards_low c rules core_rules p q low valid lowered_tests earlier now first.last m_first all_first alike_first quiet_first t on
-              layered guards some;
+              guards some;
         }

@@ -8,7 +8,9 @@ pub use Rattle.reaction_laws.proofs.ApartTogether.{are_apart, forks_none}
 pub use Rattle.reaction_laws.proofs.StepsSwap.{keeps_apart}
 pub use Rattle.reaction_laws.proofs.SitsStill.{sits_apart}
 pub use Rattle.reaction_laws.proofs.SitsAtStart.{sits_initially, sits_at_start}
-pub use Rattle.reaction_laws.proofs.LayeredRuns.{layered_ticks_end}
+pub use Rattle.reaction_laws.proofs.CoreCompletes.{completes_to}
+pub use Rattle.reaction_laws.proofs.StepRuns.{step_run, start_run}
+pub use Rattle.reaction_laws.proofs.ChartRuns.{ticks_end, layered_ticks_end}
 pub use Rattle.reaction_laws.proofs.SeenInGraph.{core_ends_alike}
 pub use Rattle.reaction_laws.proofs.RanksReact.{has_reaction}
 pub use Rattle.reaction_laws.proofs.OneReaction.{one_reaction}
@@ -19,7 +21,8 @@ pub use Rattle.reaction_laws.proofs.StillAtJoins.{has_stepped}
 pub use Rattle.reaction_laws.proofs.MonitorsLow.{guards_low}
 pub use Rattle.reaction_laws.proofs.QuietRuns.{steps_keep, coming_keeps}
 pub use Rattle.reaction_laws.proofs.QuietStarts.{starts_quiet}
-pub use Rattle.reaction_laws.proofs.LayeredRanks.{has_capped_ranks, reacts_in_one_way, does_no_more}
+pub use Rattle.reaction_laws.proofs.RanksOfCharts.{has_capped_ranks, charts_react}
+pub use Rattle.reaction_laws.proofs.LayeredRanks.{reacts_in_one_way, does_no_more}
 pub use Rattle.reaction_laws.proofs.NextCapped.{first_capped, next_capped}
 pub use Rattle.reaction_laws.proofs.LinesAhead.{low_once_stepped, once_stepped_above, stepped_ahead, once_stepped_on, once_stepped_both}
 pub use Rattle.reaction_laws.proofs.LinesAhead.{ahead_on, ahead_within, ahead_less, ahead_both, enabled_ahead}

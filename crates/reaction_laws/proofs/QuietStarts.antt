@@ -31,10 +31,9 @@ use Rattle.compiled_charts_laws.proofs.Stands.{waits_there}
 use Rattle.compiled_charts_laws.proofs.TestNodes.{test_node}
 use Rattle.compiled_charts_laws.proofs.TickStarts as tick_starts
 use Rattle.abort_expansion_laws.specs.CoreRows.{own, Images, CoreRows}
-use Rattle.abort_expansion_laws.specs.Layered.{IsWeaklyLayered}
 use Rattle.abort_expansion_laws.proofs.CheckNodes.{wakes_low}
 use Rattle.abort_expansion_laws.proofs.DelayedBefore.{late_before, first_prompt}
-use Rattle.abort_expansion_laws.proofs.LayeredChartRows.{layered_rows, start_rows, started_related}
+use Rattle.abort_expansion_laws.proofs.TickRows.{alone_rows, start_rows, started_related}
 use Rattle.abort_expansion_laws.proofs.LaterTicks.{chart_has_begun, never}
 use Rattle.abort_expansion_laws.proofs.Owed.{Resting}
 use Rattle.abort_expansion_laws.proofs.PreemptionFollows.{RestsAlike}
@@ -61,7 +60,7 @@ opened_plain k (at.Within u others) o tests never e = by (strong_aborts (own k u
     by [] none e = let same : u ≡ o = cc in ap (λ v. strong_aborts (own k v)) (sym same) ∙ none
     by (t ∷ strong) some e = absurd cc
 
-module _ (c : Chart) (rules : IsChart features.Extended c) (core_rules : IsChart features.Core (expanded c)) (layered : IsWeaklyLayered c) (p : Scl)
+module _ (c : Chart) (rules : IsChart features.Extended c) (core_rules : IsChart features.Core (expanded c)) (p : Scl)
     (q : Tables) (low : IsLowering (expanded c) p) (valid : IsValid (program_of (numbered p)) q) where
   abbrev k : Table
   k = table c
@@ -98,8 +97,8 @@ module _ (c : Chart) (rules : IsChart features.Extended c) (core_rules : IsChart
   module _ (inputs : Inputs) (accepted : AreAccepted G inputs) (before d : Configuration) (m : Control) (between : Between d m) where
     never_guards : Resting k core i before d → (r u : ℕ) (others : List Transition) → standing_of before r ≢ at.Guarding u others
     never_guards rests r u others e =
-        never k core i rows (layered_rows c rules core_rules layered) (whole.tree c rules core_rules).nested
-        (start_rows c rules core_rules layered) before d rests inputs r u others e
+        never k core i rows (alone_rows c rules core_rules) (whole.tree c rules core_rules).nested
+        (start_rows c rules core_rules) before d rests inputs r u others e
 
     plain_open : Resting k core i before d → (o : ℕ) (others : List Transition) → standing_of (start k inputs before) (holder k o) ≡ at.Within o others →
         strong_aborts (own k o) ≡ []
@@ -116,12 +115,12 @@ module _ (c : Chart) (rules : IsChart features.Extended c) (core_rules : IsChart
         ∙ first_prompt features.Core (expanded c) core_rules inputs (i.watcher_of o)) in
         absurd cc
     starts_quiet (inr rested) o there has late n raises_it =
-        starts_low k core i rows (layered_rows c rules core_rules layered) (whole.tree c rules core_rules).nested
+        starts_low k core i rows (alone_rows c rules core_rules) (whole.tree c rules core_rules).nested
         (whole.core_tree c rules core_rules).nested (whole.core_tree c rules core_rules).children (whole.tree c rules core_rules).children
         (whole.super_there c rules core_rules) (λ s here. (whole.state_fits c rules core_rules s here).region.here)
-        (start_rows c rules core_rules layered).strong_for G q valid (Alike (expanded c) p) (lowered c rules core_rules p q low valid) lowered_tests
+        (start_rows c rules core_rules).strong_for G q valid (Alike (expanded c) p) (lowered c rules core_rules p q low valid) lowered_tests
         earlier
         (λ t there none. tick_starts.top_parent (expanded c) p q low valid t there none) (start k inputs before) (start core inputs d)
-        (started_related c rules core_rules layered before d rested.rests inputs) (graph_tick.start G inputs m)
+        (started_related c rules core_rules before d rested.rests inputs) (graph_tick.start G inputs m)
         (tick_starts.starts_alike (expanded c) p q low valid inputs accepted d m between)
         (wakes_low (expanded c) p low q valid inputs accepted d m between) (plain_open rested.rests) o there has late n raises_it

@@ -1,4 +1,4 @@
--- A weakly layered chart whose steps have ranks has a list of ends for each list of inputs that are accepted.
+-- A chart that has a valid image, and whose steps have ranks, has a list of ends for each list of inputs that are accepted.
 use Rattle.std.proofs.Common.{◌≡◌, ℕ, zero, suc, ◌<◌, ◌≤◌, Some, option_and_then, List, [], ◌∷◌, ◌++◌, length, refl, ap, subst}
 use Rattle.std.proofs.Common.{arith}
 use Rattle.sc_values.specs.Runs.{replay, Ends}
@@ -14,7 +14,6 @@ use Rattle.chart_machine.specs.Machine.{machine, initial, start}
 use Rattle.abort_expansion.specs.Expansion.{expanded}
 use Rattle.chart_machine_laws.specs.Progress.{IsReached, stepped}
 use Rattle.chart_lowering_laws.specs.Laws.{IsLowering}
-use Rattle.abort_expansion_laws.specs.Layered.{IsWeaklyLayered}
 use Rattle.abort_expansion_laws.specs.Preemption.{chart_machine, HasImage}
 use Rattle.abort_expansion_laws.specs.Ticks.{Reactive, Reaction, AllOf}
 use Rattle.reaction_laws.specs.Bounded.{last_of}
@@ -22,7 +21,7 @@ use Rattle.reaction_laws.specs.ChartRanks.{HasRanks}
 use Rattle.reaction_laws.specs.Ranked.{Ranked, ComesToAnEnd}
 use Rattle.reaction_laws.proofs.ByRank.{comes_to_an_end}
 use Rattle.reaction_laws.proofs.CoreRuns.{Within}
-use Rattle.reaction_laws.proofs.LayeredRuns.{most_steps, tick_bounded, tick_reached}
+use Rattle.reaction_laws.proofs.ChartRuns.{most_steps, tick_bounded, tick_reached}
 use Rattle.reaction_laws.proofs.RunsComplete.{enabled_there, has_step, one_less, turn_of}
 
 one_fewer : (m n : ℕ) → m ≡ suc n → n < m
@@ -46,7 +45,7 @@ pub all_on : (P : Inputs → Type 0) (done : List Inputs) (next : Inputs) → Al
 all_on P [] next h here = (here, tt)
 all_on P (inputs ∷ done) next h here = (h.0, all_on P done next h.1 here)
 
-module _ (c : Chart) (rules : IsChart features.Extended c) (layered : IsWeaklyLayered c) (image : HasImage c) (low : IsLowering (expanded c) image.scl)
+module _ (c : Chart) (rules : IsChart features.Extended c) (image : HasImage c) (low : IsLowering (expanded c) image.scl)
     (ranks : HasRanks (chart_machine c) (AreAccepted image.program)) where
   abbrev k : Table
   k = table c
@@ -101,13 +100,13 @@ module _ (c : Chart) (rules : IsChart features.Extended c) (layered : IsWeaklyLa
   unfolding ranked
   tick_has_end inputs ends next accepted takes_next reaction =
       let begun = ranks.begins inputs ends next accepted takes_next reaction in
-      let those : ComesToAnEnd (machine k) (start k next (last_of (initial k) ends)) (most_steps c rules low.core layered image low) =
+      let those : ComesToAnEnd (machine k) (start k next (last_of (initial k) ends)) (most_steps c rules low.core image low) =
       comes_to_an_end (machine k) ranked (start k next (last_of (initial k) ends))
-      (record { left = most_steps c rules low.core layered image low; known = begun.0 })
+      (record { left = most_steps c rules low.core image low; known = begun.0 })
       (record {
         holds = begun.1;
-        reached = tick_reached c rules low.core layered image low inputs ends next accepted takes_next reaction;
-        within = tick_bounded c rules low.core layered image low inputs ends next accepted takes_next reaction;
+        reached = tick_reached c rules low.core image low inputs ends next accepted takes_next reaction;
+        within = tick_bounded c rules low.core image low inputs ends next accepted takes_next reaction;
       }) in
       (those.end, those.ends)
 

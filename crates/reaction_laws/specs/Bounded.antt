@@ -33,7 +33,13 @@ pub record EndsEachTick (r : Reactive) (Accepted : Inputs → Type 0) : Type 0 w
       Reaction r ticks r.initial ends →
       (run : List ℕ) (d : r.machine.Configuration) → replay r.machine run (r.start inputs (last_of r.initial ends)) ≡ Some d → GoesOn r d
 
--- so it is of each weakly layered chart that has a valid image, the program of which is the lowering of its core chart
+-- so it is of each chart that has a valid image, the program of which is the lowering of its core chart, however aborts lie in others
+abbrev pub TicksEnd : Type 0
+TicksEnd =
+    (c : Chart) → IsChart features.Extended c → (image : HasImage c) → IsLowering (expanded c) image.scl →
+    EndsEachTick (chart_machine c) (AreAccepted image.program)
+
+-- and of each weakly layered one
 abbrev pub LayeredTicksEnd : Type 0
 LayeredTicksEnd =
     (c : Chart) → IsChart features.Extended c → IsWeaklyLayered c → (image : HasImage c) → IsLowering (expanded c) image.scl →

@@ -1,4 +1,4 @@
--- Ranks of the steps of a weakly layered chart, and what follows from them: it has one reaction.
+-- Ranks of the steps of a chart, and what follows from them: it has one reaction.
 use Rattle.std.specs.Prelude.{ℕ, ◌≤◌, ◌≡◌, true, Some, List}
 use Rattle.sc_values.specs.Access.{MayPrecede}
 use Rattle.sc_graph.specs.Tick.{Inputs}

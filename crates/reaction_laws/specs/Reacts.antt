@@ -1,5 +1,4 @@
--- Each weakly layered chart that has a valid image reacts in one way: whatever inputs the image accepts, there is a list of ends, one for each tick,
--- and no other.
+-- Each chart that has a valid image reacts in one way: whatever inputs the image accepts, there is a list of ends, one for each tick, and no other.
 use Rattle.std.specs.Prelude.{◌≡◌, List}
 use Rattle.sc_graph.specs.Tick.{Inputs, AreAccepted}
 use Rattle.core_charts.specs.declared.features.Features.TheVariants as features
@@ -20,7 +19,13 @@ pub record ReactsInOneWay (c : Chart) (ticks : List Inputs) : Type 0 where
   pub reacts : Reaction (chart_machine c) ticks (initial (table c)) ends
   pub only : (others : List Configuration) → Reaction (chart_machine c) ticks (initial (table c)) others → others ≡ ends
 
--- so it is of each weakly layered chart with a valid image, the program of which is the lowering of its core chart
+-- so it is of each chart with a valid image, the program of which is the lowering of its core chart, however aborts lie in others
+abbrev pub ChartsReact : Type 0
+ChartsReact =
+    (c : Chart) → IsChart features.Extended c → (image : HasImage c) → IsLowering (expanded c) image.scl → (ticks : List Inputs) →
+    AllOf (AreAccepted image.program) ticks → ReactsInOneWay c ticks
+
+-- and of each weakly layered one
 abbrev pub LayeredChartsReact : Type 0
 LayeredChartsReact =
     (c : Chart) → IsChart features.Extended c → IsWeaklyLayered c → (image : HasImage c) → IsLowering (expanded c) image.scl →

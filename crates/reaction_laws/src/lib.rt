@@ -1,12 +1,26 @@
-//! What a weakly layered chart does in a tick: the laws of its reaction, of the steps of a core chart, and of
-//! priorities in a graph, over the definitions alone.
+//! What a chart does in a tick: the laws of its reaction, of the steps of a core chart, and of priorities in a graph,
+//! over the definitions alone.
 #![tactic(auto)]
 
-ghost use Rattle.reaction_laws.specs.Bounded.{LayeredTicksEnd};
+ghost use Rattle.reaction_laws.specs.Bounded.{LayeredTicksEnd, TicksEnd};
 ghost use Rattle.reaction_laws.specs.KeptBack.{CoreChartsDoNoMore};
 ghost use Rattle.reaction_laws.specs.LowLines.{LinesStayLow};
-ghost use Rattle.reaction_laws.specs.Reacts.{LayeredChartsReact};
+ghost use Rattle.reaction_laws.specs.Reacts.{ChartsReact, LayeredChartsReact};
 ghost use Rattle.reaction_laws.specs.StepNodes.{PrioritiesOrderSteps, StepsComeToNodes};
+
+/// Each tick of a chart that has a valid image comes to an end, whatever steps it takes: no run of a tick that follows
+/// a reaction takes more steps than one number says, and each run can be completed. This function does nothing; its
+/// contract is the law.
+pub fn ticks_end()
+    ensures { TicksEnd }
+{}
+
+/// A chart that has a valid image reacts in one way to whatever inputs that accepts, however aborts lie in others:
+/// there is a list of ends, one for each tick, to each of them an admissible complete run leads, and there is no other
+/// list. This function does nothing; its contract is the law.
+pub fn charts_react()
+    ensures { ChartsReact }
+{}
 
 /// Each tick of a weakly layered chart that has a valid image comes to an end, whatever steps it takes: no run of a
 /// tick that follows a reaction takes more steps than one number says, and each run can be completed. This function

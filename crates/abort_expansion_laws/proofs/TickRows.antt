@@ -1,4 +1,4 @@
--- What the table of each expanded layered chart has, where aborts are around something.
+-- What the table of each expanded chart has, where aborts are around something.
 use Rattle.std.proofs.Common.{◌≡◌, ℕ, ◌+◌, inl, inr, Bool, true, false, Some, []}
 use Rattle.std.proofs.Common.{refl, sym, ap, subst, ◌∙◌}
 use Rattle.core_charts.specs.declared.features.Features.TheVariants as features
@@ -9,12 +9,10 @@ use Rattle.chart_machine.specs.Table.{table}
 use Rattle.abort_expansion.specs.Flags.{given, one}
 use Rattle.core_charts.specs.Aborts.{has_strong, has_weak}
 use Rattle.abort_expansion.specs.Expansion.{expanded}
-use Rattle.abort_expansion_laws.specs.Layered.{IsWeaklyLayered}
 use Rattle.abort_expansion_laws.specs.CoreRows.{own, Images}
-use Rattle.abort_expansion_laws.proofs.InsideLeaves.{LayeredRows}
+use Rattle.abort_expansion_laws.proofs.InsideLeaves.{AloneRows}
 use Rattle.abort_expansion_laws.proofs.Walked.{World, FlagsFit}
 use Rattle.abort_expansion_laws.proofs.WalkedWhole.{world}
-use Rattle.abort_expansion_laws.proofs.KindsApart as kinds
 use Rattle.abort_expansion_laws.proofs.RowsOfCharts as whole
 use Rattle.abort_expansion_laws.proofs.MoreRows.{alone, simple_alone, behind_alone, no_strong}
 use Rattle.abort_expansion_laws.proofs.OpenedRows.{ForkRows}
@@ -38,7 +36,7 @@ given_there : (b : Bool) (x y : ℕ) → given b x ≡ Some y → b ≡ true
 given_there true x y e = refl
 given_there false x y e = absurd cc
 
-module _ (c : Chart) (rules : IsChart features.Extended c) (core_rules : IsChart features.Core (expanded c)) (layered : IsWeaklyLayered c) where
+module _ (c : Chart) (rules : IsChart features.Extended c) (core_rules : IsChart features.Core (expanded c)) where
   abbrev k : Table
   k = table c
 
@@ -51,10 +49,9 @@ module _ (c : Chart) (rules : IsChart features.Extended c) (core_rules : IsChart
   abbrev i : Images
   i = whole.i c rules core_rules
 
-  pub layered_rows : LayeredRows k core i
-  layered_rows =
+  pub alone_rows : AloneRows k core i
+  alone_rows =
       record {
-        weak_once = kinds.weak_once k (kinds.layered_apart c layered) (whole.tree c rules core_rules).nested;
         no_strong = no_strong c rules core_rules;
         simple_alone = simple_alone c rules core_rules;
         behind_alone = behind_alone c rules core_rules;
@@ -84,8 +81,8 @@ module _ (c : Chart) (rules : IsChart features.Extended c) (core_rules : IsChart
         locals = subst (Each IsLocal) (sym (whole.added_is c rules core_rules)) (added_are_local c rules);
       }
 
--- each tick of a layered chart but the first begins with related configurations, without a step of the core
-module _ (c : Chart) (rules : IsChart features.Extended c) (core_rules : IsChart features.Core (expanded c)) (layered : IsWeaklyLayered c)
+-- each tick of a chart but the first begins with related configurations, without a step of the core
+module _ (c : Chart) (rules : IsChart features.Extended c) (core_rules : IsChart features.Core (expanded c))
     (before core_before : Configuration) (rests : Resting (table c) (table (expanded c)) (whole.i c rules core_rules) before core_before)
     (inputs : Inputs) where
   abbrev theirs : Images
@@ -97,8 +94,8 @@ module _ (c : Chart) (rules : IsChart features.Extended c) (core_rules : IsChart
         chart_has_begun (table c) (table (expanded c)) theirs before core_before rests,
         core_has_begun (table c) (table (expanded c)) theirs before core_before rests,
       )
-      (woken_related (table c) (table (expanded c)) theirs (whole.rows_of_chart c rules core_rules) (layered_rows c rules core_rules layered)
-      (whole.tree c rules core_rules).nested (start_rows c rules core_rules layered) before core_before rests inputs)
+      (woken_related (table c) (table (expanded c)) theirs (whole.rows_of_chart c rules core_rules) (alone_rows c rules core_rules)
+      (whole.tree c rules core_rules).nested (start_rows c rules core_rules) before core_before rests inputs)
 
   pub later_ticks_begin : (counts : ℕ → Bool) (written_at : ℕ → ℕ) (Told : Configuration → Entry → Type 0) →
       Segment (machine (table (expanded c)))

@@ -1,9 +1,11 @@
--- Within a tick each run of a layered chart has one of its core chart that is no shorter. So each tick of it comes to an end.
-use Rattle.std.proofs.Common.{◌≡◌, ℕ, suc, ◌+◌, ◌≤◌, inl, inr, Some, option_and_then, List, []}
+-- Within a tick each run of a chart has one of its core chart that is no shorter. So each tick of it comes to an end; and where it does, the core chart
+-- rests alike, if maybe not by an admissible run.
+use Rattle.std.proofs.Common.{◌≡◌, ℕ, ◌+◌, ◌≤◌, inl, inr, Some, List, []}
 use Rattle.std.proofs.Common.{◌∷◌, ◌++◌, length, slice_get, refl, sym, ap, subst, ◌∙◌, arith}
-use Rattle.std.proofs.lemmas.List.{length-map}
+use Rattle.std.proofs.lemmas.List.{length-map, length-append}
+use Rattle.std.proofs.lemmas.Option.{same_Some}
 use Rattle.sc_values.specs.Operator.{kind_of}
-use Rattle.sc_values.specs.Runs.{Machine, replay, Act, act_of, Ends}
+use Rattle.sc_values.specs.Runs.{replay, Completes, Ends}
 use Rattle.sc_graph.specs.declared.control.Control.{Control}
 use Rattle.sc_graph.specs.Tick.{Inputs, AreAccepted, values_at_start}
 use Rattle.sc_graph.specs.Tick as graph_tick
@@ -22,52 +24,33 @@ use Rattle.scl_graph_laws.proofs.RunsKept.{program_keeps_runs}
 use Rattle.chart_machine_laws.specs.Progress.{KeepKinds, IsReached, begun}
 use Rattle.chart_machine_laws.specs.Progress.{first as reached_first}
 use Rattle.chart_lowering_laws.specs.Laws.{IsLowering}
+use Rattle.chart_lowering_laws.proofs.Following.{replay_append}
 use Rattle.compiled_charts_laws.proofs.TickStarts as tick_starts
 use Rattle.abort_expansion_laws.specs.CoreRows.{Images}
-use Rattle.abort_expansion_laws.specs.Layered.{IsWeaklyLayered}
 use Rattle.abort_expansion_laws.specs.Preemption.{chart_machine, HasImage}
 use Rattle.abort_expansion_laws.specs.Related.{Related}
-use Rattle.abort_expansion_laws.specs.Segments.{threads, Follows}
-use Rattle.abort_expansion_laws.specs.Stages.{Entry, Correspondence, chart_log}
+use Rattle.abort_expansion_laws.specs.Segments.{threads}
+use Rattle.abort_expansion_laws.specs.Stages.{Entry, Correspondence}
 use Rattle.abort_expansion_laws.specs.Ticks.{Reaction, AllOf}
 use Rattle.abort_expansion_laws.proofs.Owed.{Started, first_tick, later_tick}
 use Rattle.abort_expansion_laws.proofs.OwnTests.{OwnTests}
-use Rattle.abort_expansion_laws.proofs.PreemptionFollows.{RestsAlike, SparesTests}
+use Rattle.abort_expansion_laws.proofs.PreemptionFollows.{RestsAlike}
 use Rattle.abort_expansion_laws.proofs.PreemptionKept.{ToldHere, own_tests_kept}
-use Rattle.abort_expansion_laws.proofs.StepsByCase.{steps_followed}
-use Rattle.abort_expansion_laws.proofs.TestsSpared.{tests_are_spared}
+use Rattle.abort_expansion_laws.proofs.FirstTickBegins.{first_begun}
+use Rattle.abort_expansion_laws.proofs.FlagStages.{usual}
+use Rattle.abort_expansion_laws.proofs.RestedCharts.{rested_over}
+use Rattle.abort_expansion_laws.proofs.StillBegun.{HasBegun, charts_stay_begun, starts_begun}
 use Rattle.abort_expansion_laws.proofs.TickFollowed as ticks
-use Rattle.abort_expansion_laws.proofs.TicksBegin.{ticks_begin}
+use Rattle.abort_expansion_laws.proofs.TicksFinish.{ticks_finish}
 use Rattle.abort_expansion_laws.proofs.ToldSteps.{told_silent}
-use Rattle.reaction_laws.specs.Bounded.{last_of, GoesOn, EndsEachTick, LayeredTicksEnd}
+use Rattle.reaction_laws.specs.Bounded.{last_of, GoesOn, EndsEachTick, TicksEnd, LayeredTicksEnd}
 use Rattle.reaction_laws.proofs.ByRank.{Begins, begins}
 use Rattle.reaction_laws.proofs.CoreRuns.{Within, within_on, most_silent, longest, tick_within}
+use Rattle.reaction_laws.proofs.CoreCompletes.{completes_to}
 use Rattle.reaction_laws.proofs.RunsComplete.{start_value, kind_at, in_front, reached_on, Completed, completed}
+use Rattle.reaction_laws.proofs.StepRuns.{replay_behind, StepRun, step_run, StartRun, start_run}
 
--- ---- a part of the core's run, and what comes behind it
-
-module _ (n : Machine) (k : Correspondence) (Told : n.Configuration → Entry → Type 0) where
-  pub replay_behind : (log : List Entry) (d e : n.Configuration) (more : List ℕ) → Follows n k Told d log e →
-      replay n (threads k log ++ more) d ≡ replay n more e
-  replay_behind [] d e more follows = ap (replay n more) follows
-  replay_behind (y ∷ log) d e more follows =
-      ap (option_and_then (replay n (threads k log ++ more))) follows.2.1 ∙ replay_behind log follows.2.0 e more follows.2.2
-
-  one_longer : (a b : ℕ) → a ≤ b → a ≤ suc b
-  one_longer a b le = omega (le, arith)
-
-  both_longer : (a b : ℕ) → a ≤ b → suc a ≤ suc b
-  both_longer a b le = omega (le, arith)
-
-  no_shorter : (log : List Entry) (more : List ℕ) → length more ≤ length (threads k log ++ more)
-  no_shorter [] more = omega arith
-  no_shorter (y ∷ log) more = one_longer (length more) (length (threads k log ++ more)) (no_shorter log more)
-
-  longer : (log : List Entry) (act : Act) (more : List ℕ) → chart_log log ≡ act ∷ [] → suc (length more) ≤ length (threads k log ++ more)
-  longer [] act more charted = absurd cc
-  longer (y ∷ log) act more charted = both_longer (length more) (length (threads k log ++ more)) (no_shorter log more)
-
-module _ (c : Chart) (rules : IsChart features.Extended c) (core_rules : IsChart features.Core (expanded c)) (layered : IsWeaklyLayered c) where
+module _ (c : Chart) (rules : IsChart features.Extended c) (core_rules : IsChart features.Core (expanded c)) where
   abbrev k : Table
   k = table c
 
@@ -95,31 +78,106 @@ module _ (c : Chart) (rules : IsChart features.Extended c) (core_rules : IsChart
   follows_run [] now last d related owns runs = record { run = []; end = d; runs = refl; long = omega arith }
   follows_run (r ∷ run) now last d related owns runs =
       let b : Begins (machine k) r run now last = begins (machine k) r run now last runs in
-      let one = steps_followed c rules core_rules layered now d related owns r b.next b.steps in
+      let one : StepRun c rules core_rules now d r b.next = step_run c rules core_rules now d related owns r b.next b.steps in
       let rest : CoreRuns one.last (length run) =
-      follows_run run b.next last one.last one.reaches ((own_tests_kept c rules core_rules).steps now b.next r owns b.steps) b.rest in
-      let more = longer (machine core) corr Told one.log (act_of (machine k) now r) rest.run one.charted in
+      follows_run run b.next last one.last one.ready.related ((own_tests_kept c rules core_rules).steps now b.next r owns b.steps) b.rest in
+      let some = one.some in
       let long = rest.long in
+      let size = length-append one.run rest.run in
       record {
-        run = threads corr one.log ++ rest.run;
+        run = one.run ++ rest.run;
         end = rest.end;
-        runs = replay_behind (machine core) corr Told one.log d one.last rest.run one.follows ∙ rest.runs;
-        long = omega (more, long, arith);
+        runs = replay_append (machine core) one.run rest.run d one.last one.runs ∙ rest.runs;
+        long = omega (some, long, size, arith);
       }
 
   -- from the start of a tick
   tick_runs : (run : List ℕ) (now last d : Configuration) → Started k core i now d → OwnTests k now → replay (machine k) run now ≡ Some last →
       CoreRuns d (length run)
   tick_runs run now last d started owns runs =
-      let first = ticks_begin c rules core_rules layered Told (told_silent k core i) now d started in
-      let rest : CoreRuns first.last (length run) = follows_run run now last first.last first.reaches owns runs in
-      let more = no_shorter (machine core) corr Told first.log rest.run in
+      let first : StartRun c rules core_rules now d = start_run c rules core_rules now d started in
+      let rest : CoreRuns first.last (length run) = follows_run run now last first.last first.ready.related owns runs in
       let long = rest.long in
+      let size = length-append first.run rest.run in
       record {
-        run = threads corr first.log ++ rest.run;
+        run = first.run ++ rest.run;
         end = rest.end;
-        runs = replay_behind (machine core) corr Told first.log d first.last rest.run first.follows ∙ rest.runs;
-        long = omega (more, long, arith);
+        runs = replay_append (machine core) first.run rest.run d first.last first.runs ∙ rest.runs;
+        long = omega (long, size, arith);
+      }
+
+  -- ---- to the end of a tick
+
+  -- where the core chart comes to, and what holds there of both
+  record Comes (last d : Configuration) : Type 0 where
+    run : List ℕ
+    end : Configuration
+    runs : replay (machine core) run d ≡ Some end
+    related : Related k core i last end
+    has_begun : HasBegun k last
+    owns : OwnTests k last
+
+  comes_along : (run : List ℕ) (now last d : Configuration) → Related k core i now d → HasBegun k now → OwnTests k now →
+      replay (machine k) run now ≡ Some last → Comes last d
+  comes_along [] now last d related has_begun owns runs =
+      let same : now ≡ last = same_Some now last runs in
+      record {
+        run = [];
+        end = d;
+        runs = refl;
+        related = subst (λ z. Related k core i z d) same related;
+        has_begun = subst (HasBegun k) same has_begun;
+        owns = subst (OwnTests k) same owns;
+      }
+  comes_along (r ∷ run) now last d related has_begun owns runs =
+      let b : Begins (machine k) r run now last = begins (machine k) r run now last runs in
+      let one : StepRun c rules core_rules now d r b.next = step_run c rules core_rules now d related owns r b.next b.steps in
+      let rest : Comes last one.last =
+      comes_along run b.next last one.last one.ready.related (charts_stay_begun features.Extended c rules now b.next r b.steps has_begun)
+      ((own_tests_kept c rules core_rules).steps now b.next r owns b.steps) b.rest in
+      record {
+        run = one.run ++ rest.run;
+        end = rest.end;
+        runs = replay_append (machine core) one.run rest.run d one.last one.runs ∙ rest.runs;
+        related = rest.related;
+        has_begun = rest.has_begun;
+        owns = rest.owns;
+      }
+
+  started_begun : (now d : Configuration) → Started k core i now d → HasBegun k now
+  started_begun now d (first_tick inputs chart_is core_is) = subst (HasBegun k) (sym chart_is) (first_begun c rules core_rules inputs)
+  started_begun now d (later_tick inputs before core_before rests chart_is core_is) =
+      subst (HasBegun k) (sym chart_is) (starts_begun k core i before core_before rests inputs)
+
+  -- the core chart completes the tick too, and rests alike
+  record Rested (last d : Configuration) : Type 0 where
+    run : List ℕ
+    end : Configuration
+    completes : Completes (machine core) run d end
+    rested : ticks.HasRested c rules core_rules last end
+    owns : OwnTests k last
+
+  comes_to_rest : (run : List ℕ) (now last d : Configuration) → Started k core i now d → OwnTests k now → Completes (machine k) run now last →
+      Rested last d
+  comes_to_rest run now last d started owns completes =
+      let first : StartRun c rules core_rules now d = start_run c rules core_rules now d started in
+      let there : Comes last first.last =
+      comes_along run now last first.last first.ready.related (started_begun now d started) owns completes.runs in
+      let ends = ticks_finish c rules core_rules (usual c rules core_rules) Told (told_silent k core i) last there.end there.related completes.over
+      there.has_begun in
+      record {
+        run = first.run ++ (there.run ++ (threads corr ends.log ++ []));
+        end = ends.last;
+        completes =
+            record {
+              runs =
+                  replay_append (machine core) first.run (there.run ++ (threads corr ends.log ++ [])) d first.last first.runs
+                  ∙ (replay_append (machine core) there.run (threads corr ends.log ++ []) first.last there.end there.runs
+                  ∙ replay_behind (machine core) corr Told ends.log there.end ends.last [] ends.follows);
+              over = rested_over c rules core_rules last ends.last ends.reaches completes.over;
+            };
+        rested = record { rests = ends.reaches; over = completes.over };
+        owns = there.owns;
       }
 
   -- ---- between two ticks
@@ -135,12 +193,8 @@ module _ (c : Chart) (rules : IsChart features.Extended c) (core_rules : IsChart
     abbrev pub GraphRests : Configuration → Type 0
     GraphRests d = (m : Control) × tick_starts.Between (expanded c) image.scl image.tables low is_valid d m
 
-    pub spares : SparesTests c rules core_rules (AreAccepted image.program) Told
-    spares = tests_are_spared c rules core_rules layered image
-
     pub record BothRest (before d : Configuration) : Type 0 where
       pub alike : RestsAlike c rules core_rules before d
-      pub spared : spares.Rests d
       pub owns : OwnTests k before
       pub reached : IsReached k before
       pub graph : GraphRests d
@@ -149,7 +203,6 @@ module _ (c : Chart) (rules : IsChart features.Extended c) (core_rules : IsChart
     begin_resting =
         record {
           alike = inl (refl, refl);
-          spared = spares.begins;
           owns = (own_tests_kept c rules core_rules).initially;
           reached = reached_first;
           graph = (
@@ -182,18 +235,18 @@ module _ (c : Chart) (rules : IsChart features.Extended c) (core_rules : IsChart
     after_tick : (inputs : Inputs) (before last d : Configuration) → AreAccepted image.program inputs → BothRest before d →
         Ends (machine k) (start k inputs before) last → (e : Configuration) × BothRest last e
     after_tick inputs before last d accepted both ends =
-        let t = ticks.tick_followed c rules core_rules layered Told (told_silent k core i) (OwnTests k) (own_tests_kept c rules core_rules)
-        (steps_followed c rules core_rules layered) (start k inputs before) last (start core inputs d) (started inputs before d both.alike)
-        ((own_tests_kept c rules core_rules).starts inputs before both.owns)
-        (spares.spared inputs before d accepted both.spared both.alike) ends in (
-          t.0,
+        let there : Rested last (start core inputs d) =
+        comes_to_rest ends.run (start k inputs before) last (start core inputs d) (started inputs before d both.alike)
+        ((own_tests_kept c rules core_rules).starts inputs before both.owns) ends.complete in (
+          there.end,
           record {
-            alike = inr t.2;
-            spared = spares.goes_on inputs d t.0 accepted both.spared t.1;
-            owns = t.3;
+            alike = inr there.rested;
+            owns = there.owns;
             reached = reached_on features.Extended c rules ends.run (start k inputs before) last (start_reached inputs before d accepted both)
                 ends.complete.runs;
-            graph = tick_starts.goes_to (expanded c) image.scl image.tables low is_valid inputs (takes inputs accepted) d both.graph.0 both.graph.1 t.0 t.1;
+            graph =
+                completes_to (expanded c) image.scl image.tables low is_valid inputs (takes inputs accepted) d both.graph.0 both.graph.1 there.run
+                there.end there.completes;
           },
         )
 
@@ -241,5 +294,8 @@ module _ (c : Chart) (rules : IsChart features.Extended c) (core_rules : IsChart
     pub each_tick_ends : EndsEachTick (chart_machine c) (AreAccepted image.program)
     each_tick_ends = record { most = most_steps; bounded = tick_bounded; goes_on = tick_goes_on }
 
+pub ticks_end : TicksEnd
+ticks_end c rules image low = each_tick_ends c rules low.core image low
+
 pub layered_ticks_end : LayeredTicksEnd
-layered_ticks_end c rules layered image low = each_tick_ends c rules low.core layered image low
+layered_ticks_end c rules layered = ticks_end c rules
