@@ -64,9 +64,9 @@ pub no_chart : (name bytes : List ℕ) (image : Image) (ticks said : List ℕ) (
     → TellsActive name bytes image ticks line said
 no_chart name bytes image ticks said line none is = inr (none, inl is)
 
-pub no_states : (name bytes : List ℕ) (image : Image) (ticks said : List ℕ) (line : ℕ) (f : LoadFault) → said ≡ [] → IsNoTextBeside name bytes image f
-    → IsReal f → TellsActive name bytes image ticks line said
-no_states name bytes image ticks said line f none is real = inr (none, inr (f, is, real))
+pub no_states : (name bytes : List ℕ) (image : Image) (ticks said : List ℕ) (line : ℕ) (f : LoadFault) → said ≡ [] → ¬ HasNoChart bytes
+    → IsNoTextBeside name bytes image f → IsReal f → TellsActive name bytes image ticks line said
+no_states name bytes image ticks said line f none chart is real = inr (none, inr (record { chart = chart; fault = f; none = is; real = real }))
 
 -- ---- what a comparison comes to
 

@@ -24,9 +24,16 @@ pub record TellsOfChart (bytes : List ℕ) (image : Image) (ticks : List ℕ) (l
   pub is : IsTextBeside bytes image states
   pub tells : TellsThem states image ticks line said
 
--- the bytes of the file of this name have no states: they are no chart, or for some fault not that of the image
+-- the bytes of the file of this name are a text, none of SCL, and for some fault not that of the image
+pub record IsOtherText (name bytes : List ℕ) (image : Image) : Type 0 where
+  pub chart : ¬ HasNoChart bytes
+  pub fault : LoadFault
+  pub none : IsNoTextBeside name bytes image fault
+  pub real : IsReal fault
+
+-- they have no states: they are no chart, or not that of the image
 abbrev pub HasNoStates : List ℕ → List ℕ → Image → Type 0
-HasNoStates name bytes image = HasNoChart bytes ⊎ ((f : LoadFault) × IsNoTextBeside name bytes image f × IsReal f)
+HasNoStates name bytes image = HasNoChart bytes ⊎ IsOtherText name bytes image
 
 -- what is told of the states: of a text that has none nothing
 abbrev pub TellsActive : List ℕ → List ℕ → Image → List ℕ → ℕ → List ℕ → Type 0

@@ -1,5 +1,5 @@
 -- From why two files do not give an image and its chart to why there are none.
-use Rattle.std.proofs.Common.{◌≡◌, ℕ, List, Option, inl, inr, refl, subst}
+use Rattle.std.proofs.Common.{◌≡◌, ℕ, List, Option, Result, Ok, Err, IfErr, inl, inr, refl, subst}
 use Rattle.bytecode.specs.Image.{Image}
 use Rattle.command_files.specs.declared.fault.LoadFault.{LoadFault}
 use Rattle.command_files.specs.declared.fault.LoadFault.TheVariants as load
@@ -70,3 +70,8 @@ pub another_behind : (files middle : Option Contents) (name chart written seen :
 another_behind files middle name chart written seen image f same again loaded held not =
     another_text files name chart written image f loaded (subst (λ m. HasBytes m chart written) same held)
     (subst (λ w. IsNoTextBeside chart w image f) again not)
+
+-- what holds, whichever fault it is
+pub refused_so : {T E : Type 0} (P : Type 0) (r : Result T E) → P → IfErr r (λ f. P)
+refused_so P (Ok done) so = tt
+refused_so P (Err f) so = so

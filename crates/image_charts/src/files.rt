@@ -1,6 +1,6 @@
 //! The text beside an image, and both in files.
 
-ghost use Rattle.std.specs.Prelude.{◌≡◌, ◌+◌, IfErr, IfNone, IfOk, IfSome, IsTrue, OnOk, Some, string_bytes};
+ghost use Rattle.std.specs.Prelude.{◌≡◌, ◌+◌, ◌↔◌, IfErr, IfNone, IfOk, IfSome, IsTrue, OnOk, Some, string_bytes};
 ghost use Rattle.command_files.specs.Counting.{files_failed};
 ghost use Rattle.image_charts.specs.Charts.{IsNotChartOf};
 ghost use Rattle.image_charts.specs.Files.{FilesLackStates, HasStates};
@@ -67,7 +67,7 @@ fn text_states(
 
 // Whether these bytes are no text, or one of SCL, which has no states.
 fn has_no_chart(written: &[u8]) -> bool
-    ensures { IsTrue result → HasNoChart written.now }
+    ensures { IsTrue result ↔ HasNoChart written.now }
 {
     if begins_extended(written) {
         return false;
@@ -82,8 +82,8 @@ fn has_no_chart(written: &[u8]) -> bool
 }
 
 /// The states that its author wrote in what is written in the file of this name, of which this is the image: those of
-/// a chart, and of an extended chart not those of the chart to which it is reduced. None: it is no text, or one of
-/// SCL, which has no states. Err: it is not the text of the image; or memory was refused.
+/// a chart, and of an extended chart not those of the chart to which it is reduced. None exactly where it is no text,
+/// or one of SCL, which has no states. Err: it is not the text of the image; or memory was refused.
 pub fn states_in(
     alloc: Global,
     name: &str,
@@ -92,7 +92,9 @@ pub fn states_in(
 ) -> Result<Option<Boxed<ChartStates>>, LoadFault>
     ensures found { IfOk result (λ states. IfSome states (IsTextBeside written.now image.now)) }
     ensures none { IfOk result (λ states. IfNone states (HasNoChart written.now)) }
+    ensures only { IfOk result (λ states. IfSome states (λ _. ¬ HasNoChart written.now)) }
     ensures lacks { IfErr result (IsNoTextBeside name.now written.now image.now) }
+    ensures refused { IfErr result (λ _. ¬ HasNoChart written.now) }
     ensures missed { IfErr result (λ fault. files_failed fault ≡ 0) }
 {
     if has_no_chart(written) {
