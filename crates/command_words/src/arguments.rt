@@ -5,7 +5,7 @@ ghost use Rattle.command_words.specs.Request.{seen, asked, asked_plainly, list_o
 ghost use Rattle.command_words.specs.Request.{are_names, compile_to, explains, json_by, json_of, migrate_to, test_of};
 ghost use Rattle.command_words.specs.Request.{tests_of};
 ghost use Rattle.command_words.specs.Request.{ruled_by, ruled_of, text_by, warns};
-ghost use Rattle.command_words.specs.Said.{names_seen, said_seen};
+ghost use Rattle.command_words.specs.Said.{One, Two, names_seen, said_seen};
 ghost use Rattle.command_words.specs.declared.arguments.Unread.TheVariants.{Memory};
 
 use crate::run_rules::RunRules;
@@ -184,21 +184,41 @@ fn migrate_to<'a>(from: &'a str, to: &'a str) -> Request<'a>
     }
 }
 
-// What another verb asks for with these names.
+// What another verb asks for with one name.
+fn asked_of_one<'a>(verb: &str, name: &'a str) -> Option<Request<'a>>
+    ensures { option_map seen result ≡ asked verb.now (One name.now) }
+{
+    match verb {
+        "check" => Some(Request::Write(Wanted::Summary(name))),
+        "core" => Some(Request::Write(Wanted::Core(name))),
+        "reduce" => Some(Request::Write(Wanted::Reduced(name))),
+        "dot" => Some(Request::Write(Wanted::Drawing(name))),
+        "scl" => Some(Request::Print(name)),
+        "explain" => Some(Request::Explain(name)),
+        "simulate" => Some(Request::Simulate(name)),
+        _ => None,
+    }
+}
+
+// And with two.
+fn asked_of_two<'a>(verb: &str, from: &'a str, to: &'a str) -> Option<Request<'a>>
+    ensures { option_map seen result ≡ asked verb.now (Two from.now to.now) }
+{
+    match verb {
+        "compile" => Some(compile_to(from, to)),
+        "migrate" => Some(migrate_to(from, to)),
+        _ => None,
+    }
+}
+
+// And with these.
 fn asked<'a>(verb: &str, names: Names<'a>) -> Option<Request<'a>>
     ensures { option_map seen result ≡ asked verb.now (names_seen names.entry) }
 {
     match names {
-        Names::One(name) if verb == "check" => Some(Request::Write(Wanted::Summary(name))),
-        Names::One(name) if verb == "core" => Some(Request::Write(Wanted::Core(name))),
-        Names::One(name) if verb == "reduce" => Some(Request::Write(Wanted::Reduced(name))),
-        Names::One(name) if verb == "dot" => Some(Request::Write(Wanted::Drawing(name))),
-        Names::One(name) if verb == "scl" => Some(Request::Print(name)),
-        Names::One(name) if verb == "explain" => Some(Request::Explain(name)),
-        Names::One(name) if verb == "simulate" => Some(Request::Simulate(name)),
-        Names::Two(from, to) if verb == "compile" => Some(compile_to(from, to)),
-        Names::Two(from, to) if verb == "migrate" => Some(migrate_to(from, to)),
-        _ => None,
+        Names::One(name) => asked_of_one(verb, name),
+        Names::Two(from, to) => asked_of_two(verb, from, to),
+        Names::None => None,
     }
 }
 
@@ -330,7 +350,7 @@ fn asked_of<'a>(words: &'a [String]) -> Option<Asking<'a>>
 
 // What is shown for words that ask for nothing.
 fn why_unread(alloc: Global, words: &[String]) -> Result<Unread, AllocError> {
-    match sct_command(alloc)?.try_get_matches_from(words) {
+    match sct_command(alloc)?.into_inner().try_get_matches_from(words) {
         Ok(_) => Ok(Unread::Shown {
             text: String::from_str(alloc, "error: no such command\n")?,
             asked: false,

@@ -2,6 +2,7 @@
 #![tactic(auto)]
 
 mod arguments;
+mod parts;
 mod run_rules;
 mod run_verb;
 mod said;

@@ -1,7 +1,8 @@
 //! The verb `run`, as the library of command lines knows it.
 
-use crate::verbs::{image_name, over_one, with};
+use crate::parts::{image_name, over_one, with};
 use clap::{Arg, ArgAction, Command};
+use sqlite_items::Boxed;
 use std::alloc::{AllocError, Global};
 
 // What can be said of workers.
@@ -54,7 +55,7 @@ fn states_option<'a>(alloc: Global) -> Result<Arg<'a>, AllocError> {
 }
 
 /// The command that plays.
-pub(crate) fn run_command<'a>(alloc: Global) -> Result<Command<'a>, AllocError> {
+pub(crate) fn run_command<'a>(alloc: Global) -> Result<Boxed<Command<'a>>, AllocError> {
     let command = over_one(
         alloc,
         "run",
@@ -62,7 +63,8 @@ pub(crate) fn run_command<'a>(alloc: Global) -> Result<Command<'a>, AllocError> 
         RUN_HELP,
         image_name(alloc),
     )?;
-    let command = with(command.arg(workers_option(alloc)), states_option(alloc))?;
+    let command = with(alloc, command, workers_option(alloc))?;
+    let command = with(alloc, command, states_option(alloc)?)?;
     with_rules(alloc, command)
 }
 
@@ -88,13 +90,16 @@ fn rule_file<'a>(alloc: Global, name: &'a str, about: &'a str) -> Result<Arg<'a>
 }
 
 // With the rules of a run.
-fn with_rules<'a>(alloc: Global, command: Command<'a>) -> Result<Command<'a>, AllocError> {
+fn with_rules<'a>(
+    alloc: Global,
+    command: Boxed<Command<'a>>,
+) -> Result<Boxed<Command<'a>>, AllocError> {
     let strict = "Each line has to name every input; one thread serves";
-    let command = with(Ok(command), rule_flag(alloc, "strict", strict))?;
+    let command = with(alloc, command, rule_flag(alloc, "strict", strict)?)?;
     let skips = "A line that gives no inputs is answered and passed over; one thread serves";
-    let command = with(Ok(command), rule_flag(alloc, "skip-bad-lines", skips))?;
+    let command = with(alloc, command, rule_flag(alloc, "skip-bad-lines", skips)?)?;
     let from = "Begin at the place that is in this file; one thread serves";
-    let command = with(Ok(command), rule_file(alloc, "from", from))?;
+    let command = with(alloc, command, rule_file(alloc, "from", from)?)?;
     let save = "Write the place where it ends to this file; one thread serves";
-    with(Ok(command), rule_file(alloc, "save", save))
+    with(alloc, command, rule_file(alloc, "save", save)?)
 }

@@ -1,7 +1,9 @@
 //! The verbs, with their help, as the library of command lines knows them. It is asked where words ask for nothing.
 
+use crate::parts::{file_name, image_name, over_one, source_name, with};
 use crate::run_verb::run_command;
 use clap::{Arg, ArgAction, Command};
+use sqlite_items::Boxed;
 use std::alloc::{AllocError, Global};
 
 // The verbs.
@@ -83,54 +85,8 @@ Examples:
 // The file that a command writes.
 const WRITTEN: &str = "The file that is written, or - for standard output";
 
-// The operand of a command that is the name of a file.
-fn file_name<'a>(alloc: Global, name: &'a str, shown: &'a str, about: &'a str) -> Arg<'a> {
-    Arg::new(alloc, name)
-        .value_name(shown)
-        .help(about)
-        .required(true)
-        .action(ArgAction::Set)
-}
-
-// The operand that is a source text.
-fn source_name<'a>(alloc: Global) -> Arg<'a> {
-    file_name(
-        alloc,
-        "file",
-        "FILE",
-        "The file of the chart or SCL text, or - for standard input",
-    )
-}
-
-/// The operand that is an image.
-pub(crate) fn image_name<'a>(alloc: Global) -> Arg<'a> {
-    file_name(alloc, "image", "IMAGE", "The file of the image")
-}
-
-/// A command over one file.
-pub(crate) fn over_one<'a>(
-    alloc: Global,
-    verb: &'a str,
-    about: &'a str,
-    example: &'a str,
-    operand: Arg<'a>,
-) -> Result<Command<'a>, AllocError> {
-    Command::new(alloc, verb)
-        .about(about)
-        .after_help(example)
-        .arg(operand)
-}
-
-/// The command with one more thing that can be asked of it. No other value is held where one of both was refused.
-pub(crate) fn with<'a>(
-    command: Result<Command<'a>, AllocError>,
-    option: Result<Arg<'a>, AllocError>,
-) -> Result<Command<'a>, AllocError> {
-    command?.arg(option?)
-}
-
 // The command that verifies.
-fn check_command<'a>(alloc: Global) -> Result<Command<'a>, AllocError> {
+fn check_command<'a>(alloc: Global) -> Result<Boxed<Command<'a>>, AllocError> {
     over_one(
         alloc,
         "check",
@@ -171,7 +127,7 @@ fn states_option<'a>(alloc: Global) -> Result<Arg<'a>, AllocError> {
 }
 
 // The command that shows an image to people.
-fn list_command<'a>(alloc: Global) -> Result<Command<'a>, AllocError> {
+fn list_command<'a>(alloc: Global) -> Result<Boxed<Command<'a>>, AllocError> {
     let command = over_one(
         alloc,
         "list",
@@ -179,12 +135,13 @@ fn list_command<'a>(alloc: Global) -> Result<Command<'a>, AllocError> {
         LIST_EXAMPLES,
         image_name(alloc),
     )?;
-    let command = with(command.arg(places_option(alloc)), json_option(alloc));
-    with(command, states_option(alloc))
+    let command = with(alloc, command, places_option(alloc))?;
+    let command = with(alloc, command, json_option(alloc)?)?;
+    with(alloc, command, states_option(alloc)?)
 }
 
 // The command that prints a text.
-fn scl_command<'a>(alloc: Global) -> Result<Command<'a>, AllocError> {
+fn scl_command<'a>(alloc: Global) -> Result<Boxed<Command<'a>>, AllocError> {
     over_one(
         alloc,
         "scl",
@@ -195,7 +152,7 @@ fn scl_command<'a>(alloc: Global) -> Result<Command<'a>, AllocError> {
 }
 
 // The command that prints what a chart is expanded to.
-fn core_command<'a>(alloc: Global) -> Result<Command<'a>, AllocError> {
+fn core_command<'a>(alloc: Global) -> Result<Boxed<Command<'a>>, AllocError> {
     over_one(
         alloc,
         "core",
@@ -211,7 +168,7 @@ fn core_command<'a>(alloc: Global) -> Result<Command<'a>, AllocError> {
 }
 
 // The command that prints what an extended chart is reduced to.
-fn reduce_command<'a>(alloc: Global) -> Result<Command<'a>, AllocError> {
+fn reduce_command<'a>(alloc: Global) -> Result<Boxed<Command<'a>>, AllocError> {
     over_one(
         alloc,
         "reduce",
@@ -227,7 +184,7 @@ fn reduce_command<'a>(alloc: Global) -> Result<Command<'a>, AllocError> {
 }
 
 // The command that tells why a text has no image.
-fn explain_command<'a>(alloc: Global) -> Result<Command<'a>, AllocError> {
+fn explain_command<'a>(alloc: Global) -> Result<Boxed<Command<'a>>, AllocError> {
     over_one(
         alloc,
         "explain",
@@ -238,7 +195,7 @@ fn explain_command<'a>(alloc: Global) -> Result<Command<'a>, AllocError> {
 }
 
 // The command that draws.
-fn dot_command<'a>(alloc: Global) -> Result<Command<'a>, AllocError> {
+fn dot_command<'a>(alloc: Global) -> Result<Boxed<Command<'a>>, AllocError> {
     over_one(
         alloc,
         "dot",
@@ -269,19 +226,19 @@ fn write_option<'a>(alloc: Global) -> Arg<'a> {
 }
 
 // The command that tests.
-fn test_command<'a>(alloc: Global) -> Result<Command<'a>, AllocError> {
-    over_one(
+fn test_command<'a>(alloc: Global) -> Result<Boxed<Command<'a>>, AllocError> {
+    let command = over_one(
         alloc,
         "test",
         "Plays controllers over their ticks, and compares what they give with their traces",
         TEST_HELP,
         tested_files(alloc),
-    )?
-    .arg(write_option(alloc))
+    )?;
+    with(alloc, command, write_option(alloc))
 }
 
 // The command that steps.
-fn simulate_command<'a>(alloc: Global) -> Result<Command<'a>, AllocError> {
+fn simulate_command<'a>(alloc: Global) -> Result<Boxed<Command<'a>>, AllocError> {
     over_one(
         alloc,
         "simulate",
@@ -292,7 +249,7 @@ fn simulate_command<'a>(alloc: Global) -> Result<Command<'a>, AllocError> {
 }
 
 // The command over two files.
-fn migrate_command<'a>(alloc: Global) -> Result<Command<'a>, AllocError> {
+fn migrate_command<'a>(alloc: Global) -> Result<Boxed<Command<'a>>, AllocError> {
     let old = file_name(
         alloc,
         "old",
@@ -301,7 +258,8 @@ fn migrate_command<'a>(alloc: Global) -> Result<Command<'a>, AllocError> {
     );
     let example = "Example:\n  sct migrate examples/v1/two_threads.image two_threads.image";
     let about = "Writes an image in version 2 of the layout";
-    over_one(alloc, "migrate", about, example, old)?.arg(file_name(alloc, "new", "NEW", WRITTEN))
+    let command = over_one(alloc, "migrate", about, example, old)?;
+    with(alloc, command, file_name(alloc, "new", "NEW", WRITTEN))
 }
 
 // Whether what a chart most likely does not mean is told.
@@ -315,16 +273,16 @@ fn warn_option<'a>(alloc: Global) -> Arg<'a> {
 }
 
 // The command that takes a text to an image.
-fn compile_command<'a>(alloc: Global) -> Result<Command<'a>, AllocError> {
-    over_one(
+fn compile_command<'a>(alloc: Global) -> Result<Boxed<Command<'a>>, AllocError> {
+    let command = over_one(
         alloc,
         "compile",
         "Compiles a chart or an SCL text to an image",
         COMPILE_EXAMPLES,
         source_name(alloc),
-    )?
-    .arg(file_name(alloc, "image", "IMAGE", WRITTEN))?
-    .arg(warn_option(alloc))
+    )?;
+    let command = with(alloc, command, file_name(alloc, "image", "IMAGE", WRITTEN))?;
+    with(alloc, command, warn_option(alloc))
 }
 
 // What can be asked of each verb but one: words behind a fault.
@@ -336,7 +294,7 @@ fn explain_option<'a>(alloc: Global) -> Arg<'a> {
 }
 
 // What is known of a verb.
-fn described<'a>(alloc: Global, verb: Verb) -> Result<Command<'a>, AllocError> {
+fn described<'a>(alloc: Global, verb: Verb) -> Result<Boxed<Command<'a>>, AllocError> {
     match verb {
         Verb::Compile => compile_command(alloc),
         Verb::Scl => scl_command(alloc),
@@ -354,8 +312,9 @@ fn described<'a>(alloc: Global, verb: Verb) -> Result<Command<'a>, AllocError> {
 }
 
 // The program, without its verbs.
-fn program<'a>(alloc: Global) -> Result<Command<'a>, AllocError> {
-    Ok(
+fn program<'a>(alloc: Global) -> Result<Boxed<Command<'a>>, AllocError> {
+    Boxed::new(
+        alloc,
         Command::new(alloc, "sct")
             .bin_name("sct")?
             .version("0.1.0")
@@ -368,27 +327,29 @@ fn program<'a>(alloc: Global) -> Result<Command<'a>, AllocError> {
 }
 
 // The verb with what can be asked of it. Tests are told in words as they are.
-fn whole<'a>(alloc: Global, verb: Verb) -> Result<Command<'a>, AllocError> {
+fn whole<'a>(alloc: Global, verb: Verb) -> Result<Boxed<Command<'a>>, AllocError> {
     let described = described(alloc, verb)?;
     match verb {
         Verb::Test => Ok(described),
-        _ => described.arg(explain_option(alloc)),
+        _ => with(alloc, described, explain_option(alloc)),
     }
 }
 
 // The program with one more verb.
 fn with_verb<'a>(
-    command: Command<'a>,
-    verb: Result<Command<'a>, AllocError>,
-) -> Result<Command<'a>, AllocError> {
-    command.subcommand(verb?)
+    alloc: Global,
+    command: Boxed<Command<'a>>,
+    verb: Boxed<Command<'a>>,
+) -> Result<Boxed<Command<'a>>, AllocError> {
+    let command = command.into_inner().subcommand(verb.into_inner())?;
+    Boxed::new(alloc, command)
 }
 
 /// The program with all its verbs. Err: memory was refused.
-pub(crate) fn sct_command<'a>(alloc: Global) -> Result<Command<'a>, AllocError> {
+pub(crate) fn sct_command<'a>(alloc: Global) -> Result<Boxed<Command<'a>>, AllocError> {
     let mut command = program(alloc)?;
     for verb in VERBS {
-        command = with_verb(command, whole(alloc, verb))?;
+        command = with_verb(alloc, command, whole(alloc, verb)?)?;
     }
     Ok(command)
 }
