@@ -1,5 +1,5 @@
-// What the compiler says of the text: its verdict, faults and warnings, with their places in the text and in the drawing. Of an
-// extended chart some places are those of the chart to which it is reduced: these are shown where the author's part is.
+// What the compiler says of the text: its verdict, faults and warnings, with their places in the text and in the drawing. What a
+// program without places of extended charts tells of the chart to which one is reduced is shown where the author's part is.
 "use strict";
 
 class Verdict {

@@ -206,7 +206,7 @@ def extended_folds(tools):
 
 
 def extended_fault(tools):
-    """A fault is marked at its place while the text is typed. One of the reduced chart, and a warning of it, is marked at the author's part."""
+    """A fault is marked at its place while the text is typed, one behind the reduction too. So is a warning."""
     text = "/* a\n   lamp */ extended chart P {\n  output int x;\n  region R {\n    initial state s { entry do x = y; go after 2 -> t; }\n    state t;\n  }\n}\n"
     fresh(tools, text)
     expect(tools.browser.js("return [...document.querySelectorAll('.mark.fault')].map((one) => [one.dataset.line, one.dataset.column])"), [["5", "36"]], "the mark")
@@ -220,15 +220,15 @@ def extended_fault(tools):
     late = text_of("docs", "extended.md").split("```refused\nchart Boiler")[1].split("```")[0]
     fresh(tools, "extended chart Boiler" + late.replace("initial state On {", "initial state On {\n      entry do alarm = false;"))
     headline = tools.browser.js("return document.querySelector('#verdict .headline').textContent")
-    expect(headline.startswith("reduced chart ") and "E12" in headline, True, f"the words {headline}")
+    expect(headline.startswith("9:7: E12 "), True, f"the words {headline}")
     faults = tools.browser.js("return [...document.querySelectorAll('#drawing .fault')].map((one) => one.dataset.path).sort()")
-    expect(faults, ["Main.On#0", "Main.On/Heater.Heat#0"], "what is marked of a fault of the reduced chart")
-    never = "extended chart W {\n  input bool a;\n  output int x;\n  region R {\n    initial state s {\n      entry do x = 1;\n      go -> t;\n      go if a -> s;\n    }\n    state t;\n  }\n}\n"
-    fresh(tools, never)
-    expect(marked_lines(tools, "warned"), [8], "the line that is marked of a warning of the reduced chart")
+    expect(faults, ["Main.On#0", "Main.On/Heater.Heat#0"], "what is marked of a fault behind the reduction")
+    stays_on = next(text for text in text_of("docs", "extended.md").split("```extended\n") if "chart Winch" in text).split("```")[0]
+    fresh(tools, stays_on)
+    expect(marked_lines(tools, "warned"), [11], "the lines that are marked of warnings")
     tools.browser.click("#verdict button")
     at = tools.browser.js("return document.getElementById('text').selectionStart")
-    expect(never[at:at + 7], "go if a", "where a click on a warning goes")
+    expect(stays_on[at:at + 14], "strong if stop", "where a click on a warning goes")
     quiet(tools)
 
 

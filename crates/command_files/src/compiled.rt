@@ -8,13 +8,13 @@ use crate::fault::LoadFault;
 use crate::files::Files;
 use crate::source::read_bytes;
 use crate::standing::source_of;
-use compiler::compile_scl;
-use source_programs::ReadSource;
+use source_programs::{ReadSource, compile_source};
 use sqlite_items::Boxed;
 use std::alloc::Global;
 use verifier::Verified;
 
-/// Why bytes have no image; and where they are a text with an SCL program, the text as it was read.
+/// Why bytes have no image; and where they are a text with an SCL program, the text as it was read, with the graph of
+/// that where it has one.
 #[derive(Drop)]
 pub struct Unmade<'a> {
     pub fault: LoadFault,
@@ -51,11 +51,11 @@ pub fn compile_read<'a>(alloc: Global, bytes: &'a [u8]) -> Result<Verified, Unma
         Ok(source) => source,
         Err(fault) => return Err(Unmade::unread(fault)),
     };
-    match compile_scl(alloc, source.get().scl()) {
+    match compile_source(alloc, source) {
         Ok(image) => Ok(image),
-        Err(fault) => Err(Unmade {
-            fault: LoadFault::Program(fault),
-            source: Some(source),
+        Err(uncompiled) => Err(Unmade {
+            fault: LoadFault::Program(uncompiled.fault),
+            source: uncompiled.source,
         }),
     }
 }

@@ -2,3 +2,4 @@ pub mod Cores
 pub mod Lacking
 pub mod Placed
 pub mod Drawn
+pub mod Sourced

@@ -14,7 +14,7 @@ use Rattle.source_programs.specs.Programs.{SpellsIn}
 use Rattle.command_files.specs.declared.fault.LoadFault.{LoadFault}
 use Rattle.command_files.specs.declared.fault.LoadFault.TheVariants as load
 use Rattle.command_files.specs.Files.{Contents}
-use Rattle.command_files.specs.Standing.{HasSource, SourceLacks}
+use Rattle.command_files.specs.Standing.{StandsFor, HasSource, BytesLackSource, SourceLacks}
 use Rattle.command_files.specs.Sources.{TextLacksProgram, BytesLackProgram}
 
 -- ---- what there is
@@ -38,6 +38,13 @@ pub record HasDrawingIn (files : Option Contents) (name : List ℕ) : Type 0 whe
   pub held : HasSource files name bytes
   pub is_text : IsUtf8 bytes
   pub drawn : HasDrawing bytes
+
+-- these bytes stand for a source that is such a text
+pub record HasDrawnSource (written : List ℕ) : Type 0 where
+  pub source : List ℕ
+  pub stands : StandsFor written source
+  pub is_text : IsUtf8 source
+  pub drawn : HasDrawing source
 
 -- ---- why there is none
 
@@ -64,3 +71,7 @@ BytesLackDrawing bytes f = BytesLackProgram bytes f ⊎ TextLacksGraph bytes f
 -- there is no program in this file, or its text is SCL and has no graph
 abbrev pub FileLacksDrawing : Option Contents → List ℕ → LoadFault → Type 0
 FileLacksDrawing files name f = SourceLacks BytesLackDrawing files name f
+
+-- these bytes stand for no source, or for one that has none
+abbrev pub LacksDrawnSource : List ℕ → LoadFault → Type 0
+LacksDrawnSource written f = BytesLackSource written f ⊎ ((source : List ℕ) × StandsFor written source × BytesLackDrawing source f)

@@ -2,6 +2,7 @@ pub mod Cores
 pub mod Reductions
 pub mod Drawing
 pub mod Images
+pub mod Inside
 pub mod Json
 pub mod Listing
 pub mod Summary

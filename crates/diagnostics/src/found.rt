@@ -1,6 +1,6 @@
 //! What stands at a place of a text.
 
-use crate::lines::name_at;
+use node_sources::name_at;
 use std::alloc::{AllocError, Global};
 
 /// Whether this piece stands at a byte of a text.

@@ -2,6 +2,7 @@
 //! what helps.
 #![tactic(auto)]
 
+mod author_report;
 mod could;
 mod edges;
 mod expected;
@@ -25,7 +26,8 @@ mod unknown_words;
 mod walks;
 mod words;
 
+pub use author_report::author_fault_told;
 pub use line_columns::{LineColumn, line_column_of};
-pub use lines::{marked_line, name_at};
+pub use lines::marked_line;
 pub use program_report::{program_fault_explained, program_fault_told};
 pub use report::{explained, line_column_text, text_fault_explained, told_nowhere};

@@ -1,8 +1,8 @@
 //! A limit that is passed, in words.
 
 use crate::fronts::{front_of, last_token};
-use crate::lines::name_at;
 use crate::words::Words;
+use node_sources::name_at;
 use sc_text::{ReadFault, TokenKind, Word, tokens};
 use std::alloc::{AllocError, Global};
 use text_continuations::Grammar;

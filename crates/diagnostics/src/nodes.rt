@@ -2,9 +2,10 @@
 
 use crate::edges::{name_of, written};
 use crate::line_columns::LineColumn;
-use crate::lines::{margin, marked_line, name_at};
+use crate::lines::{margin, marked_line};
 use compiler::LinkedProgram;
-use node_sources::{Origin, Part, Positions};
+use extended_nodes::AuthorNode;
+use node_sources::{Origin, Part, Positions, name_at};
 use sc_graph::{Links, NodeId, Program, Step};
 use sc_values::Name;
 use sqlite_items::Items;
@@ -20,7 +21,16 @@ pub(crate) struct Shown<'a> {
     pub(crate) positions: Positions<'a>,
     pub(crate) program: &'a Program,
     pub(crate) links: &'a Links,
-    pub(crate) origins: Items<Origin>,
+    nodes: Items<Option<AuthorNode>>,
+}
+
+// The nodes of a program that a text itself makes: none of them is made.
+fn own_nodes(alloc: Global, origins: &[Origin]) -> Result<Items<Option<AuthorNode>>, AllocError> {
+    let mut nodes = Items::new(alloc);
+    for origin in origins {
+        nodes.push(Some(AuthorNode::own(*origin)))?;
+    }
+    Ok(nodes)
 }
 
 impl<'a> Shown<'a> {
@@ -29,7 +39,19 @@ impl<'a> Shown<'a> {
         alloc: Global,
         text: &'a str,
         graph: &'a LinkedProgram,
-        origins: Items<Origin>,
+        origins: &[Origin],
+    ) -> Result<Shown<'a>, AllocError> {
+        let nodes = own_nodes(alloc, origins)?;
+        Shown::in_author(alloc, text, graph, nodes)
+    }
+
+    /// The graph of a reduced chart, and where its nodes come from in the text of the extended one. Err: memory was
+    /// refused.
+    pub(crate) fn in_author(
+        alloc: Global,
+        text: &'a str,
+        graph: &'a LinkedProgram,
+        nodes: Items<Option<AuthorNode>>,
     ) -> Result<Shown<'a>, AllocError> {
         let positions = Positions::of(alloc, text)?;
         Ok(Shown {
@@ -37,15 +59,31 @@ impl<'a> Shown<'a> {
             positions,
             program: graph.program(),
             links: graph.links(),
-            origins,
+            nodes,
         })
+    }
+
+    // Where a node comes from, and whether it is made.
+    fn node(&self, node: NodeId) -> Option<AuthorNode> {
+        match self.nodes.get(node as usize) {
+            Some(found) => *found,
+            None => None,
+        }
     }
 
     /// The origin of a node.
     pub(crate) fn origin(&self, node: NodeId) -> Option<Origin> {
-        match self.origins.get(node as usize) {
-            Some(origin) => Some(*origin),
+        match self.node(node) {
+            Some(found) => Some(found.origin),
             None => None,
+        }
+    }
+
+    // Whether a node is made.
+    fn is_made(&self, node: NodeId) -> bool {
+        match self.node(node) {
+            Some(found) => found.is_made,
+            None => false,
         }
     }
 
@@ -124,6 +162,11 @@ fn state_text(alloc: Global, text: &str, state: Option<usize>) -> Result<String,
     }
 }
 
+/// What is said of what is made, and stands at the place of that for which it is.
+pub(crate) fn made_text(is_made: bool) -> &'static str {
+    if is_made { " (made)" } else { "" }
+}
+
 /// A node: its number and place, what it does, and, where it is one of the first, its line with a mark. Err: memory was
 /// refused.
 pub(crate) fn node_text(
@@ -141,12 +184,13 @@ pub(crate) fn node_text(
     let line = line_column.line;
     let column = line_column.column;
     let around = around_text(alloc, shown.text, origin)?;
+    let made = made_text(shown.is_made(node));
     let marked = if number < SHOWN {
         marked_line(alloc, shown.text, origin.at, line_column)?
     } else {
         String::new(alloc)
     };
-    format!(in alloc; "node {node} at {line}:{column} {does}{what}{around}\n{marked}")
+    format!(in alloc; "node {node} at {line}:{column} {does}{what}{around}{made}\n{marked}")
 }
 
 /// What is said below the line of a node. Err: memory was refused.

@@ -7,12 +7,13 @@ ghost use Rattle.scl_graph.specs.Answers.{IsGraph};
 
 use crate::line_columns::line_column_of;
 use crate::lines::marked_line;
-use crate::nodes::{Shown, around_text};
+use crate::nodes::{Shown, around_text, made_text};
 use crate::program_words::in_words;
 use crate::report::{help, line_column_text};
 use crate::walks::{conflict_text, first_node, place_text, walk_text};
 use compiler::{CompileFault, LinkedProgram, graph_of_scl};
 use conflict_edges::ConflictFault;
+use extended_nodes::AuthorNode;
 use node_sources::{Origin, label_origin, origins_in};
 use priority_weights::TablesFault;
 use sc_graph::NodeId;
@@ -54,23 +55,35 @@ pub fn program_fault_told(
     ensures { IfOk result (λ report. Tells name.now (fault_text fault.now) (string_bytes report)) }
 {
     let shown = shown_in(alloc, source, fault)?;
+    reported(alloc, name, &shown, fault)
+}
+
+/// The report of a fault, of which this is shown. Err: memory was refused.
+pub(crate) fn reported(
+    alloc: Global,
+    name: &str,
+    shown: &Report,
+    fault: &CompileFault,
+) -> Result<String, AllocError>
+    ensures { IfOk result (λ report. Tells name.now (fault_text fault.now) (string_bytes report)) }
+{
     let told = in_words(fault);
     let cause = told.cause;
     let help = help(alloc, told.cure)?;
-    let place = shown.place;
-    let body = shown.body;
+    let place = shown.place.as_str();
+    let body = shown.body.as_str();
     format!(in alloc; "{name}{place}: {fault}: {cause}\n{body}{help}")
 }
 
-// What a report says of places: that of the whole, and the lines behind its first.
+/// What a report says of places: that of the whole, and the lines behind its first.
 #[derive(Drop)]
-struct Report {
+pub(crate) struct Report {
     place: String,
     body: String,
 }
 
-// A report without places.
-fn nowhere(alloc: Global) -> Report {
+/// A report without places.
+pub(crate) fn nowhere(alloc: Global) -> Report {
     Report {
         place: String::new(alloc),
         body: String::new(alloc),
@@ -117,9 +130,18 @@ fn shown_label(alloc: Global, source: &ReadSource<'_>, label: Name) -> Result<Re
     let Some(origin) = label_origin(alloc, source, label)? else {
         return Ok(nowhere(alloc));
     };
-    let text = source.text();
-    let place = place_of(alloc, text, Some(origin))?;
-    let body = label_text(alloc, text, label, origin)?;
+    label_report(alloc, source.text(), label, AuthorNode::own(origin))
+}
+
+/// A label, at the place of what it comes from. Err: memory was refused.
+pub(crate) fn label_report(
+    alloc: Global,
+    text: &str,
+    label: Name,
+    found: AuthorNode,
+) -> Result<Report, AllocError> {
+    let place = place_of(alloc, text, Some(found.origin))?;
+    let body = label_text(alloc, text, label, found)?;
     Ok(Report { place, body })
 }
 
@@ -128,11 +150,24 @@ fn label_text(
     alloc: Global,
     text: &str,
     label: Name,
-    origin: Origin,
+    found: AuthorNode,
 ) -> Result<String, AllocError> {
+    let origin = found.origin;
     let around = around_text(alloc, text, origin)?;
+    let made = made_text(found.is_made);
     let marked = marked_line(alloc, text, origin.at, line_column_of(text, origin.at))?;
-    format!(in alloc; "label {label}{around}\n{marked}")
+    format!(in alloc; "label {label}{around}{made}\n{marked}")
+}
+
+/// The nodes of a fault, which are shown so. Err: memory was refused.
+pub(crate) fn node_report(
+    alloc: Global,
+    shown: &Shown<'_>,
+    fault: &CompileFault,
+) -> Result<Report, AllocError> {
+    let body = nodes_of(alloc, shown, fault)?;
+    let place = first_place(alloc, shown, fault)?;
+    Ok(Report { place, body })
 }
 
 // The nodes of a fault, by the graph that was made of the text.
@@ -170,10 +205,8 @@ fn nodes_in(
     requires { IsGraph source.now.scl graph.now }
 {
     let origins = origins_in(alloc, source, graph.program())?;
-    let shown = Shown::of(alloc, source.text(), graph, origins)?;
-    let body = nodes_of(alloc, &shown, fault)?;
-    let place = first_place(alloc, &shown, fault)?;
-    Ok(Report { place, body })
+    let shown = Shown::of(alloc, source.text(), graph, origins.as_slice())?;
+    node_report(alloc, &shown, fault)
 }
 
 // The lines of the nodes of a fault.

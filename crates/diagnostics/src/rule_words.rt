@@ -2,8 +2,8 @@
 
 use crate::extended_rules::extended_name_words;
 use crate::fronts::{front_of, last_token};
-use crate::lines::name_at;
 use crate::words::Words;
+use node_sources::name_at;
 use sc_text::{Sign, Token, TokenKind, Word, tokens};
 use std::alloc::{AllocError, Global};
 use text_continuations::Grammar;

@@ -1,9 +1,9 @@
 //! A name that is not declared, in words.
 
 use crate::fronts::{front_of, last_token};
-use crate::lines::name_at;
 use crate::near_names::nearest;
 use crate::words::Words;
+use node_sources::name_at;
 use sc_text::{Language, Sign, TokenKind, Word};
 use std::alloc::{AllocError, Global};
 use text_continuations::Grammar;

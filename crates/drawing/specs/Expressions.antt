@@ -1,7 +1,7 @@
 -- How an expression is written in a drawing: in the words of chart text, with no parentheses but those without which it
 -- would be another one. Each operator has a level, as the grammar has it, from `or` to a minus sign; an operand stands in
 -- parentheses where its own level is too low for its place.
-use Rattle.std.specs.Prelude.{ℕ, ◌+◌, nat_lt, Bool, true, false, List, ◌++◌, codes}
+use Rattle.std.specs.Prelude.{ℕ, nat_lt, Bool, true, false, Option, Some, None, List, [], ◌++◌, slice_get, codes}
 use Rattle.sc_values.specs.declared.operator.UnaryOperator.{UnaryOperator}
 use Rattle.sc_values.specs.declared.operator.UnaryOperator.TheVariants as unary
 use Rattle.sc_values.specs.declared.operator.BinaryOperator.{BinaryOperator}
@@ -11,7 +11,9 @@ use Rattle.sc_values.specs.declared.expression.Expr.TheOpen.{Expr-F}
 use Rattle.sc_values.specs.declared.expression.Expr.TheOpen as tree
 use Rattle.sc_values.specs.declared.expression.Expr.TheFolds.{fold-Expr}
 use Rattle.sc_graph.specs.declared.program.Variable.{Variable}
-use Rattle.scl_printer.specs.Expressions.{value_text, variable_text, prefix_text, divisor_text, opening_text, infix_text, closing_text}
+use Rattle.scl_printer.specs.Expressions.{value_text, prefix_text, divisor_text, opening_text, infix_text, closing_text}
+use Rattle.drawing.specs.declared.symbols.Symbol.{Symbol}
+use Rattle.drawing.specs.declared.symbols.Symbol.TheVariants as symbol
 
 -- ---- levels
 
@@ -72,6 +74,26 @@ right_level binary.Multiply = 7
 right_level binary.Min = 0
 right_level binary.Max = 0
 
+-- ---- what numbers name
+
+-- a variable is named by its name
+abbrev pub symbol_of : Variable → Symbol
+symbol_of v = symbol.Named v.name
+
+abbrev pub own_name : Option Symbol → List ℕ
+own_name None = []
+own_name (Some (symbol.Named name)) = name
+own_name (Some (symbol.Before x)) = []
+
+abbrev pub named_text : List Symbol → Option Symbol → List ℕ
+named_text symbols None = []
+named_text symbols (Some (symbol.Named name)) = name
+named_text symbols (Some (symbol.Before x)) = codes "pre(" ++ (own_name (slice_get symbols x) ++ codes ")")
+
+-- what has this number
+abbrev pub symbol_text : List Symbol → ℕ → List ℕ
+symbol_text symbols x = named_text symbols (slice_get symbols x)
+
 -- ---- texts
 
 -- an expression as it is written, and its level
@@ -87,20 +109,20 @@ enclosed_if false text = text
 abbrev pub operand : (least : ℕ) → Written → List ℕ
 operand least e = enclosed_if (nat_lt e.level least) e.text
 
-abbrev pub written_step : List Variable → Expr-F Written → Written
-written_step variables (tree.Literal v) = record { text = value_text v; level = whole }
-written_step variables (tree.Load x) = record { text = variable_text variables x; level = whole }
-written_step variables (tree.Unary f a) =
+abbrev pub written_step : List Symbol → Expr-F Written → Written
+written_step symbols (tree.Literal v) = record { text = value_text v; level = whole }
+written_step symbols (tree.Load x) = record { text = symbol_text symbols x; level = whole }
+written_step symbols (tree.Unary f a) =
     record { text = prefix_text f ++ (operand (unary_level f) a ++ divisor_text f); level = unary_level f }
-written_step variables (tree.Binary f a b) =
+written_step symbols (tree.Binary f a b) =
     record {
       text = opening_text f
           ++ (operand (left_level f) a ++ (infix_text f ++ (operand (right_level f) b ++ closing_text f)));
       level = binary_level f;
     }
 
-abbrev pub written : List Variable → Expr → Written
-written variables = fold-Expr Written (written_step variables)
+abbrev pub written : List Symbol → Expr → Written
+written symbols = fold-Expr Written (written_step symbols)
 
-abbrev pub sparing_text : List Variable → Expr → List ℕ
-sparing_text variables e = (written variables e).text
+abbrev pub sparing_text : List Symbol → Expr → List ℕ
+sparing_text symbols e = (written symbols e).text

@@ -5,9 +5,8 @@
 ghost use Rattle.std.specs.Prelude.{◌≡◌};
 ghost use Rattle.drawing.specs.Labels.{head_text, line_text, tail_text};
 
-use crate::labels::transition_text;
-use core_charts::{State, Transition, TransitionKind};
-use sc_graph::Variable;
+use crate::drawn::{Arrow, DrawnState};
+use core_charts::TransitionKind;
 use sqlite_items::at;
 use std::alloc::{AllocError, Global};
 
@@ -42,11 +41,10 @@ fn line_text(immediate: bool) -> &'static str
     if immediate { ", style=\"dashed\"" } else { "" }
 }
 
-/// The states of a region, the path of that, and the variables of the chart.
+/// The states of a region, and the path of that.
 #[derive(Clone, Copy)]
 pub(crate) struct Place<'a> {
-    pub(crate) variables: &'a [Variable],
-    pub(crate) states: &'a [State],
+    pub(crate) states: &'a [DrawnState],
     pub(crate) path: &'a str,
 }
 
@@ -67,21 +65,21 @@ fn side(end: &'static str, is_loop: bool) -> &'static str {
     if is_loop { end } else { "" }
 }
 
-// Puts the node of these words of a transition, and the arrows to it and from it, behind a text.
+// Puts the node of the words of a transition, and the arrows to it and from it, behind a text.
 fn put_arrows(
     alloc: Global,
     text: &mut String,
     place: Place<'_>,
     from: u32,
     number: u32,
-    transition: &Transition,
-    words: &str,
+    arrow: &Arrow,
 ) -> Result<(), AllocError> {
     let path = place.path;
-    let to = transition.target;
-    let line = line_text(transition.immediate);
-    let tail = tail_text(transition.kind);
-    let head = head_text(transition.kind);
+    let to = arrow.target;
+    let words = arrow.words.as_str();
+    let line = line_text(arrow.immediate);
+    let tail = tail_text(arrow.kind);
+    let head = head_text(arrow.kind);
     let left = cut(alloc, "ltail", place, from)?;
     let entered = cut(alloc, "lhead", place, to)?;
     let west = side(", headport=\"w\"", to == from);
@@ -101,8 +99,8 @@ fn put_arrows(
 }
 
 // Whether a transition of the state of this number shares an arrow.
-fn is_shared(state: &State, from: u32, transition: &Transition) -> bool {
-    transition.target == from && !transition.immediate && !state.is_superstate()
+fn is_shared(state: &DrawnState, from: u32, arrow: &Arrow) -> bool {
+    arrow.target == from && !arrow.immediate && !state.is_superstate()
 }
 
 // Puts the arrow that such transitions share, whose words these are, behind a text.
@@ -126,16 +124,15 @@ pub(crate) fn put_transitions(
     text: &mut String,
     place: Place<'_>,
     from: u32,
-    state: &State,
+    state: &DrawnState,
 ) -> Result<(), AllocError> {
     let mut shared = String::new(alloc);
     let mut number: u32 = 1;
-    for transition in state.transitions.as_slice() {
-        let words = transition_text(alloc, place.variables, number, transition)?;
-        if is_shared(state, from, transition) {
-            shared.push_str(words.as_str())?;
+    for arrow in state.arrows.as_slice() {
+        if is_shared(state, from, arrow) {
+            shared.push_str(arrow.words.as_str())?;
         } else {
-            put_arrows(alloc, text, place, from, number, transition, words.as_str())?;
+            put_arrows(alloc, text, place, from, number, arrow)?;
         }
         number = number.saturating_add(1);
     }

@@ -1,17 +1,17 @@
 //! The text of an expression, with as few parentheses as it can do with.
 
 ghost use Rattle.std.specs.Prelude.{◌≡◌, IfOk, List, nat_lt, string_bytes};
-ghost use Rattle.sc_graph.specs.declared.program.Variable.{Variable};
 ghost use Rattle.sc_values.specs.declared.expression.Expr.TheOpen as tree;
-ghost use Rattle.scl_printer.specs.Expressions.{divisor_text, variable_text};
+ghost use Rattle.scl_printer.specs.Expressions.{divisor_text};
+ghost use Rattle.drawing.specs.declared.symbols.Symbol.{Symbol};
 ghost use Rattle.drawing.specs.Expressions.{operand, sparing_text, written, written_step};
 ghost use Rattle.drawing.specs.Inside.Seen.{seen};
 
 use crate::levels::{WHOLE, binary_level, left_level, right_level, unary_level};
-use sc_graph::{Variable, VariableId};
+use crate::symbols::{Symbol, symbol_text};
+use sc_graph::VariableId;
 use sc_values::{BinaryOperator, Expr, UnaryOperator, Value};
 use scl_printer::{closing_text, infix_text, opening_text, prefix_text};
-use sqlite_items::at;
 use std::alloc::{AllocError, Global};
 
 /// The text of an expression, and its level.
@@ -21,43 +21,39 @@ pub(crate) struct Written {
     level: u8,
 }
 
-/// The text of an expression over these variables. Err: memory was refused.
-pub(crate) fn sparing_text(
+/// The text of an expression, in which numbers name these. Err: memory was refused.
+pub fn sparing_text(
     alloc: Global,
-    variables: &[Variable],
+    symbols: &[Symbol],
     expression: &Expr,
 ) -> Result<String, AllocError>
-    ensures { IfOk result (λ text. string_bytes text ≡ sparing_text variables.now expression.now) }
+    ensures { IfOk result (λ text. string_bytes text ≡ sparing_text symbols.now expression.now) }
 {
-    let Written { text, level: _ } = tree_text(alloc, variables, expression)?;
+    let Written { text, level: _ } = tree_text(alloc, symbols, expression)?;
     Ok(text)
 }
 
-fn tree_text(
-    alloc: Global,
-    variables: &[Variable],
-    expression: &Expr,
-) -> Result<Written, AllocError>
-    ensures { IfOk result (λ w. seen w ≡ written variables.now expression.now) }
+fn tree_text(alloc: Global, symbols: &[Symbol], expression: &Expr) -> Result<Written, AllocError>
+    ensures { IfOk result (λ w. seen w ≡ written symbols.now expression.now) }
 {
     match expression {
         Expr::Literal(value) => Ok(literal(alloc, *value)?),
-        Expr::Load(variable) => Ok(load(alloc, variables, *variable)?),
+        Expr::Load(variable) => Ok(load(alloc, symbols, *variable)?),
         Expr::Unary(operator, inner) => {
-            let inner = tree_text(alloc, variables, inner.get())?;
+            let inner = tree_text(alloc, symbols, inner.get())?;
             Ok(unary(alloc, *operator, inner)?)
         }
         Expr::Binary(operator, left, right) => {
-            let left = tree_text(alloc, variables, left.get())?;
-            let right = tree_text(alloc, variables, right.get())?;
+            let left = tree_text(alloc, symbols, left.get())?;
+            let right = tree_text(alloc, symbols, right.get())?;
             Ok(binary(alloc, *operator, left, right)?)
         }
     }
 }
 
 fn literal(alloc: Global, value: Value) -> Result<Written, AllocError>
-    ensures { IfOk result (λ w. (variables : List Variable)
-        → seen w ≡ written_step variables (tree.Literal value)) }
+    ensures { IfOk result (λ w. (symbols : List Symbol)
+        → seen w ≡ written_step symbols (tree.Literal value)) }
 {
     let text = match value {
         Value::Bool(true) => format!(in alloc; "true")?,
@@ -67,27 +63,10 @@ fn literal(alloc: Global, value: Value) -> Result<Written, AllocError>
     Ok(Written { text, level: WHOLE })
 }
 
-/// The name of the variable of this number. Err: memory was refused.
-pub(crate) fn variable_text(
-    alloc: Global,
-    variables: &[Variable],
-    variable: VariableId,
-) -> Result<String, AllocError>
-    ensures { IfOk result (λ text. string_bytes text ≡ variable_text variables.now variable) }
+fn load(alloc: Global, symbols: &[Symbol], variable: VariableId) -> Result<Written, AllocError>
+    ensures { IfOk result (λ w. seen w ≡ written_step symbols.now (tree.Load variable)) }
 {
-    match at(variables, variable as usize) {
-        Some(variable) => {
-            let name = variable.name;
-            format!(in alloc; "{name}")
-        }
-        None => Ok(String::new(alloc)),
-    }
-}
-
-fn load(alloc: Global, variables: &[Variable], variable: VariableId) -> Result<Written, AllocError>
-    ensures { IfOk result (λ w. seen w ≡ written_step variables.now (tree.Load variable)) }
-{
-    let text = variable_text(alloc, variables, variable)?;
+    let text = symbol_text(alloc, symbols, variable)?;
     Ok(Written { text, level: WHOLE })
 }
 
@@ -110,8 +89,8 @@ fn operand(alloc: Global, least: u8, inner: Written) -> Result<String, AllocErro
 }
 
 fn unary(alloc: Global, operator: UnaryOperator, inner: Written) -> Result<Written, AllocError>
-    ensures { IfOk result (λ w. (variables : List Variable)
-        → seen w ≡ written_step variables (tree.Unary operator (seen inner))) }
+    ensures { IfOk result (λ w. (symbols : List Symbol)
+        → seen w ≡ written_step symbols (tree.Unary operator (seen inner))) }
 {
     let inner = operand(alloc, unary_level(operator), inner)?;
     let before = prefix_text(operator);
@@ -145,8 +124,8 @@ fn binary(
     left: Written,
     right: Written,
 ) -> Result<Written, AllocError>
-    ensures { IfOk result (λ w. (variables : List Variable)
-        → seen w ≡ written_step variables (tree.Binary operator (seen left) (seen right))) }
+    ensures { IfOk result (λ w. (symbols : List Symbol)
+        → seen w ≡ written_step symbols (tree.Binary operator (seen left) (seen right))) }
 {
     let left = operand(alloc, left_level(operator), left)?;
     let right = operand(alloc, right_level(operator), right)?;

@@ -1,12 +1,14 @@
 //! The words of a transition.
 
-ghost use Rattle.std.specs.Prelude.{◌≡◌, IfOk, string_bytes};
+ghost use Rattle.std.specs.Prelude.{◌≡◌, IfOk, nat_eq, string_bytes};
+ghost use Rattle.std.specs.List.{list_any};
 ghost use Rattle.drawing.specs.Labels.{do_text, effect_text, effects_text, further_text, immediate_text};
-ghost use Rattle.drawing.specs.Labels.{kind_text, transition_text, trigger_text};
+ghost use Rattle.drawing.specs.Labels.{kind_text, transition_text, trigger_text, words_text};
 
-use crate::expressions::{sparing_text, variable_text};
+use crate::expressions::sparing_text;
+use crate::symbols::{Symbol, symbol_text};
 use core_charts::{Effect, Transition, TransitionKind};
-use sc_graph::Variable;
+use sc_graph::VariableId;
 use sc_values::Expr;
 use std::alloc::{AllocError, Global};
 
@@ -27,44 +29,60 @@ fn immediate_text(immediate: bool) -> &'static str
     if immediate { " immediate" } else { "" }
 }
 
-// The condition of a transition with the word before it; nothing where there is none.
-fn trigger_text(
+/// The condition of a transition with the word before it; nothing where there is none. Err: memory was refused.
+pub fn trigger_text(
     alloc: Global,
-    variables: &[Variable],
+    symbols: &[Symbol],
     trigger: &Option<Expr>,
 ) -> Result<String, AllocError>
-    ensures { IfOk result (λ text. string_bytes text ≡ trigger_text variables.now trigger.now) }
+    ensures { IfOk result (λ text. string_bytes text ≡ trigger_text symbols.now trigger.now) }
 {
     match trigger {
         Some(trigger) => {
-            let test = sparing_text(alloc, variables, trigger)?;
+            let test = sparing_text(alloc, symbols, trigger)?;
             format!(in alloc; " if {test}")
         }
         None => Ok(String::new(alloc)),
     }
 }
 
-// An effect: the name of its variable, and the expression whose value that gets.
-#[tactic(auto, unfolding(crate::specs::Labels::effect_text))]
-fn effect_text(alloc: Global, variables: &[Variable], effect: &Effect) -> Result<String, AllocError>
-    ensures { IfOk result (λ text. string_bytes text ≡ effect_text variables.now effect.now) }
+fn is_among(signals: &[VariableId], variable: VariableId) -> bool
+    ensures { result ≡ list_any (nat_eq variable) signals.now }
 {
-    let name = variable_text(alloc, variables, effect.variable)?;
-    let value = sparing_text(alloc, variables, &effect.value)?;
+    signals.iter().any(|other| variable == *other)
+}
+
+/// An effect: the signal that is emitted, or the name of its variable, and the expression whose value that gets. Err:
+/// memory was refused.
+#[tactic(auto, unfolding(crate::specs::Labels::effect_text))]
+pub fn effect_text(
+    alloc: Global,
+    symbols: &[Symbol],
+    signals: &[VariableId],
+    effect: &Effect,
+) -> Result<String, AllocError>
+    ensures { IfOk result (λ text. string_bytes text ≡ effect_text symbols.now signals.now effect.now) }
+{
+    let name = symbol_text(alloc, symbols, effect.variable)?;
+    if is_among(signals, effect.variable) {
+        return format!(in alloc; "emit {name}");
+    }
+    let value = sparing_text(alloc, symbols, &effect.value)?;
     format!(in alloc; "{name} = {value}")
 }
 
-// The effects behind the first, each in a line of its own.
-fn further_text(
+/// The effects behind the first, each in a line of its own. Err: memory was refused.
+pub fn further_text(
     alloc: Global,
-    variables: &[Variable],
+    symbols: &[Symbol],
+    signals: &[VariableId],
     effects: &[Effect],
 ) -> Result<String, AllocError>
-    ensures { IfOk result (λ text. string_bytes text ≡ further_text variables.now effects.now) }
+    ensures { IfOk result (λ text. string_bytes text ≡ further_text symbols.now signals.now effects.now) }
 {
     let mut text = String::new(alloc);
     for effect in effects {
-        let one = effect_text(alloc, variables, effect)?;
+        let one = effect_text(alloc, symbols, signals, effect)?;
         text.push_str(",  \\l     ")?;
         text.push_str(one.as_str())?;
     }
@@ -84,37 +102,55 @@ fn do_text(trigger: &Option<Expr>) -> &'static str
 // All effects, where there are some.
 fn effects_text(
     alloc: Global,
-    variables: &[Variable],
+    symbols: &[Symbol],
+    signals: &[VariableId],
     trigger: &Option<Expr>,
     effects: &[Effect],
 ) -> Result<String, AllocError>
-    ensures { IfOk result (λ text. string_bytes text ≡ effects_text variables.now trigger.now effects.now) }
+    ensures { IfOk result (λ text. string_bytes text
+        ≡ effects_text symbols.now signals.now trigger.now effects.now) }
 {
     match effects {
         [] => Ok(String::new(alloc)),
         [first, rest @ ..] => {
             let word = do_text(trigger);
-            let one = effect_text(alloc, variables, first)?;
-            let others = further_text(alloc, variables, rest)?;
+            let one = effect_text(alloc, symbols, signals, first)?;
+            let others = further_text(alloc, symbols, signals, rest)?;
             format!(in alloc; "{word}{one}{others}")
         }
     }
 }
 
-/// The transition with this number among those of its state, in the words of chart text, without its target. Err:
-/// memory was refused.
-pub(crate) fn transition_text(
+/// The transition with this number among those of its state, in the words of chart text, without its target: what it
+/// asks is written so, and so is how it enters its target. Err: memory was refused.
+pub fn words_text(
     alloc: Global,
-    variables: &[Variable],
+    symbols: &[Symbol],
+    signals: &[VariableId],
     number: u32,
     transition: &Transition,
+    asked: &str,
+    entering: &str,
 ) -> Result<String, AllocError>
-    ensures { IfOk result (λ text. string_bytes text ≡ transition_text variables.now number transition.now) }
+    ensures { IfOk result (λ text. string_bytes text
+        ≡ words_text symbols.now signals.now number transition.now asked.now entering.now) }
 {
     let kind = kind_text(transition.kind);
     let immediate = immediate_text(transition.immediate);
-    let trigger = trigger_text(alloc, variables, &transition.trigger)?;
     let own = transition.effects.as_slice();
-    let effects = effects_text(alloc, variables, &transition.trigger, own)?;
-    format!(in alloc; "  {number}:{kind}{immediate}{trigger}{effects}  \\l")
+    let effects = effects_text(alloc, symbols, signals, &transition.trigger, own)?;
+    format!(in alloc; "  {number}:{kind}{immediate}{asked}{effects}{entering}  \\l")
+}
+
+/// The transition of a chart with this number among those of its state. Err: memory was refused.
+pub(crate) fn transition_text(
+    alloc: Global,
+    symbols: &[Symbol],
+    number: u32,
+    transition: &Transition,
+) -> Result<String, AllocError>
+    ensures { IfOk result (λ text. string_bytes text ≡ transition_text symbols.now number transition.now) }
+{
+    let asked = trigger_text(alloc, symbols, &transition.trigger)?;
+    words_text(alloc, symbols, &[], number, transition, asked.as_str(), "")
 }

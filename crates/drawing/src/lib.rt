@@ -2,6 +2,8 @@
 #![tactic(auto)]
 
 mod arrows;
+mod charts;
+mod drawn;
 mod expressions;
 mod flow;
 mod graphs;
@@ -10,7 +12,14 @@ mod levels;
 mod protocol;
 mod regions;
 mod stacking;
+mod symbols;
 mod variables;
 
+pub use charts::chart_drawing;
+pub use drawn::{Arrow, DrawnRegion, DrawnState};
+pub use expressions::sparing_text;
 pub use graphs::graph_drawing;
-pub use regions::chart_drawing;
+pub use labels::{effect_text, further_text, trigger_text, words_text};
+pub use regions::drawing_of;
+pub use symbols::Symbol;
+pub use variables::{kind_word, role_word};

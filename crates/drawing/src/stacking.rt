@@ -1,11 +1,11 @@
 //! Regions below one another, in columns: arrows that are not seen, from all that is in one region to the initial state
 //! of the next.
 
-use core_charts::{Region, State};
+use crate::drawn::{DrawnRegion, DrawnState};
 use std::alloc::{AllocError, Global};
 
 // The number of the initial state.
-fn initial_of(region: &Region) -> u32 {
+fn initial_of(region: &DrawnRegion) -> u32 {
     let mut number: u32 = 0;
     for state in region.states.as_slice() {
         if state.is_initial {
@@ -25,7 +25,7 @@ fn put_unseen(alloc: Global, text: &mut String, from: &str, to: &str) -> Result<
 // Puts such arrows from all that is in the region of this path behind a text.
 #[cycle(stacked)]
 fn put_region_above(
-    region: &Region,
+    region: &DrawnRegion,
     alloc: Global,
     text: &mut String,
     path: &str,
@@ -43,7 +43,7 @@ fn put_region_above(
 // Puts such arrows from the state of this path, and from all in it, behind a text.
 #[cycle(stacked)]
 fn put_state_above(
-    state: &State,
+    state: &DrawnState,
     alloc: Global,
     text: &mut String,
     path: &str,
@@ -61,7 +61,7 @@ fn put_state_above(
 
 // How many states stand in a region, those of its superstates with it.
 #[cycle(counted)]
-fn count_in_region(region: &Region) -> u32 {
+fn count_in_region(region: &DrawnRegion) -> u32 {
     let mut count: u32 = 0;
     for state in region.states.as_slice() {
         count = count.saturating_add(count_in_state(state));
@@ -71,7 +71,7 @@ fn count_in_region(region: &Region) -> u32 {
 
 // How many states a state is, those in it with it.
 #[cycle(counted)]
-fn count_in_state(state: &State) -> u32 {
+fn count_in_state(state: &DrawnState) -> u32 {
     let mut count: u32 = 1;
     for region in state.regions.as_slice() {
         count = count.saturating_add(count_in_region(region));
@@ -79,7 +79,7 @@ fn count_in_state(state: &State) -> u32 {
     count
 }
 
-fn count_in_all(regions: &[Region]) -> u32 {
+fn count_in_all(regions: &[DrawnRegion]) -> u32 {
     let mut count: u32 = 0;
     for region in regions {
         count = count.saturating_add(count_in_region(region));
@@ -107,12 +107,12 @@ fn columns_for(states: u32) -> u32 {
 pub(crate) fn put_stacks(
     alloc: Global,
     text: &mut String,
-    regions: &[Region],
+    regions: &[DrawnRegion],
     path: &str,
 ) -> Result<(), AllocError> {
     let all = count_in_all(regions);
     let columns = columns_for(all);
-    let mut above: Option<&Region> = None;
+    let mut above: Option<&DrawnRegion> = None;
     let mut filled: u32 = 0;
     let mut number: u32 = 0;
     for region in regions {
@@ -134,8 +134,8 @@ pub(crate) fn put_stacks(
 fn put_above(
     alloc: Global,
     text: &mut String,
-    upper: &Region,
-    region: &Region,
+    upper: &DrawnRegion,
+    region: &DrawnRegion,
     path: &str,
     number: u32,
 ) -> Result<(), AllocError> {

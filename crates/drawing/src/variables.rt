@@ -4,7 +4,8 @@ use sc_graph::{Role, Variable};
 use sc_values::Kind;
 use std::alloc::{AllocError, Global};
 
-fn role_word(role: Role) -> &'static str {
+/// The word of a role, with a blank behind it.
+pub fn role_word(role: Role) -> &'static str {
     match role {
         Role::Input => "input ",
         Role::Output => "output ",
@@ -12,29 +13,33 @@ fn role_word(role: Role) -> &'static str {
     }
 }
 
-fn kind_word(kind: Kind) -> &'static str {
+/// The word of a kind.
+pub fn kind_word(kind: Kind) -> &'static str {
     match kind {
         Kind::Bool => "bool",
         Kind::Int => "int",
     }
 }
 
-/// Puts the box with these variables, a line each, behind a text. Err: memory was refused.
-pub(crate) fn put_variables(
-    alloc: Global,
-    text: &mut String,
-    variables: &[Variable],
-) -> Result<(), AllocError> {
-    if variables.is_empty() {
-        return Ok(());
-    }
-    text.push_str("\"variables\" [shape=\"box\", style=\"filled\", color=\"gray95\", label=\"")?;
+/// The lines of these variables in their box. Err: memory was refused.
+pub(crate) fn variable_lines(alloc: Global, variables: &[Variable]) -> Result<String, AllocError> {
+    let mut lines = String::new(alloc);
     for variable in variables {
         let role = role_word(variable.role);
         let kind = kind_word(variable.kind);
         let name = variable.name;
         let line = format!(in alloc; "{role}{kind} {name}\\l")?;
-        text.push_str(line.as_str())?;
+        lines.push_str(line.as_str())?;
     }
+    Ok(lines)
+}
+
+/// Puts the box with these lines behind a text, where there are some. Err: memory was refused.
+pub(crate) fn put_variables(text: &mut String, lines: &str) -> Result<(), AllocError> {
+    if lines.is_empty() {
+        return Ok(());
+    }
+    text.push_str("\"variables\" [shape=\"box\", style=\"filled\", color=\"gray95\", label=\"")?;
+    text.push_str(lines)?;
     text.push_str("\"];\n")
 }

@@ -7,6 +7,6 @@ mod StatementsSpelled
 mod SclTold
 mod SourcesTold
 mod SclSourcesTold
-mod Listed
+pub mod Listed
 mod LabelsTold
 mod LanguagesTold

@@ -51,7 +51,7 @@ fn standing(places: &Places, part: Part, from: Element, place: usize) -> Origin
 }
 
 /// An element of a chart as a part of its text. None: it has no place.
-pub(crate) fn element_origin(places: &Places, part: Part, from: Element) -> Option<Origin>
+pub fn element_origin(places: &Places, part: Part, from: Element) -> Option<Origin>
     ensures { result ≡ element_origin places.now part from }
 {
     match places.place_of(from) {

@@ -22,9 +22,10 @@ use source_programs::ReadChart;
 use sqlite_items::Items;
 use std::alloc::{AllocError, Global};
 
-// The elements from which the nodes of the program of a chart come.
+/// The elements from which the nodes of the program of a chart come, which has this core chart and this SCL program.
+/// Err: memory was refused.
 #[tactic(auto, using(crate::proofs::ChartsTold::elements_are))]
-fn elements_of(
+pub fn elements_of(
     alloc: Global,
     chart: &Chart,
     core: &CoreChart,

@@ -106,16 +106,18 @@ fn labels_of(alloc: Global, scl: &Scl) -> Result<Items<Option<Name>>, AllocError
     Ok(labels)
 }
 
-// The number of the point at which a label of this name stands.
+/// The number of the point of a program at which a label of this name stands. None: it has none. Err: memory was
+/// refused.
 #[tactic(auto, using(crate::proofs::LabelsTold::is_label))]
-fn label_point(alloc: Global, scl: &Scl, label: Name) -> Result<Option<usize>, AllocError>
+pub fn label_point(alloc: Global, scl: &Scl, label: Name) -> Result<Option<usize>, AllocError>
     ensures { IfOk result (λ found. IfSome found (IsLabel scl.now label)) }
 {
     let labels = labels_of(alloc, scl)?;
     Ok(first_named(labels.as_slice(), label))
 }
 
-fn label_part(from: Element) -> Part
+/// What stands at the place of an element for which the lowering makes a label.
+pub fn label_part(from: Element) -> Part
     ensures { result ≡ label_part from }
 {
     match from {

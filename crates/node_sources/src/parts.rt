@@ -88,7 +88,7 @@ fn of_transition(step: &Step) -> Part
 }
 
 /// What is done by this step at the place of the element from which its node comes.
-pub(crate) fn part_of(variables: &[Variable], step: &Step, from: Element) -> Part
+pub fn part_of(variables: &[Variable], step: &Step, from: Element) -> Part
     ensures { result ≡ part_of variables.now step.now from }
 {
     match from {

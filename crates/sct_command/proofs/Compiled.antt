@@ -110,7 +110,7 @@ reported (Ok done) files name bytes wanted said held says = tt
 reported (Err f) files name bytes wanted said held says = says_of files name bytes wanted f said held says
 
 pub warned : {T : Type 0} (r : Result T Fault) (files : Option Contents) (name bytes : List ℕ) (warns : Bool) (said : List ℕ)
-    → HasSource files name bytes → OnOk r (AreWarnings name bytes warns said) → OnOk r (AreWarningsOf files name warns said)
+    → HasBytes files name bytes → OnOk r (AreWarnings name bytes warns said) → OnOk r (AreWarningsOf files name warns said)
 warned (Ok done) files name bytes warns said held are = record { bytes = bytes; held = held; are = are }
 warned (Err f) files name bytes warns said held are = tt
 

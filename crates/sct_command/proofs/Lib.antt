@@ -1,6 +1,7 @@
 pub mod Compiled
 pub mod Ruled
 pub mod Simulated
+pub mod Stands
 pub mod States
 pub mod Taken
 pub mod Tests

@@ -13,7 +13,8 @@ use Rattle.sct_command.specs.declared.fault.Fault.TheVariants as fault
 use Rattle.command_files.specs.Files.{Contents, HasBytes}
 use Rattle.command_files.specs.Images.{FileLacksImage}
 use Rattle.command_files.specs.Sources.{FileLacksCompiled, SpellsImage, BytesLackCompiled}
-use Rattle.command_files.specs.Standing.{BytesLackSource, FileLacksSource, HasSource}
+use Rattle.command_files.specs.Standing.{BytesLackSource, FileLacksSource, HasSource, StandsFor}
+use Rattle.sct_command.proofs.Stands.{has_source}
 use Rattle.sct_command.specs.Explaining.{FindsImage, IsReport, IsReportOf, IsTextOf, RefusesExplaining, RefusesFound, WritesFound, WritesReport}
 use Rattle.sct_command.specs.Inside.Telling.{IsTold}
 use Rattle.sct_command.specs.Writing.{Writes}
@@ -106,35 +107,51 @@ told_faulty files name bytes lacking seen old new f r held is same why told_so =
     told files name bytes old new f r (inr (held, subst (λ b. BytesLackSource b f) is why)) (inl (no_source_in files name bytes lacking f held is why))
     (subst (λ b. IsTold name b f old new r) same told_so)
 
--- bytes that spell one
-finds : (files : Option Contents) (name bytes : List ℕ) (old new : Option (List ℕ)) (image : Image)
-    → HasSource files name bytes → SpellsImage bytes image → WritesFound name bytes image old new → FindsImage files name old new
-finds files name bytes old new image held is writes =
-    record { image = image; compiled = compiled files name bytes image held is; bytes = bytes; held = held; writes = writes }
+-- bytes that stand for a source that spells one
+finds : (files : Option Contents) (name bytes source : List ℕ) (old new : Option (List ℕ)) (image : Image)
+    → HasBytes files name bytes → StandsFor bytes source → SpellsImage source image → WritesFound name bytes image old new
+    → FindsImage files name old new
+finds files name bytes source old new image held stands is writes =
+    record {
+      image = image;
+      compiled = compiled files name source image (has_source files name bytes source held stands) is;
+      bytes = bytes;
+      held = held;
+      writes = writes;
+    }
 
-finds_part : (files : Option Contents) (name bytes : List ℕ) (old new : Option (List ℕ)) (image : Image) (f : Fault)
-    → HasSource files name bytes → SpellsImage bytes image → RefusesFound name bytes image old new f → RefusesExplaining files name old new f
-finds_part files name bytes old new image (fault.Files load.Memory) held is none = inl none
-finds_part files name bytes old new image fault.Write held is part =
-    inl (record { image = image; compiled = compiled files name bytes image held is; bytes = bytes; held = held; in_part = part })
-finds_part files name bytes old new image (fault.Files (load.Image f)) held is none = absurd none
-finds_part files name bytes old new image (fault.Files (load.Rule f)) held is none = absurd none
-finds_part files name bytes old new image (fault.Files (load.Text f)) held is none = absurd none
-finds_part files name bytes old new image (fault.Files (load.Program f)) held is none = absurd none
-finds_part files name bytes old new image (fault.Files (load.File f)) held is none = absurd none
-finds_part files name bytes old new image (fault.Files (load.Source f)) held is none = absurd none
-finds_part files name bytes old new image (fault.Play f cause) held is none = absurd none
-finds_part files name bytes old new image fault.Tests held is none = absurd none
-finds_part files name bytes old new image (fault.Place shown) held is none = absurd none
+finds_part : (files : Option Contents) (name bytes source : List ℕ) (old new : Option (List ℕ)) (image : Image) (f : Fault)
+    → HasBytes files name bytes → StandsFor bytes source → SpellsImage source image → RefusesFound name bytes image old new f
+    → RefusesExplaining files name old new f
+finds_part files name bytes source old new image (fault.Files load.Memory) held stands is none = inl none
+finds_part files name bytes source old new image fault.Write held stands is part =
+    inl (record {
+      image = image;
+      compiled = compiled files name source image (has_source files name bytes source held stands) is;
+      bytes = bytes;
+      held = held;
+      in_part = part;
+    })
+finds_part files name bytes source old new image (fault.Files (load.Image f)) held stands is none = absurd none
+finds_part files name bytes source old new image (fault.Files (load.Rule f)) held stands is none = absurd none
+finds_part files name bytes source old new image (fault.Files (load.Text f)) held stands is none = absurd none
+finds_part files name bytes source old new image (fault.Files (load.Program f)) held stands is none = absurd none
+finds_part files name bytes source old new image (fault.Files (load.File f)) held stands is none = absurd none
+finds_part files name bytes source old new image (fault.Files (load.Source f)) held stands is none = absurd none
+finds_part files name bytes source old new image (fault.Play f cause) held stands is none = absurd none
+finds_part files name bytes source old new image fault.Tests held stands is none = absurd none
+finds_part files name bytes source old new image (fault.Place shown) held stands is none = absurd none
 
 -- and so of what was answered there
-pub found_done : {T : Type 0} (r : Result T Fault) (files : Option Contents) (name bytes : List ℕ) (old new : Option (List ℕ)) (image : Image)
-    → HasSource files name bytes → SpellsImage bytes image → OnOk r (WritesFound name bytes image old new) → OnOk r (FindsImage files name old new)
-found_done (Ok done) files name bytes old new image held is writes = finds files name bytes old new image held is writes
-found_done (Err f) files name bytes old new image held is writes = tt
+pub found_done : {T : Type 0} (r : Result T Fault) (files : Option Contents) (name bytes source : List ℕ) (old new : Option (List ℕ)) (image : Image)
+    → HasBytes files name bytes → StandsFor bytes source → SpellsImage source image → OnOk r (WritesFound name bytes image old new)
+    → OnOk r (FindsImage files name old new)
+found_done (Ok done) files name bytes source old new image held stands is writes = finds files name bytes source old new image held stands is writes
+found_done (Err f) files name bytes source old new image held stands is writes = tt
 
-pub found_refused : {T : Type 0} (r : Result T Fault) (files : Option Contents) (name bytes : List ℕ) (old new : Option (List ℕ)) (image : Image)
-    → HasSource files name bytes → SpellsImage bytes image → IfErr r (RefusesFound name bytes image old new)
+pub found_refused : {T : Type 0} (r : Result T Fault) (files : Option Contents) (name bytes source : List ℕ) (old new : Option (List ℕ)) (image : Image)
+    → HasBytes files name bytes → StandsFor bytes source → SpellsImage source image → IfErr r (RefusesFound name bytes image old new)
     → IfErr r (RefusesExplaining files name old new)
-found_refused (Ok done) files name bytes old new image held is refuses = tt
-found_refused (Err f) files name bytes old new image held is refuses = finds_part files name bytes old new image f held is refuses
+found_refused (Ok done) files name bytes source old new image held stands is refuses = tt
+found_refused (Err f) files name bytes source old new image held stands is refuses =
+    finds_part files name bytes source old new image f held stands is refuses

@@ -4,24 +4,23 @@ use Rattle.std.specs.Io.KnownBytes.{Appends}
 use Rattle.sc_values.specs.Streams.{GrowsInto}
 use Rattle.command_files.specs.declared.fault.LoadFault.{LoadFault}
 use Rattle.command_files.specs.FaultText.{shown_name}
-use Rattle.command_files.specs.Files.{Contents}
-use Rattle.command_files.specs.Standing.{HasSource}
-use Rattle.warning_texts.specs.Reports as warned
+use Rattle.command_files.specs.Files.{Contents, HasBytes}
+use Rattle.sct_command.specs.Warned.{IsWarned}
 use Rattle.sct_command.specs.Explaining.{IsReportOf}
 use Rattle.sct_command.specs.declared.fault.Fault.{Fault}
 use Rattle.sct_command.specs.declared.fault.Fault.TheVariants as fault
 
 -- ---- warnings
 
--- the warnings of the text in these bytes, where they are wanted: those of which an explanation tells
+-- the warnings of what is written, where they are wanted: those of which an explanation tells
 abbrev pub AreWarnings : (name bytes : List ℕ) → Bool → List ℕ → Type 0
 AreWarnings name bytes false said = said ≡ []
-AreWarnings name bytes true said = warned.IsTold (shown_name name) bytes said
+AreWarnings name bytes true said = IsWarned (shown_name name) bytes said
 
--- those of the source in this file
+-- those of what is written in this file
 pub record AreWarningsOf (files : Option Contents) (name : List ℕ) (warns : Bool) (said : List ℕ) : Type 0 where
   pub bytes : List ℕ
-  pub held : HasSource files name bytes
+  pub held : HasBytes files name bytes
   pub are : AreWarnings name bytes warns said
 
 -- ---- a report

@@ -13,17 +13,17 @@ use Rattle.command_files.specs.Standing.{BytesLackSource, HasSource}
 use Rattle.compiler.specs.FaultText.{fault_text}
 use Rattle.diagnostics.specs.Reports.{Tells, text_fault}
 use Rattle.fault_lists.specs.Reports.{TellsEach}
-use Rattle.warning_texts.specs.Reports as warned
 use Rattle.command_texts.specs.Summary.{summary_of}
+use Rattle.sct_command.specs.Warned.{IsWarned}
 use Rattle.sct_command.specs.Writing.{WritesPart, WritesSome}
 use Rattle.sct_command.specs.declared.fault.Fault.{Fault}
 use Rattle.sct_command.specs.declared.fault.Fault.TheVariants as fault
 
--- what is said of an image of the text that is in the file of this name: its summary, and behind it the warnings of the
--- text, which name the file as it is shown
+-- what is said of an image of the program in the file of this name: its summary, and behind it the warnings of what is written there,
+-- which name the file as it is shown
 pub record IsFound (name bytes : List ℕ) (image : Image) (text : List ℕ) : Type 0 where
   pub warnings : List ℕ
-  pub told : warned.IsTold (shown_name name) bytes warnings
+  pub told : IsWarned (shown_name name) bytes warnings
   pub is : text ≡ summary_of image ++ warnings
 
 -- it was written, or a beginning of it
@@ -43,12 +43,12 @@ RefusesFound name bytes image old new (fault.Files load.Memory) = new ≡ old
 RefusesFound name bytes image old new fault.Write = WritesFoundPart name bytes image old new
 RefusesFound name bytes image old new other = ⊥
 
--- the program in this file has an image, whose summary was written, with the warnings of the text behind it
+-- the program in this file has an image, whose summary was written, with the warnings of what is written there behind it
 pub record FindsImage (files : Option Contents) (name : List ℕ) (old new : Option (List ℕ)) : Type 0 where
   pub image : Image
   pub compiled : IsCompiledFrom files name image
   pub bytes : List ℕ
-  pub held : HasSource files name bytes
+  pub held : HasBytes files name bytes
   pub writes : WritesFound name bytes image old new
 
 -- the program in this file has an image, and a beginning of that was written
@@ -56,7 +56,7 @@ pub record FindsImagePart (files : Option Contents) (name : List ℕ) (old new :
   pub image : Image
   pub compiled : IsCompiledFrom files name image
   pub bytes : List ℕ
-  pub held : HasSource files name bytes
+  pub held : HasBytes files name bytes
   pub in_part : WritesFoundPart name bytes image old new
 
 -- a beginning was written of what is said of the fault for which this file has no image

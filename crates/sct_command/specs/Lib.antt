@@ -10,5 +10,6 @@ pub mod Simulating
 pub mod Sources
 pub mod TellingStates
 pub mod Testing
+pub mod Warned
 pub mod Words
 pub mod Writing

@@ -2,6 +2,7 @@
 
 ghost use Rattle.std.specs.Prelude.{◌≡◌, ◌+◌, [], IfErr, OnErr, OnOk, string_bytes};
 ghost use Rattle.std.specs.Str.{IsUtf8};
+ghost use Rattle.command_files.specs.Standing.{StandsFor};
 ghost use Rattle.sct_command.specs.Beside.{AreWarnings, AreWarningsOf, SaysOfFault};
 ghost use Rattle.sct_command.specs.Failing.{files_failed, reads_failed, writes_failed};
 ghost use Rattle.sct_command.specs.Inside.Held.{KeepsProgram, RefusesProgram, SaysOfBytes};
@@ -17,7 +18,8 @@ use sc_values::Sink;
 use std::alloc::Global;
 use verifier::Verified;
 
-// Keeps an image of the text that these bytes are, and says the warnings of that where they are wanted.
+// Keeps an image of the program in the file of one name, in which these bytes are, and says the warnings of them where
+// they are wanted.
 fn keep_warned<F: Files, W: Sink>(
     alloc: Global,
     from: &str,
@@ -49,11 +51,13 @@ fn keep_warned<F: Files, W: Sink>(
     Ok(())
 }
 
-// Compiles the text that these bytes are, which are those of the file of one name, to the file of another.
+// Compiles the source that these bytes are, for which other ones stand in the file of one name, to the file of another.
+#[tactic(auto, using(crate::proofs::Stands::written_text))]
 fn compile_held<F: Files, W: Sink>(
     alloc: Global,
     from: &str,
     bytes: &[u8],
+    written: &[u8],
     to: &str,
     warns: bool,
     wanted: bool,
@@ -61,6 +65,7 @@ fn compile_held<F: Files, W: Sink>(
     output: &mut W,
     said: &mut String,
 ) -> Result<(), Fault>
+    requires stands { StandsFor written.now bytes.now }
     requires none { string_bytes said.now ≡ [] }
     ensures done { OnOk result (KeepsProgram bytes.now (F.contents files.old) (F.contents files.new) to.now
         (W.taken output.old) (W.taken output.new)) }
@@ -71,14 +76,14 @@ fn compile_held<F: Files, W: Sink>(
     ensures unread { IfErr result (λ fault. reads_failed fault ≡ 0) }
     ensures none_missed { OnOk result (F.failures files.new ≡ F.failures files.old) }
     ensures missed { IfErr result (λ fault. F.failures files.new ≡ F.failures files.old + files_failed fault) }
-    ensures warned { OnOk result (AreWarnings from.now bytes.now warns (string_bytes said.new)) }
+    ensures warned { OnOk result (AreWarnings from.now written.now warns (string_bytes said.new)) }
     ensures reported { IfErr result (λ fault. SaysOfBytes from.now bytes.now wanted fault (string_bytes said.new)) }
 {
-    let image = image_told(alloc, from, bytes, wanted, said)?;
+    let image = image_told(alloc, from, bytes, written, wanted, said)?;
     keep_warned(
         alloc,
         from,
-        bytes,
+        written,
         image.get(),
         to,
         warns,
@@ -92,6 +97,7 @@ fn compile_held<F: Files, W: Sink>(
 /// output, and says the warnings of the text where they are wanted. Err: there is no program in the first file, it has
 /// no image, of which a report is `said` where words are wanted, or the second file cannot be written, and then no file
 /// changed; or the output failed, after the file was written.
+#[tactic(auto, using(crate::proofs::Stands::stands_seen))]
 pub(crate) fn compile<F: Files, W: Sink>(
     alloc: Global,
     from: &str,
@@ -116,6 +122,17 @@ pub(crate) fn compile<F: Files, W: Sink>(
     ensures reported { IfErr result (λ fault.
         SaysOfFault (F.contents files.old) from.now wanted fault (string_bytes said.new)) }
 {
-    let bytes = source_told(alloc, from, wanted, files, said)?;
-    compile_held(alloc, from, &bytes, to, warns, wanted, files, output, said)
+    let source = source_told(alloc, from, wanted, files, said)?;
+    compile_held(
+        alloc,
+        from,
+        &source.bytes,
+        source.written(),
+        to,
+        warns,
+        wanted,
+        files,
+        output,
+        said,
+    )
 }

@@ -3,8 +3,8 @@
 ghost use Rattle.std.specs.Prelude.{◌≡◌, ◌+◌, ◌≤◌, Option, IfErr, IfOk, OnOk, string_bytes};
 ghost use Rattle.std.specs.Str.{IsUtf8};
 ghost use Rattle.command_files.specs.Counting as files_count;
-ghost use Rattle.command_files.specs.Files.{Contents};
-ghost use Rattle.command_files.specs.Standing.{HasSource};
+ghost use Rattle.command_files.specs.Files.{Contents, HasBytes};
+ghost use Rattle.command_files.specs.Standing.{StandsFor};
 ghost use Rattle.sct_command.specs.Explaining.{FindsImage, RefusesExplaining, RefusesTelling};
 ghost use Rattle.sct_command.specs.Explaining.{IsFound, IsReport, RefusesFound, WritesFound};
 ghost use Rattle.sct_command.specs.Inside.Telling.{IsTold};
@@ -15,7 +15,7 @@ use crate::fault::Fault;
 use crate::report::report_of;
 use crate::warnings::warnings_in;
 use bytecode::Image;
-use command_files::{Files, LoadFault, bytes_of, compile_bytes, reduced_source};
+use command_files::{Files, Unmade, bytes_of, compile_read, reduced_source};
 use command_texts::summary_of;
 use sc_values::{Sink, write_all};
 use sqlite_items::Boxed;
@@ -26,18 +26,19 @@ fn tell<W: Sink>(
     alloc: Global,
     name: &str,
     bytes: &[u8],
-    fault: &LoadFault,
+    written: &[u8],
+    unmade: &Unmade<'_>,
     output: &mut W,
 ) -> Result<(), Fault>
     ensures told { OnOk result
-        (Writes (IsReport name.now bytes.now fault.now) (W.taken output.old) (W.taken output.new)) }
+        (Writes (IsReport name.now bytes.now unmade.now.fault) (W.taken output.old) (W.taken output.new)) }
     ensures refused { IfErr result (RefusesTelling (W.taken output.old) (W.taken output.new)) }
     ensures missed { IfErr result (λ fault. files_failed fault ≡ 0) }
     ensures none_failed { OnOk result (W.failures output.new ≡ W.failures output.old) }
     ensures failed { IfErr result (λ fault. W.failures output.new ≡ W.failures output.old + writes_failed fault) }
     ensures unread { IfErr result (λ fault. reads_failed fault ≡ 0) }
 {
-    let text = report_of(alloc, name, bytes, fault)?;
+    let text = report_of(alloc, name, bytes, written, &unmade.fault, unmade.source())?;
     match write_all(output, text.as_bytes()) {
         Ok(()) => Ok(()),
         Err(_) => Err(Fault::Write),
@@ -49,21 +50,22 @@ fn refused<W: Sink>(
     alloc: Global,
     name: &str,
     bytes: &[u8],
-    fault: LoadFault,
+    written: &[u8],
+    unmade: Unmade<'_>,
     output: &mut W,
 ) -> Fault
-    ensures told { IsTold name.now bytes.now fault (W.taken output.old) (W.taken output.new) result }
+    ensures told { IsTold name.now bytes.now unmade.entry.fault (W.taken output.old) (W.taken output.new) result }
     ensures failed { W.failures output.new ≡ W.failures output.old + writes_failed result }
     ensures unread { reads_failed result ≡ 0 }
-    ensures missed { files_failed result ≤ files_count.files_failed fault }
+    ensures missed { files_failed result ≤ files_count.files_failed unmade.entry.fault }
 {
-    match tell(alloc, name, bytes, &fault, output) {
-        Ok(()) => Fault::Files(fault),
+    match tell(alloc, name, bytes, written, &unmade, output) {
+        Ok(()) => Fault::Files(unmade.fault),
         Err(other) => other,
     }
 }
 
-// What is said of an image of the text that is in the file of this name.
+// What is said of an image of the program in the file of this name, in which these bytes are.
 fn found_said(alloc: Global, name: &str, bytes: &[u8], image: &Image) -> Result<String, AllocError>
     requires { IsUtf8 bytes.now }
     ensures { IfOk result (λ text. IsFound name.now bytes.now image.now (string_bytes text)) }
@@ -98,36 +100,39 @@ fn tell_found<W: Sink>(
     }
 }
 
-// Compiles the source that these bytes are, and tells of its image, or of why it has none.
+// Compiles the source that these bytes are, and tells of its image, or of why it has none: in the text of its author,
+// where they are that of the chart to which an extended chart is reduced, which is written in the file.
 #[tactic(auto, using(crate::proofs::Told::quiet_bytes))]
 fn explain_source<W: Sink>(
     alloc: Global,
     name: &str,
     bytes: &[u8],
+    written: &[u8],
     output: &mut W,
 ) -> Result<(), Fault>
-    ensures done { (files : Option Contents) → HasSource files name.now bytes.now
+    requires stands { StandsFor written.now bytes.now }
+    ensures done { (files : Option Contents) → HasBytes files name.now written.now
         → OnOk result (FindsImage files name.now (W.taken output.old) (W.taken output.new)) }
-    ensures refused { (files : Option Contents) → HasSource files name.now bytes.now
+    ensures refused { (files : Option Contents) → HasBytes files name.now written.now
         → IfErr result (RefusesExplaining files name.now (W.taken output.old) (W.taken output.new)) }
     ensures none_failed { OnOk result (W.failures output.new ≡ W.failures output.old) }
     ensures failed { IfErr result (λ fault. W.failures output.new ≡ W.failures output.old + writes_failed fault) }
     ensures unread { IfErr result (λ fault. reads_failed fault ≡ 0) }
     ensures missed { IfErr result (λ fault. files_failed fault ≡ 0) }
 {
-    match compile_bytes(alloc, bytes) {
+    match compile_read(alloc, bytes) {
         Ok(image) => {
             let image = Boxed::new(alloc, image)?;
-            tell_found(alloc, name, bytes, image.get().image(), output)
+            tell_found(alloc, name, written, image.get().image(), output)
         }
-        Err(fault) => Err(refused(alloc, name, bytes, fault, output)),
+        Err(unmade) => Err(refused(alloc, name, bytes, written, unmade, output)),
     }
 }
 
-/// Compiles the program in this file, and writes the summary of its image with the warnings of the text, or else why it
-/// has none: the place of the fault, what is wrong, and what helps. Err: there is no program in the file, or it has no
-/// image, and this was told; or the output failed.
-#[tactic(auto, using(crate::proofs::Told::told_source, crate::proofs::Told::told_faulty, command_files::proofs::Sourced::as_written, command_files::proofs::Sourced::as_reduced))]
+/// Compiles the program in this file, and writes the summary of its image with the warnings of what is written there,
+/// or else why it has none: the place of the fault, what is wrong, and what helps. Err: there is no program in the
+/// file, or it has no image, and this was told; or the output failed.
+#[tactic(auto, using(crate::proofs::Told::told_source, crate::proofs::Told::told_faulty, crate::proofs::Stands::stands_written, crate::proofs::Stands::stands_reduced, crate::proofs::Stands::held_seen))]
 pub(crate) fn explain<F: Files, W: Sink>(
     alloc: Global,
     name: &str,
@@ -146,11 +151,17 @@ pub(crate) fn explain<F: Files, W: Sink>(
 {
     let bytes = match bytes_of(alloc, files, name) {
         Ok(bytes) => bytes,
-        Err(fault) => return Err(refused(alloc, name, b"", fault, output)),
+        Err(fault) => {
+            let unmade = Unmade::unread(fault);
+            return Err(refused(alloc, name, b"", b"", unmade, output));
+        }
     };
     match reduced_source(alloc, &bytes) {
-        Ok(Some(text)) => explain_source(alloc, name, text.as_bytes(), output),
-        Ok(None) => explain_source(alloc, name, &bytes, output),
-        Err(fault) => Err(refused(alloc, name, &bytes, fault, output)),
+        Ok(Some(text)) => explain_source(alloc, name, text.as_bytes(), &bytes, output),
+        Ok(None) => explain_source(alloc, name, &bytes, &bytes, output),
+        Err(fault) => {
+            let unmade = Unmade::unread(fault);
+            Err(refused(alloc, name, &bytes, b"", unmade, output))
+        }
     }
 }

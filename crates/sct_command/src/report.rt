@@ -2,14 +2,18 @@
 
 ghost use Rattle.std.specs.Prelude.{◌≡◌, IfOk, string_bytes};
 ghost use Rattle.std.specs.Str.{IsUtf8};
+ghost use Rattle.compiler.specs.FaultText.{fault_text};
 ghost use Rattle.diagnostics.specs.Reports.{Tells, text_fault};
 ghost use Rattle.fault_lists.specs.Reports.{TellsEach};
 ghost use Rattle.sct_command.specs.Explaining.{IsReport, TellsEachFlaw, told_fault};
 
-use command_files::{LoadFault, shown_name, text_of};
-use diagnostics::{program_fault_explained, told_nowhere};
+use command_files::{LoadFault, shown_name};
+use compiler::CompileFault;
+use diagnostics::{author_fault_told, program_fault_told, told_nowhere};
+use extended_sources::begins_extended;
 use fault_lists::faults_explained;
 use sc_text::ReadFault;
+use source_programs::ReadSource;
 use std::alloc::{AllocError, Global};
 use std::str;
 
@@ -49,22 +53,48 @@ fn flaws_told(
     }
 }
 
-// What is said of the fault of these bytes.
+// The text of the extended chart that is written there. None: something else is.
+fn author_text(written: &[u8]) -> Option<&str> {
+    if !begins_extended(written) {
+        return None;
+    }
+    match str::from_utf8(written) {
+        Ok(text) => Some(text),
+        Err(_) => None,
+    }
+}
+
+// What is said of the fault of a program: in the text of the extended chart of its author, where that is written there.
+fn program_told(
+    alloc: Global,
+    name: &str,
+    written: &[u8],
+    fault: &CompileFault,
+    source: Option<&ReadSource<'_>>,
+) -> Result<String, AllocError>
+    ensures { IfOk result (λ report. Tells name.now (fault_text fault.now) (string_bytes report)) }
+{
+    match author_text(written) {
+        Some(text) => author_fault_told(alloc, name, text, fault),
+        None => program_fault_told(alloc, name, source, fault),
+    }
+}
+
+// What is said of the fault of these bytes, and where they were read as a text by that.
 fn explanation(
     alloc: Global,
     name: &str,
     bytes: &[u8],
+    written: &[u8],
     fault: &LoadFault,
+    source: Option<&ReadSource<'_>>,
 ) -> Result<String, AllocError>
     ensures tells { IfOk result (λ report. Tells name.now (told_fault fault.now) (string_bytes report)) }
     ensures flaws { IfOk result (λ report. TellsEachFlaw name.now bytes.now fault.now (string_bytes report)) }
 {
     match fault {
         LoadFault::Text(fault) => flaws_told(alloc, name, bytes, fault),
-        LoadFault::Program(fault) => match text_of(bytes) {
-            Ok(text) => program_fault_explained(alloc, name, text, fault),
-            Err(_) => program_fault_explained(alloc, name, "", fault),
-        },
+        LoadFault::Program(fault) => program_told(alloc, name, written, fault, source),
         LoadFault::File(_) => told_nowhere(
             alloc,
             name,
@@ -75,15 +105,19 @@ fn explanation(
     }
 }
 
-/// What is said of the fault of these bytes, which are those of the file of this name. Err: memory was refused.
+/// What is said of the fault of these bytes, which are those of the file of this name; where they were read as a text
+/// with a program, by what was read; and where the text of an extended chart stands in the file, which is reduced to
+/// that, in this. Err: memory was refused.
 pub(crate) fn report_of(
     alloc: Global,
     name: &str,
     bytes: &[u8],
+    written: &[u8],
     fault: &LoadFault,
+    source: Option<&ReadSource<'_>>,
 ) -> Result<String, AllocError>
     ensures { IfOk result (λ report. IsReport name.now bytes.now fault.now (string_bytes report)) }
 {
     let shown = shown_name(alloc, name)?;
-    explanation(alloc, shown.as_str(), bytes, fault)
+    explanation(alloc, shown.as_str(), bytes, written, fault, source)
 }

@@ -1,12 +1,14 @@
-//! The warnings of a text in a file.
+//! The warnings of what is written in a file.
 
 ghost use Rattle.std.specs.Prelude.{◌≡◌, IfOk, string_bytes};
 ghost use Rattle.std.specs.Str.{IsUtf8};
 ghost use Rattle.command_files.specs.FaultText.{shown_name};
 ghost use Rattle.sct_command.specs.Beside.{AreWarnings};
-ghost use Rattle.warning_texts.specs.Reports.{IsTold};
+ghost use Rattle.sct_command.specs.Warned.{IsWarned};
 
 use command_files::shown_name;
+use extended_sources::begins_extended;
+use extended_warnings::author_warnings_told;
 use std::alloc::{AllocError, Global};
 use std::str;
 use warning_texts::warnings_told;
@@ -22,27 +24,38 @@ fn text_in(bytes: &[u8]) -> &str
     }
 }
 
-/// The warnings of the text that these bytes are, which are those of the file of this name. Err: memory was refused.
-pub(crate) fn warnings_in(alloc: Global, name: &str, bytes: &[u8]) -> Result<String, AllocError>
-    requires { IsUtf8 bytes.now }
-    ensures { IfOk result (λ told. IsTold (shown_name name.now) bytes.now (string_bytes told)) }
+// The warnings of this text, which is shown under this name.
+fn warnings_shown(alloc: Global, shown: &str, written: &str) -> Result<String, AllocError>
+    ensures { IfOk result (λ told. IsWarned shown.now written.now (string_bytes told)) }
+{
+    if begins_extended(written.as_bytes()) {
+        author_warnings_told(alloc, shown, written)
+    } else {
+        warnings_told(alloc, shown, written)
+    }
+}
+
+/// The warnings of what is written in the file of this name, which is text. Err: memory was refused.
+pub(crate) fn warnings_in(alloc: Global, name: &str, written: &[u8]) -> Result<String, AllocError>
+    requires { IsUtf8 written.now }
+    ensures { IfOk result (λ told. IsWarned (shown_name name.now) written.now (string_bytes told)) }
 {
     let shown = shown_name(alloc, name)?;
-    warnings_told(alloc, shown.as_str(), text_in(bytes))
+    warnings_shown(alloc, shown.as_str(), text_in(written))
 }
 
 /// The same where they are wanted, and else nothing.
 pub(crate) fn warnings_wanted(
     alloc: Global,
     name: &str,
-    bytes: &[u8],
+    written: &[u8],
     warns: bool,
 ) -> Result<String, AllocError>
-    requires { IsUtf8 bytes.now }
-    ensures { IfOk result (λ told. AreWarnings name.now bytes.now warns (string_bytes told)) }
+    requires { IsUtf8 written.now }
+    ensures { IfOk result (λ told. AreWarnings name.now written.now warns (string_bytes told)) }
 {
     if warns {
-        warnings_in(alloc, name, bytes)
+        warnings_in(alloc, name, written)
     } else {
         Ok(String::new(alloc))
     }

@@ -4,6 +4,7 @@ ghost use Rattle.std.specs.Prelude.{◌≡◌, ◌+◌, [], IfErr, OnErr, OnOk, 
 ghost use Rattle.std.specs.Str.{IsUtf8};
 ghost use Rattle.bytecode.specs.Spells.{Spells};
 ghost use Rattle.command_files.specs.Sources.{BytesLackImage};
+ghost use Rattle.command_files.specs.Standing.{StandsFor};
 ghost use Rattle.sct_command.specs.Beside.{AreWarnings, AreWarningsOf, SaysOfFault};
 ghost use Rattle.sct_command.specs.Failing.{files_failed, reads_failed, writes_failed};
 ghost use Rattle.sct_command.specs.Inside.Held.{IsMemory, IsSpelt, SaysOfBytes};
@@ -35,7 +36,8 @@ fn write_image<W: Sink>(alloc: Global, image: &Image, output: &mut W) -> Result<
     }
 }
 
-// Writes an image of the text that these bytes are, and says the warnings of that where they are wanted.
+// Writes an image of the program in the file of this name, in which these bytes are, and says the warnings of them
+// where they are wanted.
 fn write_warned<W: Sink>(
     alloc: Global,
     from: &str,
@@ -63,16 +65,19 @@ fn write_warned<W: Sink>(
     Ok(())
 }
 
-// Compiles the text that these bytes are, which are those of the file of this name.
+// Compiles the source that these bytes are, for which other ones stand in the file of this name.
+#[tactic(auto, using(crate::proofs::Stands::written_text))]
 fn write_held<W: Sink>(
     alloc: Global,
     from: &str,
     bytes: &[u8],
+    written: &[u8],
     warns: bool,
     wanted: bool,
     output: &mut W,
     said: &mut String,
 ) -> Result<(), Fault>
+    requires stands { StandsFor written.now bytes.now }
     requires none { string_bytes said.now ≡ [] }
     ensures done { OnOk result (Writes (IsSpelt bytes.now) (W.taken output.old) (W.taken output.new)) }
     ensures refused { IfErr result
@@ -81,16 +86,25 @@ fn write_held<W: Sink>(
     ensures failed { IfErr result (λ fault. W.failures output.new ≡ W.failures output.old + writes_failed fault) }
     ensures unread { IfErr result (λ fault. reads_failed fault ≡ 0) }
     ensures missed { IfErr result (λ fault. files_failed fault ≡ 0) }
-    ensures warned { OnOk result (AreWarnings from.now bytes.now warns (string_bytes said.new)) }
+    ensures warned { OnOk result (AreWarnings from.now written.now warns (string_bytes said.new)) }
     ensures reported { IfErr result (λ fault. SaysOfBytes from.now bytes.now wanted fault (string_bytes said.new)) }
 {
-    let image = image_told(alloc, from, bytes, wanted, said)?;
-    write_warned(alloc, from, bytes, image.get().image(), warns, output, said)
+    let image = image_told(alloc, from, bytes, written, wanted, said)?;
+    write_warned(
+        alloc,
+        from,
+        written,
+        image.get().image(),
+        warns,
+        output,
+        said,
+    )
 }
 
 /// Writes the image of the program in this file to the output, once it is verified, and says the warnings of the text
 /// where they are wanted. Err: there is no program in the file, or it has no image, of which a report is `said` where
 /// words are wanted, and then nothing is written; or the output failed.
+#[tactic(auto, using(crate::proofs::Stands::stands_seen))]
 pub(crate) fn write_compiled<F: Files, W: Sink>(
     alloc: Global,
     from: &str,
@@ -115,6 +129,15 @@ pub(crate) fn write_compiled<F: Files, W: Sink>(
     ensures reported { IfErr result (λ fault.
         SaysOfFault (F.contents files.old) from.now wanted fault (string_bytes said.new)) }
 {
-    let bytes = source_told(alloc, from, wanted, files, said)?;
-    write_held(alloc, from, &bytes, warns, wanted, output, said)
+    let source = source_told(alloc, from, wanted, files, said)?;
+    write_held(
+        alloc,
+        from,
+        &source.bytes,
+        source.written(),
+        warns,
+        wanted,
+        output,
+        said,
+    )
 }

@@ -10,4 +10,5 @@ mod telling;
 mod warned_text;
 mod words;
 
-pub use telling::warnings_told;
+pub use places::{ChartPlaces, StatePlaces, places_of};
+pub use telling::{reports_of, warnings_told};

@@ -26,7 +26,7 @@ pub struct ChartPlaces {
 }
 
 /// The places of the chart that a draft is. Err: memory was refused.
-pub(crate) fn places_of(alloc: Global, draft: &DraftChart) -> Result<ChartPlaces, AllocError>
+pub fn places_of(alloc: Global, draft: &DraftChart) -> Result<ChartPlaces, AllocError>
     ensures { IfOk result (λ places. places ≡ places_of draft.now) }
 {
     let variables = variable_places(alloc, draft.variables.as_slice())?;

@@ -7,12 +7,13 @@ ghost use Rattle.warning_texts.specs.Reports.{AreReports, IsTold, Warns, heads_a
 ghost use Rattle.warning_texts.specs.Inside.Gaining.{Gains};
 
 use crate::allowance::is_allowed;
-use crate::places::places_of;
+use crate::places::{ChartPlaces, places_of};
 use crate::report::report_of;
 use crate::warned_text::WarnedText;
 use chart_drafts::{DraftChart, read_checked};
 use chart_reader::chart_of;
 use chart_warnings::{Warning, warnings_of};
+use sc_graph::Variable;
 use sc_text::ReadFault;
 use std::alloc::{AllocError, Global};
 
@@ -39,13 +40,36 @@ fn told_of(alloc: Global, name: &str, text: &str, draft: &DraftChart) -> Result<
     let chart = chart_of(alloc, draft)?;
     let warnings = warnings_of(alloc, &chart)?;
     let places = places_of(alloc, draft)?;
+    reports_of(
+        alloc,
+        name,
+        text,
+        chart.variables(),
+        &places,
+        warnings.as_slice(),
+    )
+}
+
+/// A report for each of these warnings of a chart with these variables that the line of its place does not allow, one
+/// behind the other, where these are the places in the text. Err: memory was refused.
+pub fn reports_of(
+    alloc: Global,
+    name: &str,
+    text: &str,
+    variables: &[Variable],
+    places: &ChartPlaces,
+    warnings: &[Warning],
+) -> Result<String, AllocError>
+    ensures { IfOk result (λ told.
+        AreReports name.now (heads_of text.now places.now warnings.now) (string_bytes told)) }
+{
     let warned = WarnedText {
         name,
         text,
-        draft,
-        places: &places,
+        variables,
+        places,
     };
-    tell_all(alloc, warned, warnings.as_slice())
+    tell_all(alloc, warned, warnings)
 }
 
 // The reports of these warnings, one behind the other.

@@ -1,18 +1,18 @@
 //! What is known where a warning is told.
 
 use crate::places::ChartPlaces;
-use chart_drafts::DraftChart;
-use diagnostics::name_at;
+use node_sources::name_at;
+use sc_graph::Variable;
 use sc_values::Kind;
 use sqlite_items::at;
 use std::alloc::{AllocError, Global};
 
-/// The shown name of a file, its text, the draft of the text, and the places in it of which warnings speak.
+/// The shown name of a file, its text, the variables of its chart, and the places in it of which warnings speak.
 #[derive(Clone, Copy)]
 pub(crate) struct WarnedText<'a> {
     pub(crate) name: &'a str,
     pub(crate) text: &'a str,
-    pub(crate) draft: &'a DraftChart,
+    pub(crate) variables: &'a [Variable],
     pub(crate) places: &'a ChartPlaces,
 }
 
@@ -39,7 +39,7 @@ impl<'a> WarnedText<'a> {
 
     /// The value at which a variable rests: `false` or 0.
     pub(crate) fn rest(self, number: usize) -> &'static str {
-        match at(self.draft.variables.as_slice(), number) {
+        match at(self.variables, number) {
             Some(variable) => match variable.kind {
                 Kind::Bool => "false",
                 Kind::Int => "0",

@@ -1,5 +1,5 @@
 -- What is left where the text in some bytes is compiled: what is said of these bytes is said of their file then.
-use Rattle.std.specs.Prelude.{ℕ, Bool, true, ◌≡◌, ◌⊎◌, Option, List, []}
+use Rattle.std.specs.Prelude.{ℕ, Bool, true, ◌≡◌, ◌⊎◌, Option, List, [], option_map, unwrap_or}
 use Rattle.bytecode.specs.Image.{Image}
 use Rattle.bytecode.specs.Spells.{Spells}
 use Rattle.command_files.specs.declared.fault.LoadFault.{LoadFault}
@@ -9,6 +9,7 @@ use Rattle.command_files.specs.Sources.{BytesLackImage, SpellsImage}
 use Rattle.command_files.specs.Storing.{IsNotStored}
 use Rattle.sct_command.specs.Explaining.{IsReport}
 use Rattle.sct_command.specs.Keeping.{KeepsImage, KeepsPart}
+use Rattle.sct_command.specs.declared.source_image.HeldSource.{HeldSource}
 use Rattle.sct_command.specs.declared.fault.Fault.{Fault}
 use Rattle.sct_command.specs.declared.fault.Fault.TheVariants as fault
 
@@ -40,6 +41,10 @@ IsHeldReport name bytes wanted f said = (said ≡ []) ⊎ ((wanted ≡ true) × 
 abbrev pub SaysOfBytes : (name bytes : List ℕ) → Bool → Fault → List ℕ → Type 0
 SaysOfBytes name bytes wanted (fault.Files f) said = IsHeldReport name bytes wanted f said
 SaysOfBytes name bytes wanted other said = said ≡ []
+
+-- what is written in the file of a source: the text of the extended chart that is reduced to it, or the source itself
+abbrev pub written_in : HeldSource → List ℕ
+written_in s = unwrap_or (option_map (λ w. w.items) s.written) s.bytes.items
 
 -- memory alone was refused
 abbrev pub IsMemory : LoadFault → Type 0

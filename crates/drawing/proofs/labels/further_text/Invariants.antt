@@ -4,4 +4,4 @@ use Rattle.drawing.proofs.labels.further_text.Given as goal
 
 abbrev pub invariant-loop-effect : goal.invariant-loop-effect
 invariant-loop-effect l =
-    string_bytes l.text ++ further_text l.variables (drop l.effect-index l.effects) ≡ further_text l.variables l.effects
+    string_bytes l.text ++ further_text l.symbols l.signals (drop l.effect-index l.effects) ≡ further_text l.symbols l.signals l.effects

@@ -1,24 +1,25 @@
 use Rattle.std.proofs.Common.{subst, sym}
+use Rattle.command_files.specs.Files.{HasBytes}
 use Rattle.command_files.specs.Standing.{HasSource}
 use Rattle.sct_command.proofs.Compiled.{refuses_writing, reported, warned, writes_program}
 use Rattle.sct_command.proofs.write_compiled.write_compiled.Goals as goal
 
 pub returns-clause-done : goal.returns-clause-done
 returns-clause-done g c = writes_program c.write_held.result _ _ _ _ _
-    (subst (HasSource (g.F.Files.contents c.args.files.now) c.args.from.now) (sym c.deref.ensures.value) c.in_ok-bytes.ensures.source)
+    (subst (HasSource (g.F.Files.contents c.args.files.now) c.args.from.now) (sym c.deref.ensures.value) c.in_ok-source.ensures.source)
     c.write_held.ensures.done
 
 pub returns-clause-refused : goal.returns-clause-refused
 returns-clause-refused g c = refuses_writing c.write_held.result _ _ _ _ _
-    (subst (HasSource (g.F.Files.contents c.args.files.now) c.args.from.now) (sym c.deref.ensures.value) c.in_ok-bytes.ensures.source)
+    (subst (HasSource (g.F.Files.contents c.args.files.now) c.args.from.now) (sym c.deref.ensures.value) c.in_ok-source.ensures.source)
     c.write_held.ensures.refused
 
 pub returns-clause-warned : goal.returns-clause-warned
 returns-clause-warned g c = warned c.write_held.result _ _ _ _ _
-    (subst (HasSource (g.F.Files.contents c.args.files.now) c.args.from.now) (sym c.deref.ensures.value) c.in_ok-bytes.ensures.source)
+    (subst (HasBytes (g.F.Files.contents c.args.files.now) c.args.from.now) (sym c.written.ensures) c.in_ok-source.ensures.held)
     c.write_held.ensures.warned
 
 pub returns-clause-reported : goal.returns-clause-reported
 returns-clause-reported g c = reported c.write_held.result _ _ _ _ _
-    (subst (HasSource (g.F.Files.contents c.args.files.now) c.args.from.now) (sym c.deref.ensures.value) c.in_ok-bytes.ensures.source)
+    (subst (HasSource (g.F.Files.contents c.args.files.now) c.args.from.now) (sym c.deref.ensures.value) c.in_ok-source.ensures.source)
     c.write_held.ensures.reported

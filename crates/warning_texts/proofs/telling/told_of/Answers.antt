@@ -10,4 +10,4 @@ pub returns : goal.returns
 returns c =
     warned c.args.name.now c.args.text.now c.args.draft.now c.requires.sound c.in_ok-chart.chart c.in_ok-warnings.warnings
     c.as_slice.result.now c.in_ok-places.places c.in_ok-chart.ensures c.in_ok-warnings.ensures c.as_slice.ensures c.in_ok-places.ensures
-    string_bytes c.tell_all.result c.tell_all.ensures
+    string_bytes c.reports_of.result c.reports_of.ensures

@@ -1,0 +1,5 @@
+pub mod Symbols
+pub mod Triggers
+pub mod Actions
+pub mod Transitions
+pub mod Inside

@@ -1,0 +1,5 @@
+pub mod Nodes
+pub mod Sources
+pub mod Labels
+pub mod Laws
+pub mod Inside
