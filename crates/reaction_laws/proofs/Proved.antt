@@ -11,7 +11,7 @@ pub use Rattle.reaction_laws.proofs.SitsAtStart.{sits_initially, sits_at_start}
 pub use Rattle.reaction_laws.proofs.CoreCompletes.{completes_to}
 pub use Rattle.reaction_laws.proofs.StepRuns.{step_run, start_run}
 pub use Rattle.reaction_laws.proofs.ChartRuns.{ticks_end, layered_ticks_end}
-pub use Rattle.reaction_laws.proofs.SeenInGraph.{core_ends_alike}
+pub use Rattle.reaction_laws.proofs.SeenInGraph.{core_ends_alike, apart_ticks_end_alike}
 pub use Rattle.reaction_laws.proofs.RanksReact.{has_reaction}
 pub use Rattle.reaction_laws.proofs.OneReaction.{one_reaction}
 pub use Rattle.reaction_laws.proofs.ChartsSit.{one_list_of_ends}

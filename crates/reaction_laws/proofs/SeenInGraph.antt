@@ -1,4 +1,5 @@
--- A list of ends of a weakly layered chart and one of its core chart are seen alike in the one list of ends of the graph, so they are seen alike.
+-- A list of ends of a chart that has one of its core chart which is seen alike, and each one of the core chart, are seen alike in the one list of ends
+-- of the graph, so they are seen alike. Each one of a weakly layered chart has such.
 use Rattle.std.proofs.Common.{◌≡◌, ℕ, ◌<◌, true, Option, Some, None, List, [], ◌∷◌, length, take, slice_get, unwrap_or, refl, sym, ap, subst, ◌∙◌}
 use Rattle.std.proofs.lemmas.Option.{none-some, slice_get_within}
 use Rattle.sc_values.specs.Runs.{Ends}
@@ -34,7 +35,9 @@ use Rattle.abort_expansion_laws.specs.Layered.{IsWeaklyLayered}
 use Rattle.abort_expansion_laws.specs.Preemption.{chart_machine, IsActiveInCore, SeenAlike, HasImage}
 use Rattle.abort_expansion_laws.specs.Ticks.{Reactive, Reaction, AllOf, EachAlike, HasAlike}
 use Rattle.abort_expansion_laws.proofs.StatesMapped.{states_mapped_all}
+use Rattle.abort_expansion_laws.proofs.ApartTicks.{apart_ticks_are_kept}
 use Rattle.abort_expansion_laws.proofs.StepsByCase.{preemption_holds}
+use Rattle.reaction_laws.specs.KeptBack.{ApartTicksEndAlike}
 
 -- the other spelling of lists of ends
 back : (r : Reactive) (ticks : List Inputs) (c : r.machine.Configuration) (ends : List r.machine.Configuration) →
@@ -122,7 +125,7 @@ module _ (c : Chart) (rules : IsChart features.Extended c) where
   all_kept [] (e ∷ es) [] first shown = absurd shown
   all_kept (d ∷ ds) [] (m ∷ ms) first shown = absurd shown
 
-  module _ (layered : IsWeaklyLayered c) (image : HasImage c) (low : IsLowering core image.scl) where
+  module _ (image : HasImage c) (low : IsLowering core image.scl) where
     abbrev G : Program
     G = program_of (numbered image.scl)
 
@@ -136,12 +139,11 @@ module _ (c : Chart) (rules : IsChart features.Extended c) where
     one : HasOneReaction core (state_of_node core) G
     one = one_reaction core image.scl image.tables low valid (state_of_node core) (nodes_stand core image.scl low)
 
-    pub core_ends_alike : (ticks : List Inputs) (ds es : List Configuration) → AllOf (AreAccepted image.program) ticks →
-        Reaction (chart_machine c) ticks (initial k) ds → Reaction (chart_machine core) ticks (initial (table core)) es →
-        EachAlike (λ e d. SeenAlike c d e) es ds
-    core_ends_alike ticks ds es accepted d_reacts e_reacts =
-        let d_core : HasAlike (chart_machine core) Configuration (SeenAlike c) ticks (initial (table core)) ds =
-        preemption_holds c rules low.core layered image ticks ds accepted d_reacts in
+    -- ends that have some of the core chart which are seen alike
+    pub ends_alike : (ticks : List Inputs) (ds es : List Configuration) → AllOf (AreAccepted image.program) ticks →
+        HasAlike (chart_machine core) Configuration (SeenAlike c) ticks (initial (table core)) ds →
+        Reaction (chart_machine core) ticks (initial (table core)) es → EachAlike (λ e d. SeenAlike c d e) es ds
+    ends_alike ticks ds es accepted d_core e_reacts =
         let those : GraphEnds G image.tables valid ticks (graph_tick.initial G) =
         graph_reacts G image.tables valid ticks (graph_tick.initial G) (rests-initial G) (all_accepted ticks accepted) in
         all_kept ds es those.ends
@@ -149,3 +151,13 @@ module _ (c : Chart) (rules : IsChart features.Extended c) where
         (one.each ticks d_core.others those.ends (all_accepted ticks accepted)
         (back (chart_machine core) ticks (initial (table core)) d_core.others d_core.reaction) those.reacts))
         (one.each ticks es those.ends (all_accepted ticks accepted) (back (chart_machine core) ticks (initial (table core)) es e_reacts) those.reacts)
+
+  pub core_ends_alike : IsWeaklyLayered c → (image : HasImage c) → IsLowering core image.scl → (ticks : List Inputs) (ds es : List Configuration) →
+      AllOf (AreAccepted image.program) ticks → Reaction (chart_machine c) ticks (initial k) ds →
+      Reaction (chart_machine core) ticks (initial (table core)) es → EachAlike (λ e d. SeenAlike c d e) es ds
+  core_ends_alike layered image low ticks ds es accepted d_reacts e_reacts =
+      ends_alike image low ticks ds es accepted (preemption_holds c rules low.core layered image ticks ds accepted d_reacts) e_reacts
+
+pub apart_ticks_end_alike : ApartTicksEndAlike
+apart_ticks_end_alike c rules image low ticks ds es accepted d_reacts e_reacts =
+    ends_alike c rules image low ticks ds es accepted (apart_ticks_are_kept c rules low.core image ticks ds accepted d_reacts) e_reacts

@@ -3,7 +3,7 @@
 #![tactic(auto)]
 
 ghost use Rattle.reaction_laws.specs.Bounded.{LayeredTicksEnd, TicksEnd};
-ghost use Rattle.reaction_laws.specs.KeptBack.{CoreChartsDoNoMore};
+ghost use Rattle.reaction_laws.specs.KeptBack.{ApartTicksEndAlike, CoreChartsDoNoMore};
 ghost use Rattle.reaction_laws.specs.LowLines.{LinesStayLow};
 ghost use Rattle.reaction_laws.specs.Reacts.{ChartsReact, LayeredChartsReact};
 ghost use Rattle.reaction_laws.specs.StepNodes.{PrioritiesOrderSteps, StepsComeToNodes};
@@ -40,6 +40,13 @@ pub fn layered_charts_react()
 /// has one of the chart that is seen alike. This function does nothing; its contract is the law.
 pub fn core_charts_do_no_more()
     ensures { CoreChartsDoNoMore }
+{}
+
+/// In ticks in which of the superstates that are left by weak aborts none lies inside of another one, the one list of
+/// ends of a chart that has a valid image and whichever one of its core chart are seen alike, however aborts lie in
+/// others. This function does nothing; its contract is the law.
+pub fn apart_ticks_end_alike()
+    ensures { ApartTicksEndAlike }
 {}
 
 /// Wherever a core chart and its valid graph stand alike, a run of threads alone leads to where they do so too, and the
