@@ -7,8 +7,8 @@ ghost use Rattle.abort_expansion.specs.Inside.Sorts.{is_abort_of, aborts_of, is_
 
 use crate::flags::Flags;
 use crate::making::{alone, check, go, is_number, put};
-use crate::places::{RegionPlaces, copied_trigger};
-use core_charts::{Transition, TransitionKind};
+use crate::places::RegionPlaces;
+use core_charts::{Transition, TransitionKind, copied_trigger};
 use sc_graph::VariableId;
 use sqlite_items::Items;
 use std::alloc::{AllocError, Global};

@@ -4,7 +4,7 @@ ghost use Rattle.std.specs.Prelude.{◌≡◌, IfOk, false, slice_get, unwrap_or
 ghost use Rattle.abort_expansion.specs.Transitions.{place_of, counting, led, led_by};
 
 use crate::making::{counting_down, go};
-use core_charts::{Effect, Transition};
+use core_charts::{Effect, Transition, copied_effects, copied_trigger};
 use sc_graph::VariableId;
 use sc_values::Expr;
 use sqlite_items::Items;
@@ -98,27 +98,4 @@ impl RegionPlaces {
         }
         Ok(made)
     }
-}
-
-/// A copy of a trigger. Err: memory was refused.
-pub(crate) fn copied_trigger(
-    alloc: Global,
-    trigger: &Option<Expr>,
-) -> Result<Option<Expr>, AllocError>
-    ensures { IfOk result (λ copy. copy ≡ trigger.now) }
-{
-    match trigger {
-        Some(condition) => Ok(Some(condition.copied(alloc)?)),
-        None => Ok(None),
-    }
-}
-
-fn copied_effects(alloc: Global, effects: &[Effect]) -> Result<Items<Effect>, AllocError>
-    ensures { IfOk result (λ copy. copy ≡ effects.now) }
-{
-    let mut copy = Vec::with_capacity(alloc, effects.len())?;
-    for effect in effects {
-        copy.push(effect.copied(alloc)?)?;
-    }
-    Ok(Items::from_vec(copy))
 }

@@ -16,8 +16,8 @@ use Rattle.chart_machine.specs.declared.table.RegionRow.{RegionRow}
 use Rattle.chart_machine.specs.declared.table.Table.{Table}
 use Rattle.chart_machine.specs.declared.table.TablePosition.{TablePosition}
 use Rattle.chart_machine.specs.declared.table.StatesRows.{StatesRows}
-use Rattle.chart_machine.specs.Table.{Piece, region_at, state_numbers, states_in, regions_in, in_region, past_states, with_region, regions_in_initial}
-use Rattle.chart_machine.specs.Table.{inside_region, region_piece, state_piece, piece_of_state}
+use Rattle.chart_machine.specs.Table.{Subtree, region_at, state_numbers, states_in, regions_in, in_region, past_states, with_region, regions_in_initial}
+use Rattle.chart_machine.specs.Table.{inside_region, region_subtree, state_subtree, subtree_of_state}
 use Rattle.scl.specs.declared.statement.Statement.{Statement}
 use Rattle.scl.specs.Block.{Block, End, Label}
 use Rattle.scl.specs.Numbering.{Piece as TextPiece}
@@ -69,12 +69,13 @@ module _ (k : Table) (ms : List Mark) (root : Block) (keeps : KeepsScopes root) 
   -- a region of this many states
   module _ (size : ℕ) where
     -- one state that is not initial
-    module _ (s : State) (ps : List Piece) (walks : WalksState k ms root keeps top size s) (rowed : StateRowed s) (is : (piece_of_state s).is_initial ≡ false)
+    module _ (s : State) (ps : List Subtree) (walks : WalksState k ms root keeps top size s) (rowed : StateRowed s)
+        (is : (subtree_of_state s).is_initial ≡ false)
         (sc : TablePosition) (next before : ℕ) (follows : next ≡ suc before) (above : sc.holder < next) (sized : length (region_at k sc.holder).states ≡ size)
-        (states : StandAt k.states sc.state (in_region (piece_of_state s ∷ ps) next sc).states)
-        (rows : StandAt k.regions before (in_region (piece_of_state s ∷ ps) next sc).others) where
-      abbrev p : Piece
-      p = piece_of_state s
+        (states : StandAt k.states sc.state (in_region (subtree_of_state s ∷ ps) next sc).states)
+        (rows : StandAt k.regions before (in_region (subtree_of_state s ∷ ps) next sc).others) where
+      abbrev p : Subtree
+      p = subtree_of_state s
 
       own_states : StandAt k.states sc.state ((p.parts (with_region next sc)).states ++ (in_region ps (next + p.regions) (past_states p.states sc)).states)
       own_states = subst (λ b. StandAt k.states sc.state (joined_by b p ps next sc).states) is states
@@ -107,23 +108,23 @@ module _ (k : Table) (ms : List Mark) (root : Block) (keeps : KeepsScopes root) 
           at n nums following labelled goes marks thread main
 
     walk_others : (states : List State) → Each (WalksState k ms root keeps top size) states → Each StateRowed states → Each CountsState states →
-        Each StateMarked states → NoneInitial (map piece_of_state states) →
+        Each StateMarked states → NoneInitial (map subtree_of_state states) →
         (sc : TablePosition) (next before : ℕ) → next ≡ suc before → sc.holder < next → length (region_at k sc.holder).states ≡ size →
-        ((q : ℕ) → Contains (state_numbers (map piece_of_state states) sc.state) q → Contains (region_at k sc.holder).states q) →
-        StandAt k.states sc.state (in_region (map piece_of_state states) next sc).states →
-        StandAt k.regions before (in_region (map piece_of_state states) next sc).others →
+        ((q : ℕ) → Contains (state_numbers (map subtree_of_state states) sc.state) q → Contains (region_at k sc.holder).states q) →
+        StandAt k.states sc.state (in_region (map subtree_of_state states) next sc).states →
+        StandAt k.regions before (in_region (map subtree_of_state states) next sc).others →
         (at : Targets) (first m : ℕ) (nums : Numbers) (following : Block) → HasLabel following → Goes k ms root keeps top sc.holder sc.around at →
         StandAt ms sc.state (marked_by states first m) → nums.thread ≡ next →
         Main sc.holder (made (texts false at (map low_of_state states) (numbers (map low_of_state states) first m)) nums following) →
-        Others sc.state (sc.state + states_in (map piece_of_state states)) next (next + others_in (map piece_of_state states))
+        Others sc.state (sc.state + states_in (map subtree_of_state states)) next (next + others_in (map subtree_of_state states))
     walk_others [] walks rowed counts marked none sc next before follows above sized listed states rows at first m nums following labelled goes marks thread
         main = record { states = λ s lo hi. absurd (omega (arith, lo, hi)); others = λ q lo hi. absurd (omega (arith, lo, hi)) }
     walk_others (s ∷ ss) walks rowed counts marked none sc next before follows above sized listed states rows at first m nums following labelled goes marks
         thread main =
         let marks_too : StandAt ms sc.state ((marks_of_state s).marks m ++ marked_by ss first (m + (low_of_state s).labels)) = subst (StandAt ms sc.state)
         (marks_of_other s ss none.0 first m) marks in
-        let ps : List Piece = map piece_of_state ss in
-        let p : Piece = piece_of_state s in
+        let ps : List Subtree = map subtree_of_state ss in
+        let p : Subtree = subtree_of_state s in
         let rest : List Statement = texts false at (map low_of_state ss) (numbers (map low_of_state ss) first (m + (low_of_state s).labels)) in
         let here : Main sc.holder (made ((low_of_state s).text at m ++ rest) nums following) = subst (λ xs. Main sc.holder (made xs nums following))
         (text_of_other s ss none.0 at first m) main in
@@ -154,13 +155,14 @@ module _ (k : Table) (ms : List Mark) (root : Block) (keeps : KeepsScopes root) 
         }
 
     -- the initial state, and what the others have behind it
-    module _ (s : State) (ps : List Piece) (walks : WalksState k ms root keeps top size s) (rowed : StateRowed s) (is : (piece_of_state s).is_initial ≡ true)
+    module _ (s : State) (ps : List Subtree) (walks : WalksState k ms root keeps top size s) (rowed : StateRowed s)
+        (is : (subtree_of_state s).is_initial ≡ true)
         (sc : TablePosition) (next before : ℕ) (follows : sc.region ≡ suc before) (above : sc.holder < sc.region)
         (sized : length (region_at k sc.holder).states ≡ size)
-        (states : StandAt k.states sc.state (in_region (piece_of_state s ∷ ps) next sc).states)
-        (rows : StandAt k.regions before (in_region (piece_of_state s ∷ ps) next sc).first) where
-      abbrev q : Piece
-      q = piece_of_state s
+        (states : StandAt k.states sc.state (in_region (subtree_of_state s ∷ ps) next sc).states)
+        (rows : StandAt k.regions before (in_region (subtree_of_state s ∷ ps) next sc).first) where
+      abbrev q : Subtree
+      q = subtree_of_state s
 
       initial_states : StandAt k.states sc.state ((q.parts sc).states ++ (in_region ps next (past_states q.states sc)).states)
       initial_states = subst (λ b. StandAt k.states sc.state (joined_by b q ps next sc).states) is states
@@ -186,19 +188,19 @@ module _ (k : Table) (ms : List Mark) (root : Block) (keeps : KeepsScopes root) 
           at n nums following labelled goes marks thread main
 
     walk_states : (states : List State) → Each (WalksState k ms root keeps top size) states → Each StateRowed states → Each CountsState states →
-        Each StateMarked states → MostOne (map piece_of_state states) →
+        Each StateMarked states → MostOne (map subtree_of_state states) →
         (sc : TablePosition) (next before behind : ℕ) → sc.region ≡ suc before → next ≡ suc behind → sc.holder < sc.region → sc.holder < next →
         length (region_at k sc.holder).states ≡ size →
-        ((q : ℕ) → Contains (state_numbers (map piece_of_state states) sc.state) q → Contains (region_at k sc.holder).states q) →
-        StandAt k.states sc.state (in_region (map piece_of_state states) next sc).states →
-        StandAt k.regions before (in_region (map piece_of_state states) next sc).first →
-        StandAt k.regions behind (in_region (map piece_of_state states) next sc).others →
+        ((q : ℕ) → Contains (state_numbers (map subtree_of_state states) sc.state) q → Contains (region_at k sc.holder).states q) →
+        StandAt k.states sc.state (in_region (map subtree_of_state states) next sc).states →
+        StandAt k.regions before (in_region (map subtree_of_state states) next sc).first →
+        StandAt k.regions behind (in_region (map subtree_of_state states) next sc).others →
         (at : Targets) (first m : ℕ) (one two : Numbers) (then_one then_two : Block) → HasLabel then_one → HasLabel then_two →
         Goes k ms root keeps top sc.holder sc.around at → StandAt ms sc.state (marked_by states first m) → one.thread ≡ sc.region → two.thread ≡ next →
         Main sc.holder (made (texts true at (map low_of_state states) (numbers (map low_of_state states) first m)) one then_one) →
         Main sc.holder (made (texts false at (map low_of_state states) (numbers (map low_of_state states) first m)) two then_two) →
-        Among sc.state (sc.state + states_in (map piece_of_state states)) sc.region (sc.region + regions_in_initial (map piece_of_state states)) next
-        (next + others_in (map piece_of_state states))
+        Among sc.state (sc.state + states_in (map subtree_of_state states)) sc.region (sc.region + regions_in_initial (map subtree_of_state states)) next
+        (next + others_in (map subtree_of_state states))
     walk_states [] walks rowed counts marked most sc next before behind follows after above beyond sized listed states rows others at first m one two then_one
         then_two labelled labelled_too goes marks thread thread_two main main_two =
         record {
@@ -211,8 +213,8 @@ module _ (k : Table) (ms : List Mark) (root : Block) (keeps : KeepsScopes root) 
         two then_one then_two labelled labelled_too goes marks thread thread_two main main_two =
         let marks_too : StandAt ms sc.state ((marks_of_state s).marks first ++ marked_by ss first m) = subst (StandAt ms sc.state)
         (marks_of_initial s ss most.0 first m) marks in
-        let ps : List Piece = map piece_of_state ss in
-        let p : Piece = piece_of_state s in
+        let ps : List Subtree = map subtree_of_state ss in
+        let p : Subtree = subtree_of_state s in
         let rest : List Statement = texts true at (map low_of_state ss) (numbers (map low_of_state ss) first m) in
         let here : Main sc.holder (made ((low_of_state s).text at first ++ rest) one then_one) = subst (λ xs. Main sc.holder (made xs one then_one))
         (text_of_initial s ss most.0 at first m) main in
@@ -243,8 +245,8 @@ module _ (k : Table) (ms : List Mark) (root : Block) (keeps : KeepsScopes root) 
         two then_one then_two labelled labelled_too goes marks thread thread_two main main_two =
         let marks_too : StandAt ms sc.state ((marks_of_state s).marks m ++ marked_by ss first (m + (low_of_state s).labels)) = subst (StandAt ms sc.state)
         (marks_of_other s ss most.0 first m) marks in
-        let ps : List Piece = map piece_of_state ss in
-        let p : Piece = piece_of_state s in
+        let ps : List Subtree = map subtree_of_state ss in
+        let p : Subtree = subtree_of_state s in
         let n : ℕ = m + (low_of_state s).labels in
         let rest : List Statement = texts false at (map low_of_state ss) (numbers (map low_of_state ss) first n) in
         let here : Main sc.holder (made ((low_of_state s).text at m ++ rest) two then_two) = subst (λ xs. Main sc.holder (made xs two then_two))
@@ -283,19 +285,20 @@ module _ (k : Table) (ms : List Mark) (root : Block) (keeps : KeepsScopes root) 
   -- a region, over its states
   pub walk_region : (r : Region) → Each (WalksState k ms root keeps top (length (out-Region r).states)) (out-Region r).states →
       Each StateRowed (out-Region r).states → Each CountsState (out-Region r).states → Each StateMarked (out-Region r).states →
-      MostOne (map piece_of_state (out-Region r).states) → OneInitial (out-Region r).states → WalksRegion k ms root keeps top r
+      MostOne (map subtree_of_state (out-Region r).states) → OneInitial (out-Region r).states → WalksRegion k ms root keeps top r
   walk_region r walks rowed counts marked most exactly =
-      subst (λ p. WalksRegionBy k ms root keeps top p (low_of_region r) (marks_of_region r)) (sym (fold_out-Region Piece Piece region_piece state_piece r))
-      (subst (λ low. WalksRegionBy k ms root keeps top (region_piece (open_region r)) low (marks_of_region r))
+      subst (λ p. WalksRegionBy k ms root keeps top p (low_of_region r) (marks_of_region r))
+      (sym (fold_out-Region Subtree Subtree region_subtree state_subtree r))
+      (subst (λ low. WalksRegionBy k ms root keeps top (region_subtree (open_region r)) low (marks_of_region r))
       (sym (fold_out-Region RegionPiece StatePiece low_region low_state r))
-      (subst (λ m. WalksRegionBy k ms root keeps top (region_piece (open_region r)) (low_region (low_open_region r)) m)
+      (subst (λ m. WalksRegionBy k ms root keeps top (region_subtree (open_region r)) (low_region (low_open_region r)) m)
       (sym (fold_out-Region RegionMarks StateMarks region_marks state_marks r)) opened))
     where
-      opened : WalksRegionBy k ms root keeps top (region_piece (open_region r)) (low_region (low_open_region r))
+      opened : WalksRegionBy k ms root keeps top (region_subtree (open_region r)) (low_region (low_open_region r))
           (region_marks (record { name = (out-Region r).name; states = map marks_of_state (out-Region r).states }))
       opened at before follows held states rows n base nums marks thread main =
           let ss : List State = (out-Region r).states in
-          let ps : List Piece = map piece_of_state ss in
+          let ps : List Subtree = map subtree_of_state ss in
           let low : List StatePiece = map low_of_state ss in
           let init : ℕ = regions_in_initial ps in
           let next : ℕ = suc at.region + init in
@@ -387,10 +390,10 @@ module _ (k : Table) (ms : List Mark) (root : Block) (keeps : KeepsScopes root) 
                 (less_or_not q (suc at.region));
           }
         where
-          many_numbers : (ss : List State) (n : ℕ) → length (state_numbers (map piece_of_state ss) n) ≡ length ss
+          many_numbers : (ss : List State) (n : ℕ) → length (state_numbers (map subtree_of_state ss) n) ≡ length ss
           many_numbers [] n = refl
-          many_numbers (s ∷ ss) n = ap suc (many_numbers ss (n + (piece_of_state s).states))
+          many_numbers (s ∷ ss) n = ap suc (many_numbers ss (n + (subtree_of_state s).states))
 
-          rowed_pieces : (ss : List State) → Each StateRowed ss → Each Rowed (map piece_of_state ss)
+          rowed_pieces : (ss : List State) → Each StateRowed ss → Each Rowed (map subtree_of_state ss)
           rowed_pieces [] h = tt
           rowed_pieces (s ∷ ss) h = (h.0, rowed_pieces ss h.1)

@@ -14,7 +14,7 @@ use Rattle.core_charts.specs.declared.region.Region.TheViews.{out-Region, out-St
 use Rattle.core_charts.specs.declared.region.Region.TheFolds.{fold_out-Region, fold_out-State}
 use Rattle.core_charts.specs.Rules.{IsState, IsRegion, AreRegions}
 use Rattle.core_charts.specs.Tests.{at_once, terminations}
-use Rattle.chart_machine.specs.Table.{Piece, regions_in, region_piece, state_piece, piece_of_region, piece_of_state}
+use Rattle.chart_machine.specs.Table.{Subtree, regions_in, region_subtree, state_subtree, subtree_of_region, subtree_of_state}
 use Rattle.scl.specs.declared.statement.Statement.{Statement}
 use Rattle.scl.specs.declared.statement.Statement.TheVariants as statement
 use Rattle.scl.specs.Numbering.{piece_of, pieces_of, in_row, all_branch_counts}
@@ -94,27 +94,27 @@ behind_none at (join ∷ others) n = taken_none at join
 -- ---- regions and states
 
 abbrev pub CountsRegion : Region → Type 0
-CountsRegion r = (n : ℕ) → suc (threads_in ((low_of_region r).body n)) ≡ (piece_of_region r).regions
+CountsRegion r = (n : ℕ) → suc (threads_in ((low_of_region r).body n)) ≡ (subtree_of_region r).regions
 
 abbrev pub CountsState : State → Type 0
-CountsState s = (at : Targets) (n : ℕ) → threads_in ((low_of_state s).text at n) ≡ (piece_of_state s).regions
+CountsState s = (at : Targets) (n : ℕ) → threads_in ((low_of_state s).text at n) ≡ (subtree_of_state s).regions
 
 -- the branches of a fork
 pub branches_count : (regions : List Region) (n : ℕ) → Each CountsRegion regions →
-    (all_branch_counts (map (map piece_of) (branches (map low_of_region regions) n))).threads ≡ regions_in (map piece_of_region regions)
+    (all_branch_counts (map (map piece_of) (branches (map low_of_region regions) n))).threads ≡ regions_in (map subtree_of_region regions)
 branches_count [] n each = refl
 branches_count (r ∷ regions) n each =
-    let here : suc (threads_in ((low_of_region r).body n)) ≡ (piece_of_region r).regions = each.0 n in
+    let here : suc (threads_in ((low_of_region r).body n)) ≡ (subtree_of_region r).regions = each.0 n in
     let same : (in_row (map piece_of ((low_of_region r).body n))).counts.threads ≡ threads_in ((low_of_region r).body n) = ap (λ ps. (in_row ps).counts.threads)
     (sym (pieces_map ((low_of_region r).body n))) in
     let rest : (all_branch_counts (map (map piece_of) (branches (map low_of_region regions) (n + (low_of_region r).labels)))).threads ≡ regions_in
-    (map piece_of_region regions) = branches_count regions (n + (low_of_region r).labels) each.1 in
+    (map subtree_of_region regions) = branches_count regions (n + (low_of_region r).labels) each.1 in
     omega (arith, here, same, rest)
 
 -- a state with these regions
 state_count : (is_initial is_final : Bool) (regions : List Region) (all : List Transition) → (is_final ≡ true → regions ≡ []) → Each CountsRegion regions →
-    (at : Targets) (n : ℕ) → threads_in (text_of is_final (map low_of_region regions) all at n) ≡ regions_in (map piece_of_region regions)
-state_count is_initial true regions all bare each at n = final_none at n ∙ sym (ap (λ rs. regions_in (map piece_of_region rs)) (bare refl))
+    (at : Targets) (n : ℕ) → threads_in (text_of is_final (map low_of_region regions) all at n) ≡ regions_in (map subtree_of_region regions)
+state_count is_initial true regions all bare each at n = final_none at n ∙ sym (ap (λ rs. regions_in (map subtree_of_region rs)) (bare refl))
 state_count is_initial false [] all bare each at n = simple_none at all n
 state_count is_initial false (r ∷ regions) all bare each at n =
     let whole : List Region = r ∷ regions in
@@ -123,7 +123,7 @@ state_count is_initial false (r ∷ regions) all bare each at n =
     let first : (piece_of (label n)).counts.threads ≡ 0 = label_none (Rattle.chart_lowering.specs.Lowering.label_name n) in
     let fork : (piece_of (statement.Fork bodies)).counts.threads ≡ 0 + (all_branch_counts (map (map piece_of) bodies)).threads = ap (λ p. p.counts.threads)
     (fork_piece bodies) in
-    let count : (all_branch_counts (map (map piece_of) bodies)).threads ≡ regions_in (map piece_of_region whole) = branches_count whole (suc n) each in
+    let count : (all_branch_counts (map (map piece_of) bodies)).threads ≡ regions_in (map subtree_of_region whole) = branches_count whole (suc n) each in
     let last : threads_in rest ≡ 0 = behind_none at (terminations all) (suc n + labels_in (map low_of_region whole)) in
     omega (arith, first, fork, count, last)
 
@@ -134,7 +134,7 @@ state_counts variables levels count inner s h at n =
     let o : State-F Region State = out-State s in
     ap (λ p. threads_in (p.text at n)) (fold_out-State RegionPiece StatePiece low_region low_state s)
     ∙ state_count o.is_initial o.is_final o.regions o.transitions (λ final. (h.bare final).0) (inner o.regions h.regions) at n
-    ∙ sym (ap (λ p. p.regions) (fold_out-State Piece Piece region_piece state_piece s))
+    ∙ sym (ap (λ p. p.regions) (fold_out-State Subtree Subtree region_subtree state_subtree s))
 
 -- the text of the first state, where it is wanted, and those of the others
 pub texts_step : (wanted b : Bool) (labels : ℕ) (text : Targets → ℕ → List Statement) (states : List StatePiece) (at : Targets) (first next : ℕ) →
@@ -149,39 +149,39 @@ texts_step wanted false labels text states at first next = refl
 states_count : (states : List State) → Each CountsState states → (at : Targets) (first next : ℕ) →
     threads_in (texts true at (map low_of_state states) (numbers (map low_of_state states) first next)) + threads_in
     (texts false at (map low_of_state states) (numbers (map low_of_state states) first next))
-    ≡ regions_in (map piece_of_state states)
+    ≡ regions_in (map subtree_of_state states)
 states_count [] each at first next = refl
 states_count (s ∷ states) each at first next = by (low_of_state s).is_initial (λ m. states_count states each.1 at first m)
     (texts_step true (low_of_state s).is_initial (low_of_state s).labels (low_of_state s).text (map low_of_state states) at first next)
     (texts_step false (low_of_state s).is_initial (low_of_state s).labels (low_of_state s).text (map low_of_state states) at first next)
   where
     sum : (b : Bool) → ((m : ℕ) → threads_in (texts true at (map low_of_state states) (numbers (map low_of_state states) first m)) + threads_in
-        (texts false at (map low_of_state states) (numbers (map low_of_state states) first m)) ≡ regions_in (map piece_of_state states)) →
+        (texts false at (map low_of_state states) (numbers (map low_of_state states) first m)) ≡ regions_in (map subtree_of_state states)) →
         threads_in ((if is_wanted true b then (low_of_state s).text at (if b then first else next) else []) ++ texts true at (map low_of_state states)
         (numbers (map low_of_state states) first (if b then next else next + (low_of_state s).labels)))
         + threads_in ((if is_wanted false b then (low_of_state s).text at (if b then first else next) else []) ++ texts false at (map low_of_state states)
         (numbers (map low_of_state states) first (if b then next else next + (low_of_state s).labels)))
-        ≡ (piece_of_state s).regions + regions_in (map piece_of_state states)
+        ≡ (subtree_of_state s).regions + regions_in (map subtree_of_state states)
     sum true further =
         let a : List Statement = texts true at (map low_of_state states) (numbers (map low_of_state states) first next) in
         let b : List Statement = texts false at (map low_of_state states) (numbers (map low_of_state states) first next) in
-        let h : threads_in a + threads_in b ≡ regions_in (map piece_of_state states) = further next in
+        let h : threads_in a + threads_in b ≡ regions_in (map subtree_of_state states) = further next in
         let i : threads_in ((low_of_state s).text at first ++ a) ≡ threads_in ((low_of_state s).text at first) + threads_in a =
         threads_append ((low_of_state s).text at first) a in
-        let j : threads_in ((low_of_state s).text at first) ≡ (piece_of_state s).regions = each.0 at first in
+        let j : threads_in ((low_of_state s).text at first) ≡ (subtree_of_state s).regions = each.0 at first in
         omega (arith, h, i, j)
     sum false further =
         let m : ℕ = next + (low_of_state s).labels in
         let a : List Statement = texts true at (map low_of_state states) (numbers (map low_of_state states) first m) in
         let b : List Statement = texts false at (map low_of_state states) (numbers (map low_of_state states) first m) in
-        let h : threads_in a + threads_in b ≡ regions_in (map piece_of_state states) = further m in
+        let h : threads_in a + threads_in b ≡ regions_in (map subtree_of_state states) = further m in
         let i : threads_in ((low_of_state s).text at next ++ b) ≡ threads_in ((low_of_state s).text at next) + threads_in b =
         threads_append ((low_of_state s).text at next) b in
-        let j : threads_in ((low_of_state s).text at next) ≡ (piece_of_state s).regions = each.0 at next in
+        let j : threads_in ((low_of_state s).text at next) ≡ (subtree_of_state s).regions = each.0 at next in
         omega (arith, h, i, j)
 
     by : (b : Bool) → ((m : ℕ) → threads_in (texts true at (map low_of_state states) (numbers (map low_of_state states) first m)) + threads_in
-        (texts false at (map low_of_state states) (numbers (map low_of_state states) first m)) ≡ regions_in (map piece_of_state states)) →
+        (texts false at (map low_of_state states) (numbers (map low_of_state states) first m)) ≡ regions_in (map subtree_of_state states)) →
         texts true at (map low_of_state (s ∷ states)) (numbers (map low_of_state (s ∷ states)) first next)
         ≡ (if is_wanted true b then (low_of_state s).text at (if b then first else next) else []) ++ texts true at (map low_of_state states)
         (numbers (map low_of_state states) first (if b then next else next + (low_of_state s).labels)) →
@@ -190,7 +190,7 @@ states_count (s ∷ states) each at first next = by (low_of_state s).is_initial 
         (numbers (map low_of_state states) first (if b then next else next + (low_of_state s).labels)) →
         threads_in (texts true at (map low_of_state (s ∷ states)) (numbers (map low_of_state (s ∷ states)) first next)) + threads_in
         (texts false at (map low_of_state (s ∷ states)) (numbers (map low_of_state (s ∷ states)) first next))
-        ≡ regions_in (map piece_of_state (s ∷ states))
+        ≡ regions_in (map subtree_of_state (s ∷ states))
     by b further is_true is_false =
         ap (λ x. threads_in x + threads_in (texts false at (map low_of_state (s ∷ states)) (numbers (map low_of_state (s ∷ states)) first next))) is_true
         ∙ ap (λ y. threads_in ((if is_wanted true b then (low_of_state s).text at (if b then first else next) else []) ++ texts true at
@@ -209,14 +209,14 @@ region_counts variables levels inner r h n =
     let at : Targets = targets ns end in
     let a : List Statement = texts true at low ns in
     let b : List Statement = texts false at low ns in
-    let count : threads_in a + threads_in b ≡ regions_in (map piece_of_state states) = states_count states each at n (n + labels_in_initial low) in
+    let count : threads_in a + threads_in b ≡ regions_in (map subtree_of_state states) = states_count states each at n (n + labels_in_initial low) in
     let last : threads_in (label end ∷ []) ≡ 0 = first_none (label end) [] (label_none (Rattle.chart_lowering.specs.Lowering.label_name end)) refl in
     let whole : threads_in ((a ++ b) ++ label end ∷ []) ≡ threads_in (a ++ b) + threads_in (label end ∷ []) = threads_append (a ++ b) (label end ∷ []) in
     let more : threads_in (a ++ b) ≡ threads_in a + threads_in b = threads_append a b in
-    let sum : suc (threads_in ((a ++ b) ++ label end ∷ [])) ≡ suc (regions_in (map piece_of_state states)) = omega (arith, count, last, whole, more) in
+    let sum : suc (threads_in ((a ++ b) ++ label end ∷ [])) ≡ suc (regions_in (map subtree_of_state states)) = omega (arith, count, last, whole, more) in
     ap (λ p. suc (threads_in (p.body n))) (fold_out-Region RegionPiece StatePiece low_region low_state r)
     ∙ sum
-    ∙ sym (ap (λ p. p.regions) (fold_out-Region Piece Piece region_piece state_piece r))
+    ∙ sym (ap (λ p. p.regions) (fold_out-Region Subtree Subtree region_subtree state_subtree r))
 
 -- regions that nest this many levels deep
 pub regions_count : (variables : List Variable) (levels : ℕ) (regions : List Region) → AreRegions features.Core variables levels regions →

@@ -12,7 +12,7 @@ use Rattle.chart_machine.specs.declared.table.StateRow.{StateRow}
 use Rattle.chart_machine.specs.declared.table.RegionRow.{RegionRow}
 use Rattle.chart_machine.specs.declared.table.Table.{Table}
 use Rattle.chart_machine.specs.Steps.{to}
-use Rattle.chart_machine.specs.Table.{state_at, region_at, side_by_side, within, piece_of_region, entered_state, is_superstate}
+use Rattle.chart_machine.specs.Table.{state_at, region_at, side_by_side, within, subtree_of_region, entered_state, is_superstate}
 use Rattle.scl.specs.declared.statement.Statement.{Statement}
 use Rattle.scl.specs.declared.statement.Statement.TheVariants as statement
 use Rattle.scl.specs.declared.statement.Statement.TheOpen as text
@@ -125,11 +125,11 @@ module _ (k : Table) (ms : List Mark) (root : Block) (keeps : KeepsScopes root) 
   l = layout_of k top ms root
 
   pub entered_is : (s : ℕ) (x : StateAt k ms root keeps top s) →
-      (state_at k s).entered ≡ entered_state (out-State x.state).is_final (is_superstate (map piece_of_region (out-State x.state).regions)) x.at
-      (out-State x.state).transitions (side_by_side (map piece_of_region (out-State x.state).regions) (within x.at)).entered
+      (state_at k s).entered ≡ entered_state (out-State x.state).is_final (is_superstate (map subtree_of_region (out-State x.state).regions)) x.at
+      (out-State x.state).transitions (side_by_side (map subtree_of_region (out-State x.state).regions) (within x.at)).entered
   entered_is s x =
-      subst (λ z. (state_at k z).entered ≡ entered_state (out-State x.state).is_final (is_superstate (map piece_of_region (out-State x.state).regions)) x.at
-      (out-State x.state).transitions (side_by_side (map piece_of_region (out-State x.state).regions) (within x.at)).entered) x.is
+      subst (λ z. (state_at k z).entered ≡ entered_state (out-State x.state).is_final (is_superstate (map subtree_of_region (out-State x.state).regions)) x.at
+      (out-State x.state).transitions (side_by_side (map subtree_of_region (out-State x.state).regions) (within x.at)).entered) x.is
       (ap (λ o. (unwrap_or {T = StateRow} o (state_at (record k { states = [] }) 0)).entered) x.row)
 
   -- what is known of transitions is what the layout says of them
@@ -150,8 +150,8 @@ module _ (k : Table) (ms : List Mark) (root : Block) (keeps : KeepsScopes root) 
       let e : (e : ℕ) × (settled root (begin_of k ms root keeps top s) ≡ Some (End e)) = final_begins k ms root keeps top settles s x final in
       let entered : _ = entered_is s x in
       record {
-        entered = entered ∙ ap (λ b. entered_state b (is_superstate (map piece_of_region (out-State x.state).regions)) x.at (out-State x.state).transitions
-            (side_by_side (map piece_of_region (out-State x.state).regions) (within x.at)).entered) final
+        entered = entered ∙ ap (λ b. entered_state b (is_superstate (map subtree_of_region (out-State x.state).regions)) x.at (out-State x.state).transitions
+            (side_by_side (map subtree_of_region (out-State x.state).regions) (within x.at)).entered) final
             ∙ ap (λ h. to h stand.Ended ∷ []) (sym (holder_is k ms root keeps top found s x));
         none_inside = none_around k l tree s none;
         end = e.0;
@@ -169,9 +169,9 @@ module _ (k : Table) (ms : List Mark) (root : Block) (keeps : KeepsScopes root) 
       (begin_of k ms root keeps top s) = simple_begins k ms root keeps top settles s x final bare at_first in
       record {
         entered = entered_is s x
-            ∙ ap (λ b. entered_state b (is_superstate (map piece_of_region (out-State x.state).regions)) x.at all
-            (side_by_side (map piece_of_region (out-State x.state).regions) (within x.at)).entered) final
-            ∙ ap (λ rs. entered_state false (is_superstate (map piece_of_region rs)) x.at all (side_by_side (map piece_of_region rs) (within x.at)).entered)
+            ∙ ap (λ b. entered_state b (is_superstate (map subtree_of_region (out-State x.state).regions)) x.at all
+            (side_by_side (map subtree_of_region (out-State x.state).regions) (within x.at)).entered) final
+            ∙ ap (λ rs. entered_state false (is_superstate (map subtree_of_region rs)) x.at all (side_by_side (map subtree_of_region rs) (within x.at)).entered)
             bare
             ∙ ap (λ h. to h (stand.Trying x.at.state (at_once all)) ∷ []) (sym (holder_is k ms root keeps top found s x))
             ∙ ap (λ u. to (state_at k s).holder (stand.Trying u (at_once all)) ∷ []) x.is

@@ -7,7 +7,7 @@ use Rattle.core_charts.specs.Chart.{Chart}
 use Rattle.core_charts.specs.Rules.{depth_limit}
 use Rattle.chart_machine.specs.declared.table.SubtreeRows.{SubtreeRows}
 use Rattle.chart_machine.specs.declared.table.Table.{Table}
-use Rattle.chart_machine.specs.Table.{table, whole, state_at, region_at, region_numbers, side_by_side, states_in, regions_in, piece_of_region}
+use Rattle.chart_machine.specs.Table.{table, whole, state_at, region_at, region_numbers, side_by_side, states_in, regions_in, subtree_of_region}
 use Rattle.scl.specs.declared.program.Scl.{Scl}
 use Rattle.scl.specs.declared.statement.Statement.{Statement}
 use Rattle.scl.specs.declared.statement.Statement.TheVariants as statement
@@ -40,9 +40,9 @@ use Rattle.chart_lowering_laws.proofs.Opening.{OpenBeside, open_beside, regions_
 use Rattle.chart_lowering_laws.proofs.Supers.{super_state}
 use Rattle.chart_lowering_laws.proofs.Forks.{forks_regions}
 
-some_number : (regions : List Region) → regions ≢ [] → (r : ℕ) × Contains (region_numbers (map piece_of_region regions) 1) r
+some_number : (regions : List Region) → regions ≢ [] → (r : ℕ) × Contains (region_numbers (map subtree_of_region regions) 1) r
 some_number [] h = absurd (h refl)
-some_number (r ∷ regions) h = (1, contains_head 1 (region_numbers (map piece_of_region regions) (1 + (piece_of_region r).regions)))
+some_number (r ∷ regions) h = (1, contains_head 1 (region_numbers (map subtree_of_region regions) (1 + (subtree_of_region r).regions)))
 
 module _ (c : Chart) (p : Scl) (low : IsLowering c p) where
   abbrev pub k : Table
@@ -52,13 +52,13 @@ module _ (c : Chart) (p : Scl) (low : IsLowering c p) where
   root = (numbered p).root
 
   abbrev pub top : List ℕ
-  top = region_numbers (map piece_of_region c.regions) 1
+  top = region_numbers (map subtree_of_region c.regions) 1
 
   abbrev pub l : Layout
   l = layout c root
 
   abbrev pub parts : SubtreeRows
-  parts = side_by_side (map piece_of_region c.regions) whole
+  parts = side_by_side (map subtree_of_region c.regions) whole
 
   pub keeps : KeepsScopes root
   keeps = keeps_scopes p low.rules
@@ -72,19 +72,19 @@ module _ (c : Chart) (p : Scl) (low : IsLowering c p) where
   pub rowed : Each RegionRowed c.regions
   rowed = regions_rowed c.variables depth_limit c.regions low.core.regions
 
-  pieces_rowed : Each Rowed (map piece_of_region c.regions)
-  pieces_rowed = mapped Rowed piece_of_region c.regions rowed
+  pieces_rowed : Each Rowed (map subtree_of_region c.regions)
+  pieces_rowed = mapped Rowed subtree_of_region c.regions rowed
 
-  pub many_states : length k.states ≡ states_in (map piece_of_region c.regions)
-  many_states = side_states (map piece_of_region c.regions) pieces_rowed whole
+  pub many_states : length k.states ≡ states_in (map subtree_of_region c.regions)
+  many_states = side_states (map subtree_of_region c.regions) pieces_rowed whole
 
-  many_regions : length k.regions ≡ regions_in (map piece_of_region c.regions)
-  many_regions = side_regions (map piece_of_region c.regions) pieces_rowed whole
+  many_regions : length k.regions ≡ regions_in (map subtree_of_region c.regions)
+  many_regions = side_regions (map subtree_of_region c.regions) pieces_rowed whole
 
   pub found : Found k (marks c) root keeps top 0 (length k.states) 1 (suc (length k.regions))
   found =
       subst (λ n. Found k (marks c) root keeps top 0 n 1 (suc (length k.regions))) (omega (arith, many_states))
-      (subst (λ n. Found k (marks c) root keeps top 0 (0 + states_in (map piece_of_region c.regions)) 1 n) (omega (arith, many_regions))
+      (subst (λ n. Found k (marks c) root keeps top 0 (0 + states_in (map subtree_of_region c.regions)) 1 n) (omega (arith, many_regions))
       (chart_found c p low.core low.body keeps))
 
   pub state_there : (s : ℕ) → s < length k.states → StateAt k (marks c) root keeps top s
@@ -104,16 +104,16 @@ module _ (c : Chart) (p : Scl) (low : IsLowering c p) where
   stands s less = let x : StateAt k (marks c) root keeps top s = state_there s less in by x (out-State x.state).is_final refl (out-State x.state).regions refl
     where
       numbers_of : (x : StateAt k (marks c) root keeps top s) →
-          (state_at k s).regions ≡ region_numbers (map piece_of_region (out-State x.state).regions) x.at.region
+          (state_at k s).regions ≡ region_numbers (map subtree_of_region (out-State x.state).regions) x.at.region
       numbers_of x = numbers_are k (marks c) root keeps top found s x
 
       by : (x : StateAt k (marks c) root keeps top s) → (b : Bool) → (out-State x.state).is_final ≡ b → (rs : List Region) → (out-State x.state).regions ≡ rs →
           StandsThere k root l s
       by x true final rs regions = inr
           (inl (final_state k (marks c) root keeps top state_there settles tree s x
-          (numbers_of x ∙ ap (λ rs. region_numbers (map piece_of_region rs) x.at.region) (x.bare final).0) final))
+          (numbers_of x ∙ ap (λ rs. region_numbers (map subtree_of_region rs) x.at.region) (x.bare final).0) final))
       by x false final [] regions = inl (simple_state k (marks c) root keeps top state_there settles tree s x
-          (numbers_of x ∙ ap (λ rs. region_numbers (map piece_of_region rs) x.at.region) regions) final regions)
+          (numbers_of x ∙ ap (λ rs. region_numbers (map subtree_of_region rs) x.at.region) regions) final regions)
       by x false final (r ∷ rs) regions = inr (inr (super_state k (marks c) root keeps top state_there settles s x final r rs regions))
 
   -- ---- the first thread
@@ -159,7 +159,7 @@ module _ (c : Chart) (p : Scl) (low : IsLowering c p) where
       let own : threads_in p.body ≡ threads_in (statement.Fork bodies ∷ []) = ap threads_in low.body in
       let fork : (piece_of (statement.Fork bodies)).counts.threads ≡ 0 + (all_branch_counts (map (map piece_of) bodies)).threads = ap (λ p. p.counts.threads)
       (fork_piece bodies) in
-      let count : (all_branch_counts (map (map piece_of) bodies)).threads ≡ regions_in (map piece_of_region c.regions) = branches_count c.regions 1
+      let count : (all_branch_counts (map (map piece_of) bodies)).threads ≡ regions_in (map subtree_of_region c.regions) = branches_count c.regions 1
       (regions_count c.variables depth_limit c.regions low.core.regions) in
       omega (arith, own, fork, count, many_regions)
 

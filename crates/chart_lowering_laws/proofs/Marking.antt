@@ -9,7 +9,7 @@ use Rattle.core_charts.specs.declared.region.State.{State}
 use Rattle.core_charts.specs.declared.region.Region.TheViews.{out-Region, out-State}
 use Rattle.core_charts.specs.declared.region.Region.TheFolds.{fold_out-Region, fold_out-State, fold-State}
 use Rattle.core_charts.specs.Rules.{IsRegion, AreRegions}
-use Rattle.chart_machine.specs.Table.{Piece, states_in, region_piece, state_piece, piece_of_region, piece_of_state}
+use Rattle.chart_machine.specs.Table.{Subtree, states_in, region_subtree, state_subtree, subtree_of_region, subtree_of_state}
 use Rattle.chart_lowering.specs.Lowering.{RegionPiece, StatePiece, numbers, labels_in_initial}
 use Rattle.chart_lowering.specs.Lowering.{region_piece as low_region, state_piece as low_state, piece_of_region as low_of_region}
 use Rattle.chart_lowering.specs.Lowering.{piece_of_state as low_of_state}
@@ -21,11 +21,11 @@ marks_of_state = fold-State RegionMarks StateMarks region_marks state_marks
 
 pub record RegionMarked (r : Region) : Type 0 where
   pub same : (marks_of_region r).low ≡ low_of_region r
-  pub long : (n : ℕ) → length ((marks_of_region r).marks n) ≡ (piece_of_region r).states
+  pub long : (n : ℕ) → length ((marks_of_region r).marks n) ≡ (subtree_of_region r).states
 
 pub record StateMarked (s : State) : Type 0 where
   pub same : (marks_of_state s).low ≡ low_of_state s
-  pub long : (n : ℕ) → length ((marks_of_state s).marks n) ≡ (piece_of_state s).states
+  pub long : (n : ℕ) → length ((marks_of_state s).marks n) ≡ (subtree_of_state s).states
 
 pub lows_same : (regions : List Region) → Each RegionMarked regions → lows (map marks_of_region regions) ≡ map low_of_region regions
 lows_same [] h = refl
@@ -36,12 +36,12 @@ low_states_same [] h = refl
 low_states_same (s ∷ states) h = ap (λ x. x ∷ low_states (map marks_of_state states)) h.0.same ∙ ap (λ xs. low_of_state s ∷ xs) (low_states_same states h.1)
 
 beside_long : (regions : List Region) → Each RegionMarked regions → (n : ℕ) → length (marks_beside (map marks_of_region regions) n) ≡ states_in
-    (map piece_of_region regions)
+    (map subtree_of_region regions)
 beside_long [] h n = refl
 beside_long (r ∷ regions) h n =
     let rest : List Mark = marks_beside (map marks_of_region regions) (n + (marks_of_region r).low.labels) in
-    let one : length ((marks_of_region r).marks n) ≡ (piece_of_region r).states = h.0.long n in
-    let more : length rest ≡ states_in (map piece_of_region regions) = beside_long regions h.1 (n + (marks_of_region r).low.labels) in
+    let one : length ((marks_of_region r).marks n) ≡ (subtree_of_region r).states = h.0.long n in
+    let more : length rest ≡ states_in (map subtree_of_region regions) = beside_long regions h.1 (n + (marks_of_region r).low.labels) in
     let both : length ((marks_of_region r).marks n ++ rest) ≡ length ((marks_of_region r).marks n) + length rest =
     length-append ((marks_of_region r).marks n) rest in
     omega (arith, one, more, both)
@@ -51,25 +51,25 @@ abbrev among : List StateMarks → (first next : ℕ) → List Mark
 among states first next = marks_among states (numbers (low_states states) first next)
 
 among_long : (states : List State) → Each StateMarked states → (first next : ℕ) → length (among (map marks_of_state states) first next) ≡ states_in
-    (map piece_of_state states)
+    (map subtree_of_state states)
 among_long [] h first next = refl
 among_long (s ∷ states) h first next = by (marks_of_state s).low.is_initial (h.0.long) (λ m. among_long states h.1 first m)
   where
-    by : (b : Bool) → ((n : ℕ) → length ((marks_of_state s).marks n) ≡ (piece_of_state s).states) →
-        ((m : ℕ) → length (among (map marks_of_state states) first m) ≡ states_in (map piece_of_state states)) →
+    by : (b : Bool) → ((n : ℕ) → length ((marks_of_state s).marks n) ≡ (subtree_of_state s).states) →
+        ((m : ℕ) → length (among (map marks_of_state states) first m) ≡ states_in (map subtree_of_state states)) →
         length (marks_among (map marks_of_state (s ∷ states)) (if b then first ∷ numbers (low_states (map marks_of_state states)) first next else next ∷ numbers
         (low_states (map marks_of_state states)) first (next + (marks_of_state s).low.labels)))
-        ≡ (piece_of_state s).states + states_in (map piece_of_state states)
+        ≡ (subtree_of_state s).states + states_in (map subtree_of_state states)
     by true one rest =
-        let a : length ((marks_of_state s).marks first) ≡ (piece_of_state s).states = one first in
-        let b : length (among (map marks_of_state states) first next) ≡ states_in (map piece_of_state states) = rest next in
+        let a : length ((marks_of_state s).marks first) ≡ (subtree_of_state s).states = one first in
+        let b : length (among (map marks_of_state states) first next) ≡ states_in (map subtree_of_state states) = rest next in
         let both : length ((marks_of_state s).marks first ++ among (map marks_of_state states) first next) ≡ length ((marks_of_state s).marks first) + length
         (among (map marks_of_state states) first next) = length-append ((marks_of_state s).marks first) (among (map marks_of_state states) first next) in
         omega (arith, a, b, both)
     by false one rest =
         let m : ℕ = next + (marks_of_state s).low.labels in
-        let a : length ((marks_of_state s).marks next) ≡ (piece_of_state s).states = one next in
-        let b : length (among (map marks_of_state states) first m) ≡ states_in (map piece_of_state states) = rest m in
+        let a : length ((marks_of_state s).marks next) ≡ (subtree_of_state s).states = one next in
+        let b : length (among (map marks_of_state states) first m) ≡ states_in (map subtree_of_state states) = rest m in
         let both : length ((marks_of_state s).marks next ++ among (map marks_of_state states) first m) ≡ length ((marks_of_state s).marks next) + length
         (among (map marks_of_state states) first m) = length-append ((marks_of_state s).marks next) (among (map marks_of_state states) first m) in
         omega (arith, a, b, both)
@@ -90,7 +90,7 @@ state_is_marked s h = record {
   long = λ n.
       ap (λ m. length (m.marks n)) (fold_out-State RegionMarks StateMarks region_marks state_marks s)
       ∙ ap suc (beside_long (out-State s).regions h (suc n))
-      ∙ sym (ap (λ p. p.states) (fold_out-State Piece Piece region_piece state_piece s));
+      ∙ sym (ap (λ p. p.states) (fold_out-State Subtree Subtree region_subtree state_subtree s));
 }
 
 region_is_marked : (r : Region) → Each StateMarked (out-Region r).states → RegionMarked r
@@ -102,7 +102,7 @@ region_is_marked r h = record {
   long = λ n.
       ap (λ m. length (m.marks n)) (fold_out-Region RegionMarks StateMarks region_marks state_marks r)
       ∙ among_long (out-Region r).states h n (n + labels_in_initial (low_states (map marks_of_state (out-Region r).states)))
-      ∙ sym (ap (λ p. p.states) (fold_out-Region Piece Piece region_piece state_piece r));
+      ∙ sym (ap (λ p. p.states) (fold_out-Region Subtree Subtree region_subtree state_subtree r));
 }
 
 pub regions_marked : (variables : List Variable) (levels : ℕ) (regions : List Region) → AreRegions features.Core variables levels regions →

@@ -12,8 +12,8 @@ use Rattle.core_charts.specs.Rules.{IsRegion, AreRegions}
 use Rattle.chart_machine.specs.declared.table.RegionRow.{RegionRow}
 use Rattle.chart_machine.specs.declared.table.Table.{Table}
 use Rattle.chart_machine.specs.declared.table.TablePosition.{TablePosition}
-use Rattle.chart_machine.specs.Table.{Piece, state_at, region_at, region_numbers, state_numbers, regions_in_initial, inside_region, side_by_side, in_region}
-use Rattle.chart_machine.specs.Table.{behind, region_piece, state_piece, piece_of_region, piece_of_state}
+use Rattle.chart_machine.specs.Table.{Subtree, state_at, region_at, region_numbers, state_numbers, regions_in_initial, inside_region, side_by_side, in_region}
+use Rattle.chart_machine.specs.Table.{behind, region_subtree, state_subtree, subtree_of_region, subtree_of_state}
 use Rattle.scl.specs.declared.statement.Statement.{Statement}
 use Rattle.scl.specs.Block.{Block, End, Label, Branches, NoMore, Branch}
 use Rattle.scl.specs.Labels.{behind_label, settled}
@@ -72,21 +72,21 @@ module _ (k : Table) (ms : List Mark) (root : Block) (keeps : KeepsScopes root) 
 
   -- what is said of a region where it stands: what entering it makes, the label of its initial state, and how its text begins
   pub record Begins (r : Region) (at : TablePosition) (n : ℕ) : Type 0 where
-    pub enters : ((piece_of_region r).parts at).entered ≡ (state_at k (l.initial at.region)).entered
+    pub enters : ((subtree_of_region r).parts at).entered ≡ (state_at k (l.initial at.region)).entered
     pub label_is : (mark_at ms (l.initial at.region)).label ≡ n
     pub rest : List Statement
     pub text : (low_of_region r).body n ≡ label n ∷ rest
 
   abbrev pub BeginsThere : Region → Type 0
-  BeginsThere r = (at : TablePosition) (before : ℕ) → at.region ≡ suc before → StandAt k.states at.state ((piece_of_region r).parts at).states →
-      StandAt k.regions before ((piece_of_region r).parts at).regions →
+  BeginsThere r = (at : TablePosition) (before : ℕ) → at.region ≡ suc before → StandAt k.states at.state ((subtree_of_region r).parts at).states →
+      StandAt k.regions before ((subtree_of_region r).parts at).regions →
       (n : ℕ) → StandAt ms at.state ((marks_of_region r).marks n) → Begins r at n
 
   region_begins : (variables : List Variable) (levels : ℕ) (r : Region) → IsRegion features.Core variables (AreRegions features.Core variables levels) r →
       BeginsThere r
   region_begins variables levels r rules at before follows states rows n marks =
       let ss : List State = (out-Region r).states in
-      let ps : List Piece = map piece_of_state ss in
+      let ps : List Subtree = map subtree_of_state ss in
       let low : List StatePiece = map low_of_state ss in
       let next : ℕ = suc at.region + regions_in_initial ps in
       let sc : TablePosition = inside_region at in
@@ -98,9 +98,9 @@ module _ (k : Table) (ms : List Mark) (root : Block) (keeps : KeepsScopes root) 
       let marked : Each StateMarked ss = each_of StateMarked ss
       (λ i s at. state_is_marked s (regions_marked variables levels (out-State s).regions (rules.states i s at).regions)) in
       let open_states : StandAt k.states at.state (in_region ps next sc).states = subst (λ p. StandAt k.states at.state (p.parts at).states)
-      (fold_out-Region Piece Piece region_piece state_piece r) states in
-      let open_rows : StandAt k.regions before ((region_piece (open_region r)).parts at).regions = subst (λ p. StandAt k.regions before (p.parts at).regions)
-      (fold_out-Region Piece Piece region_piece state_piece r) rows in
+      (fold_out-Region Subtree Subtree region_subtree state_subtree r) states in
+      let open_rows : StandAt k.regions before ((region_subtree (open_region r)).parts at).regions = subst (λ p. StandAt k.regions before (p.parts at).regions)
+      (fold_out-Region Subtree Subtree region_subtree state_subtree r) rows in
       let open_marks : StandAt ms at.state ((region_marks (record { name = (out-Region r).name; states = map marks_of_state ss })).marks n) =
       subst (λ m. StandAt ms at.state (m.marks n)) (fold_out-Region RegionMarks StateMarks region_marks state_marks r) marks in
       let marks_too : StandAt ms at.state (marked_by ss n (n + labels_in_initial low)) =
@@ -112,7 +112,7 @@ module _ (k : Table) (ms : List Mark) (root : Block) (keeps : KeepsScopes root) 
       (n + labels_in_initial low) open_states marks_too in
       let begins : (rest : List Statement) × (texts true goes low ns ≡ label n ∷ rest) = text_begins ss one goes n (n + labels_in_initial low) in
       record {
-        enters = ap (λ p. (p.parts at).entered) (fold_out-Region Piece Piece region_piece state_piece r) ∙ sym initial.enters
+        enters = ap (λ p. (p.parts at).entered) (fold_out-Region Subtree Subtree region_subtree state_subtree r) ∙ sym initial.enters
             ∙ ap (λ xs. (state_at k (initial_among ms xs)).entered) (sym own_row);
         label_is = ap (λ xs. (mark_at ms (initial_among ms xs)).label) own_row ∙ initial.label;
         rest = (begins.0 ++ texts false goes low ns) ++ label (n + labels_in_states low) ∷ [];
@@ -140,20 +140,20 @@ module _ (k : Table) (ms : List Mark) (root : Block) (keeps : KeepsScopes root) 
 
   -- regions side by side
   pub record OpenBeside (regions : List Region) (at : TablePosition) (branches : Branches) : Type 0 where
-    pub entered : (side_by_side (map piece_of_region regions) at).entered ≡ all_entered k l (region_numbers (map piece_of_region regions) at.region)
-    pub opens : Opens root l (region_numbers (map piece_of_region regions) at.region) branches
+    pub entered : (side_by_side (map subtree_of_region regions) at).entered ≡ all_entered k l (region_numbers (map subtree_of_region regions) at.region)
+    pub opens : Opens root l (region_numbers (map subtree_of_region regions) at.region) branches
 
   pub open_beside : (regions : List Region) → Each BeginsThere regions → Each RegionRowed regions → Each CountsRegion regions → Each RegionMarked regions →
-      (at : TablePosition) (before : ℕ) → at.region ≡ suc before → StandAt k.states at.state (side_by_side (map piece_of_region regions) at).states →
-      StandAt k.regions before (side_by_side (map piece_of_region regions) at).regions →
+      (at : TablePosition) (before : ℕ) → at.region ≡ suc before → StandAt k.states at.state (side_by_side (map subtree_of_region regions) at).states →
+      StandAt k.regions before (side_by_side (map subtree_of_region regions) at).regions →
       (n : ℕ) (nums : Numbers) → StandAt ms at.state (marks_beside (map marks_of_region regions) n) → nums.thread ≡ at.region →
       ((u : ℕ) (b : Block) → IsBranch (branches_from (map (map piece_of) (branches (map low_of_region regions) n)) nums) u b → MainPlace root keeps u b) →
       OpenBeside regions at (branches_from (map (map piece_of) (branches (map low_of_region regions) n)) nums)
   open_beside [] begins rowed counts marked at before follows states rows n nums marks thread inside =
       record { entered = refl; opens = record { threads = refl; bodies = λ q body h. absurd (contains_none q (branch_thread NoMore q body h)) } }
   open_beside (r ∷ regions) begins rowed counts marked at before follows states rows n nums marks thread inside =
-      let p : Piece = piece_of_region r in
-      let ps : List Piece = map piece_of_region regions in
+      let p : Subtree = subtree_of_region r in
+      let ps : List Subtree = map subtree_of_region regions in
       let body : List Statement = (low_of_region r).body n in
       let own_marks : List Mark = (marks_of_region r).marks n in
       let more_marks : List Mark = marks_beside (map marks_of_region regions) (n + (marks_of_region r).low.labels) in

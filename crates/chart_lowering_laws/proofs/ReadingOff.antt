@@ -25,8 +25,8 @@ use Rattle.core_charts.specs.declared.region.Region.TheFolds.{fold_out-Region}
 use Rattle.chart_machine.specs.declared.table.StateRow.{StateRow}
 use Rattle.chart_machine.specs.declared.table.RegionRow.{RegionRow}
 use Rattle.chart_machine.specs.declared.table.TablePosition.{TablePosition}
-use Rattle.chart_machine.specs.Table.{state_at, within, side_by_side, region_numbers, piece_of_region, region_piece, state_piece}
-use Rattle.chart_machine.specs.Table.{Piece as Piece_of_chart, behind as behind_piece}
+use Rattle.chart_machine.specs.Table.{state_at, within, side_by_side, region_numbers, subtree_of_region, region_subtree, state_subtree}
+use Rattle.chart_machine.specs.Table.{Subtree as Piece_of_chart, behind as behind_piece}
 use Rattle.scl_graph_laws.proofs.Segments.{StandAt, stand_from, stand_first, stand_second}
 use Rattle.scl_graph_laws.proofs.Members.{contains_none, contains_cons}
 use Rattle.chart_lowering_laws.proofs.Rows.{RegionRowed, open_region}
@@ -161,12 +161,12 @@ module _ (k : Table) (ms : List Mark) (root : Block) (keeps : KeepsScopes root) 
 
   -- the regions that a state's row lists lie in it
   pub rows_around : (regions : List Region) → Each RegionRowed regions → (at : TablePosition) (before : ℕ) → at.region ≡ suc before →
-      StandAt k.regions before (side_by_side (map piece_of_region regions) at).regions →
-      (q : ℕ) → Contains (region_numbers (map piece_of_region regions) at.region) q → (region_at k q).around ≡ at.around
+      StandAt k.regions before (side_by_side (map subtree_of_region regions) at).regions →
+      (q : ℕ) → Contains (region_numbers (map subtree_of_region regions) at.region) q → (region_at k q).around ≡ at.around
   rows_around [] rowed at before follows rows q here = absurd (contains_none q here)
   rows_around (r ∷ regions) rowed at before follows rows q here =
-      let p : Piece_of_chart = piece_of_region r in
-      let ps : List Piece_of_chart = map piece_of_region regions in
+      let p : Piece_of_chart = subtree_of_region r in
+      let ps : List Piece_of_chart = map subtree_of_region regions in
       ⊎_elim
       (λ same. ap (λ x. (region_at k x).around) (sym same ∙ follows)
       ∙ first r at before (stand_first k.regions before (p.parts at).regions (side_by_side ps (behind_piece p at)).regions rows))
@@ -177,19 +177,19 @@ module _ (k : Table) (ms : List Mark) (root : Block) (keeps : KeepsScopes root) 
       (stand_second k.regions before (p.parts at).regions (side_by_side ps (behind_piece p at)).regions rows)) q later)
       (contains_cons at.region q (region_numbers ps (at.region + p.regions)) here)
     where
-      first : (r : Region) (at : TablePosition) (before : ℕ) → StandAt k.regions before ((piece_of_region r).parts at).regions →
+      first : (r : Region) (at : TablePosition) (before : ℕ) → StandAt k.regions before ((subtree_of_region r).parts at).regions →
           (region_at k (suc before)).around ≡ at.around
       first r at before rows =
-          let opened : StandAt k.regions before ((region_piece (open_region r)).parts at).regions = subst (λ p. StandAt k.regions before (p.parts at).regions)
-          (fold_out-Region Piece_of_chart Piece_of_chart region_piece state_piece r) rows in
+          let opened : StandAt k.regions before ((region_subtree (open_region r)).parts at).regions = subst (λ p. StandAt k.regions before (p.parts at).regions)
+          (fold_out-Region Piece_of_chart Piece_of_chart region_subtree state_subtree r) rows in
           ap (λ o. (unwrap_or {T = RegionRow} o (record { around = []; states = [] })).around) opened.0
 
   -- around a region of a state stand the state and what is around it
   pub state_holds : (s : ℕ) (x : StateAt k ms root keeps top s) (q : ℕ) → Contains (state_at k s).regions q →
       (region_at k q).around ≡ s ∷ (region_at k (state_at k s).holder).around
   state_holds s x q here =
-      let number : (state_at k s).regions ≡ region_numbers (map piece_of_region (out-State x.state).regions) x.at.region =
-      subst (λ z. (state_at k z).regions ≡ region_numbers (map piece_of_region (out-State x.state).regions) x.at.region) x.is
+      let number : (state_at k s).regions ≡ region_numbers (map subtree_of_region (out-State x.state).regions) x.at.region =
+      subst (λ z. (state_at k z).regions ≡ region_numbers (map subtree_of_region (out-State x.state).regions) x.at.region) x.is
       (ap (λ o. (unwrap_or {T = StateRow} o (state_at (record k { states = [] }) 0)).regions) x.row) in
       let holder : (state_at k s).holder ≡ x.at.holder = subst (λ z. (state_at k z).holder ≡ x.at.holder) x.is
       (ap (λ o. (unwrap_or {T = StateRow} o (state_at (record k { states = [] }) 0)).holder) x.row) in

@@ -6,7 +6,7 @@ use Rattle.sc_text.proofs.EachItem.{Each}
 use Rattle.core_charts.specs.declared.region.State.{State}
 use Rattle.core_charts.specs.declared.region.Region.TheViews.{out-State}
 use Rattle.core_charts.specs.declared.region.Region.TheFolds.{fold_out-State}
-use Rattle.chart_machine.specs.Table.{state_numbers, piece_of_state}
+use Rattle.chart_machine.specs.Table.{state_numbers, subtree_of_state}
 use Rattle.scl_graph_laws.proofs.Segments.{StandAt, stand_from, stand_first, stand_second}
 use Rattle.chart_lowering.specs.declared.targets.Targets.{Targets}
 use Rattle.chart_lowering.specs.Lowering.{texts, numbers, is_wanted}
@@ -21,13 +21,13 @@ use Rattle.chart_lowering_laws.proofs.InitialFirst.{same_initial}
 abbrev pub marked_by : List State → ℕ → ℕ → List Mark
 marked_by states first m = marks_among (map marks_of_state states) (numbers (map low_of_state states) first m)
 
-pub marks_of_other : (s : State) (states : List State) → (piece_of_state s).is_initial ≡ false → (first m : ℕ) →
+pub marks_of_other : (s : State) (states : List State) → (subtree_of_state s).is_initial ≡ false → (first m : ℕ) →
     marked_by (s ∷ states) first m ≡ (marks_of_state s).marks m ++ marked_by states first (m + (low_of_state s).labels)
 marks_of_other s states is first m =
     ap (λ b. marks_among (map marks_of_state (s ∷ states)) (if b then first ∷ numbers (map low_of_state states) first m else m ∷ numbers
     (map low_of_state states) first (m + (low_of_state s).labels))) (same_initial s ∙ is)
 
-pub marks_of_initial : (s : State) (states : List State) → (piece_of_state s).is_initial ≡ true → (first m : ℕ) →
+pub marks_of_initial : (s : State) (states : List State) → (subtree_of_state s).is_initial ≡ true → (first m : ℕ) →
     marked_by (s ∷ states) first m ≡ (marks_of_state s).marks first ++ marked_by states first m
 marks_of_initial s states is first m =
     ap (λ b. marks_among (map marks_of_state (s ∷ states)) (if b then first ∷ numbers (map low_of_state states) first m else m ∷ numbers
@@ -39,7 +39,7 @@ get_map f (y ∷ xs) zero x h = ap Some (ap f (same_Some y x h))
 get_map f (y ∷ xs) (suc i) x h = get_map f xs i x h
 
 -- the text of a state that is not initial, and what is behind it
-pub text_of_other : (s : State) (states : List State) → (piece_of_state s).is_initial ≡ false → (at : Targets) (first next : ℕ) →
+pub text_of_other : (s : State) (states : List State) → (subtree_of_state s).is_initial ≡ false → (at : Targets) (first next : ℕ) →
     texts false at (map low_of_state (s ∷ states)) (numbers (map low_of_state (s ∷ states)) first next)
     ≡ (low_of_state s).text at next ++ texts false at (map low_of_state states) (numbers (map low_of_state states) first (next + (low_of_state s).labels))
 text_of_other s states is at first next =
@@ -47,7 +47,7 @@ text_of_other s states is at first next =
     ∙ ap (λ b. (if is_wanted false b then (low_of_state s).text at (if b then first else next) else []) ++ texts false at (map low_of_state states)
     (numbers (map low_of_state states) first (if b then next else next + (low_of_state s).labels))) (same_initial s ∙ is)
 
-pub none_of_other : (s : State) (states : List State) → (piece_of_state s).is_initial ≡ false → (at : Targets) (first next : ℕ) →
+pub none_of_other : (s : State) (states : List State) → (subtree_of_state s).is_initial ≡ false → (at : Targets) (first next : ℕ) →
     texts true at (map low_of_state (s ∷ states)) (numbers (map low_of_state (s ∷ states)) first next) ≡ texts true at (map low_of_state states)
     (numbers (map low_of_state states) first (next + (low_of_state s).labels))
 none_of_other s states is at first next =
@@ -55,7 +55,7 @@ none_of_other s states is at first next =
     ∙ ap (λ b. (if is_wanted true b then (low_of_state s).text at (if b then first else next) else []) ++ texts true at (map low_of_state states)
     (numbers (map low_of_state states) first (if b then next else next + (low_of_state s).labels))) (same_initial s ∙ is)
 
-pub text_of_initial : (s : State) (states : List State) → (piece_of_state s).is_initial ≡ true → (at : Targets) (first next : ℕ) →
+pub text_of_initial : (s : State) (states : List State) → (subtree_of_state s).is_initial ≡ true → (at : Targets) (first next : ℕ) →
     texts true at (map low_of_state (s ∷ states)) (numbers (map low_of_state (s ∷ states)) first next) ≡ (low_of_state s).text at first ++ texts true at
     (map low_of_state states) (numbers (map low_of_state states) first next)
 text_of_initial s states is at first next =
@@ -63,7 +63,7 @@ text_of_initial s states is at first next =
     ∙ ap (λ b. (if is_wanted true b then (low_of_state s).text at (if b then first else next) else []) ++ texts true at (map low_of_state states)
     (numbers (map low_of_state states) first (if b then next else next + (low_of_state s).labels))) (same_initial s ∙ is)
 
-pub none_of_initial : (s : State) (states : List State) → (piece_of_state s).is_initial ≡ true → (at : Targets) (first next : ℕ) →
+pub none_of_initial : (s : State) (states : List State) → (subtree_of_state s).is_initial ≡ true → (at : Targets) (first next : ℕ) →
     texts false at (map low_of_state (s ∷ states)) (numbers (map low_of_state (s ∷ states)) first next) ≡ texts false at (map low_of_state states)
     (numbers (map low_of_state states) first next)
 none_of_initial s states is at first next =
@@ -99,16 +99,16 @@ module _ (ms : List Mark) where
 
   -- the numbers of the labels of a region's states
   pub labels_of : (states : List State) → Each StateMarked states → (n first m : ℕ) → StandAt ms n (marked_by states first m) →
-      (i u : ℕ) → slice_get (state_numbers (map piece_of_state states) n) i ≡ Some u →
+      (i u : ℕ) → slice_get (state_numbers (map subtree_of_state states) n) i ≡ Some u →
       (x : Mark) × (slice_get ms u ≡ Some x) × (slice_get (numbers (map low_of_state states) first m) i ≡ Some x.label)
   labels_of [] marked n first m h i u is = absurd (none-some u is)
   labels_of (s ∷ ss) marked n first m h i u is = by (low_of_state s).is_initial h
-      (λ k g j is. labels_of ss marked.1 (n + (piece_of_state s).states) first k g j u is)
+      (λ k g j is. labels_of ss marked.1 (n + (subtree_of_state s).states) first k g j u is)
     where
       by : (b : Bool) → StandAt ms n (marks_among (map marks_of_state (s ∷ ss)) (if b then first ∷ numbers (map low_of_state ss) first m else m ∷ numbers
           (map low_of_state ss) first (m + (low_of_state s).labels))) →
-          ((k : ℕ) → StandAt ms (n + (piece_of_state s).states) (marked_by ss first k) → (j : ℕ) →
-          slice_get (state_numbers (map piece_of_state ss) (n + (piece_of_state s).states)) j ≡ Some u →
+          ((k : ℕ) → StandAt ms (n + (subtree_of_state s).states) (marked_by ss first k) → (j : ℕ) →
+          slice_get (state_numbers (map subtree_of_state ss) (n + (subtree_of_state s).states)) j ≡ Some u →
           (x : Mark) × (slice_get ms u ≡ Some x) × (slice_get (numbers (map low_of_state ss) first k) j ≡ Some x.label)) →
           (x : Mark) × (slice_get ms u ≡ Some x)
           × (slice_get (if b then first ∷ numbers (map low_of_state ss) first m else m ∷ numbers (map low_of_state ss) first (m + (low_of_state s).labels))
@@ -116,19 +116,21 @@ module _ (ms : List Mark) where
       by true h rest = at first (numbers (map low_of_state ss) first m) (marked_by ss first m) h (rest m) i is
         where
           at : (c : ℕ) (others : List ℕ) (ys : List Mark) → StandAt ms n ((marks_of_state s).marks c ++ ys) →
-              (StandAt ms (n + (piece_of_state s).states) ys → (j : ℕ) → slice_get (state_numbers (map piece_of_state ss) (n + (piece_of_state s).states)) j
+              (StandAt ms (n + (subtree_of_state s).states) ys → (j : ℕ) →
+              slice_get (state_numbers (map subtree_of_state ss) (n + (subtree_of_state s).states)) j
               ≡ Some u → (x : Mark) × (slice_get ms u ≡ Some x) × (slice_get others j ≡ Some x.label)) →
-              (i : ℕ) → slice_get (n ∷ state_numbers (map piece_of_state ss) (n + (piece_of_state s).states)) i ≡ Some u →
+              (i : ℕ) → slice_get (n ∷ state_numbers (map subtree_of_state ss) (n + (subtree_of_state s).states)) i ≡ Some u →
               (x : Mark) × (slice_get ms u ≡ Some x) × (slice_get (c ∷ others) i ≡ Some x.label)
           at c others ys h rest zero is = own_label s c n u ys others h (same_Some n u is)
-          at c others ys h rest (suc j) is = rest (behind_marks ((marks_of_state s).marks c) ys n (piece_of_state s).states (marked.0.long c) h) j is
+          at c others ys h rest (suc j) is = rest (behind_marks ((marks_of_state s).marks c) ys n (subtree_of_state s).states (marked.0.long c) h) j is
       by false h rest = at m (numbers (map low_of_state ss) first (m + (low_of_state s).labels)) (marked_by ss first (m + (low_of_state s).labels)) h
           (rest (m + (low_of_state s).labels)) i is
         where
           at : (c : ℕ) (others : List ℕ) (ys : List Mark) → StandAt ms n ((marks_of_state s).marks c ++ ys) →
-              (StandAt ms (n + (piece_of_state s).states) ys → (j : ℕ) → slice_get (state_numbers (map piece_of_state ss) (n + (piece_of_state s).states)) j
+              (StandAt ms (n + (subtree_of_state s).states) ys → (j : ℕ) →
+              slice_get (state_numbers (map subtree_of_state ss) (n + (subtree_of_state s).states)) j
               ≡ Some u → (x : Mark) × (slice_get ms u ≡ Some x) × (slice_get others j ≡ Some x.label)) →
-              (i : ℕ) → slice_get (n ∷ state_numbers (map piece_of_state ss) (n + (piece_of_state s).states)) i ≡ Some u →
+              (i : ℕ) → slice_get (n ∷ state_numbers (map subtree_of_state ss) (n + (subtree_of_state s).states)) i ≡ Some u →
               (x : Mark) × (slice_get ms u ≡ Some x) × (slice_get (c ∷ others) i ≡ Some x.label)
           at c others ys h rest zero is = own_label s c n u ys others h (same_Some n u is)
-          at c others ys h rest (suc j) is = rest (behind_marks ((marks_of_state s).marks c) ys n (piece_of_state s).states (marked.0.long c) h) j is
+          at c others ys h rest (suc j) is = rest (behind_marks ((marks_of_state s).marks c) ys n (subtree_of_state s).states (marked.0.long c) h) j is

@@ -15,7 +15,7 @@ use Rattle.chart_machine.specs.declared.standing.Standing.TheVariants as stand
 use Rattle.chart_machine.specs.declared.table.StateRow.{StateRow}
 use Rattle.chart_machine.specs.declared.table.Table.{Table}
 use Rattle.chart_machine.specs.Steps.{to}
-use Rattle.chart_machine.specs.Table.{state_at, region_numbers, side_by_side, within, piece_of_region, entered_state, is_superstate, come_to}
+use Rattle.chart_machine.specs.Table.{state_at, region_numbers, side_by_side, within, subtree_of_region, entered_state, is_superstate, come_to}
 use Rattle.scl.specs.declared.statement.Statement.{Statement}
 use Rattle.scl.specs.declared.statement.Statement.TheVariants as statement
 use Rattle.scl.specs.declared.statement.Statement.TheOpen as text
@@ -91,12 +91,12 @@ module _ (k : Table) (ms : List Mark) (root : Block) (keeps : KeepsScopes root) 
     holder : (state_at k s).holder ≡ x.at.holder
     holder = holder_is k ms root keeps top found s x
 
-    numbers_own : (state_at k s).regions ≡ region_numbers (map piece_of_region regions) x.at.region
-    numbers_own = subst (λ z. (state_at k z).regions ≡ region_numbers (map piece_of_region regions) x.at.region) x.is
+    numbers_own : (state_at k s).regions ≡ region_numbers (map subtree_of_region regions) x.at.region
+    numbers_own = subst (λ z. (state_at k z).regions ≡ region_numbers (map subtree_of_region regions) x.at.region) x.is
         (ap (λ o. (unwrap_or {T = StateRow} o (state_at (record k { states = [] }) 0)).regions) x.row)
 
-    opened_own : (state_at k s).opened ≡ (side_by_side (map piece_of_region regions) (within x.at)).entered
-    opened_own = subst (λ z. (state_at k z).opened ≡ (side_by_side (map piece_of_region regions) (within x.at)).entered) x.is
+    opened_own : (state_at k s).opened ≡ (side_by_side (map subtree_of_region regions) (within x.at)).entered
+    opened_own = subst (λ z. (state_at k z).opened ≡ (side_by_side (map subtree_of_region regions) (within x.at)).entered) x.is
         (ap (λ o. (unwrap_or {T = StateRow} o (state_at (record k { states = [] }) 0)).opened) x.row)
 
     first_closing_own : first_closing_tests all ≡ terminations all
@@ -104,10 +104,10 @@ module _ (k : Table) (ms : List Mark) (root : Block) (keeps : KeepsScopes root) 
 
     entered_own : (state_at k s).entered ≡ to (state_at k s).holder (stand.Within s (terminations (state_at k s).transitions)) ∷ (state_at k s).opened
     entered_own =
-        let opened : List Move = (side_by_side (map piece_of_region regions) (within x.at)).entered in
+        let opened : List Move = (side_by_side (map subtree_of_region regions) (within x.at)).entered in
         entered_is k ms root keeps top found settles s x
-        ∙ ap (λ b. entered_state b (is_superstate (map piece_of_region regions)) x.at all opened) final
-        ∙ ap (λ rs. entered_state false (is_superstate (map piece_of_region rs)) x.at all opened) regions_are
+        ∙ ap (λ b. entered_state b (is_superstate (map subtree_of_region regions)) x.at all opened) final
+        ∙ ap (λ rs. entered_state false (is_superstate (map subtree_of_region rs)) x.at all opened) regions_are
         ∙ ap (λ ts. come_to x.at.holder x.at.state (at_once ts) (first_closing_tests all) opened) strong
         ∙ ap (λ ts. to x.at.holder (stand.Within x.at.state ts) ∷ opened) (first_closing_own ∙ ap terminations (sym own))
         ∙ ap (λ h. to h (stand.Within x.at.state (terminations (state_at k s).transitions)) ∷ opened) (sym holder)

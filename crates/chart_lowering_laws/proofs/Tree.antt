@@ -9,7 +9,8 @@ use Rattle.core_charts.specs.declared.region.Region.TheFolds.{fold_out-Region}
 use Rattle.chart_machine.specs.declared.table.TablePosition.{TablePosition}
 use Rattle.chart_machine.specs.declared.table.StateRow.{StateRow}
 use Rattle.chart_machine.specs.declared.table.Table.{Table}
-use Rattle.chart_machine.specs.Table.{Piece, state_at, region_at, region_numbers, side_by_side, within, behind, piece_of_region, region_piece, state_piece}
+use Rattle.chart_machine.specs.Table.{Subtree, state_at, region_at, region_numbers, side_by_side, within}
+use Rattle.chart_machine.specs.Table.{behind, subtree_of_region, region_subtree, state_subtree}
 use Rattle.scl.specs.Block.{Block}
 use Rattle.scl_graph_laws.proofs.Segments.{StandAt, stand_from, stand_first, stand_second}
 use Rattle.scl_graph_laws.proofs.Scopes.{KeepsScopes}
@@ -24,12 +25,12 @@ use Rattle.chart_lowering_laws.proofs.Leading.{holder_is}
 module _ (k : Table) where
   -- regions side by side have their rows
   pub rows_there : (regions : List Region) → Each RegionRowed regions → (at : TablePosition) (before : ℕ) → at.region ≡ suc before →
-      StandAt k.regions before (side_by_side (map piece_of_region regions) at).regions →
-      (q : ℕ) → Contains (region_numbers (map piece_of_region regions) at.region) q → IsRegionOf k q
+      StandAt k.regions before (side_by_side (map subtree_of_region regions) at).regions →
+      (q : ℕ) → Contains (region_numbers (map subtree_of_region regions) at.region) q → IsRegionOf k q
   rows_there [] rowed at before follows rows q here = absurd (contains_none q here)
   rows_there (r ∷ regions) rowed at before follows rows q here =
-      let p : Piece = piece_of_region r in
-      let ps : List Piece = map piece_of_region regions in
+      let p : Subtree = subtree_of_region r in
+      let ps : List Subtree = map subtree_of_region regions in
       ⊎_elim
       (λ same. subst (IsRegionOf k) (sym follows ∙ same)
       (first r at before (stand_first k.regions before (p.parts at).regions (side_by_side ps (behind p at)).regions rows)))
@@ -40,10 +41,10 @@ module _ (k : Table) where
       (stand_second k.regions before (p.parts at).regions (side_by_side ps (behind p at)).regions rows)) q later)
       (contains_cons at.region q (region_numbers ps (at.region + p.regions)) here)
     where
-      first : (r : Region) (at : TablePosition) (before : ℕ) → StandAt k.regions before ((piece_of_region r).parts at).regions → IsRegionOf k (suc before)
+      first : (r : Region) (at : TablePosition) (before : ℕ) → StandAt k.regions before ((subtree_of_region r).parts at).regions → IsRegionOf k (suc before)
       first r at before rows =
-          let opened : StandAt k.regions before ((region_piece (open_region r)).parts at).regions = subst (λ p. StandAt k.regions before (p.parts at).regions)
-          (fold_out-Region Piece Piece region_piece state_piece r) rows in
+          let opened : StandAt k.regions before ((region_subtree (open_region r)).parts at).regions = subst (λ p. StandAt k.regions before (p.parts at).regions)
+          (fold_out-Region Subtree Subtree region_subtree state_subtree r) rows in
           let there : before < length k.regions = slice_get_within k.regions before _ opened.0 in
           (omega arith, omega (arith, there))
 
@@ -57,16 +58,16 @@ module _ (k : Table) where
 
     -- the numbers of a state's regions
     pub numbers_are : (s : ℕ) (x : StateAt k ms root keeps top s) →
-        (state_at k s).regions ≡ region_numbers (map piece_of_region (out-State x.state).regions) x.at.region
-    numbers_are s x = subst (λ z. (state_at k z).regions ≡ region_numbers (map piece_of_region (out-State x.state).regions) x.at.region) x.is
+        (state_at k s).regions ≡ region_numbers (map subtree_of_region (out-State x.state).regions) x.at.region
+    numbers_are s x = subst (λ z. (state_at k z).regions ≡ region_numbers (map subtree_of_region (out-State x.state).regions) x.at.region) x.is
         (ap (λ o. (unwrap_or {T = StateRow} o (state_at (record k { states = [] }) 0)).regions) x.row)
 
     pub lies_in : (s r : ℕ) → s < length k.states → Contains (state_at k s).regions r → IsRegionOf k r × LiesIn k r s
     lies_in s r less here =
         let x : StateAt k ms root keeps top s = state_found_at s less in
-        let own : Contains (region_numbers (map piece_of_region (out-State x.state).regions) x.at.region) r = subst (λ xs. Contains xs r)
+        let own : Contains (region_numbers (map subtree_of_region (out-State x.state).regions) x.at.region) r = subst (λ xs. Contains xs r)
         (numbers_are s x) here in
-        let from : x.at.region ≤ r = numbers_from (map piece_of_region (out-State x.state).regions) x.at.region r own in
+        let from : x.at.region ≤ r = numbers_from (map subtree_of_region (out-State x.state).regions) x.at.region r own in
         let holder : (state_at k s).holder ≡ x.at.holder = holder_is k ms root keeps top state_found_at s x in
         let above : x.at.holder < x.at.region = x.less in (
           rows_there (out-State x.state).regions x.rowed (within x.at) x.before x.follows x.inside r own,

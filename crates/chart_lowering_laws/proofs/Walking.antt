@@ -19,8 +19,8 @@ use Rattle.std.proofs.lemmas.Option.{slice_get_within}
 use Rattle.scl_graph_laws.proofs.Members.{contains_head, contains_tail, contains_none, contains_cons}
 use Rattle.chart_machine.specs.declared.table.Table.{Table}
 use Rattle.chart_machine.specs.declared.table.TablePosition.{TablePosition}
-use Rattle.chart_machine.specs.Table.{Piece, state_at, region_at, region_numbers, states_in, regions_in, side_by_side, within, state_row, state_numbers}
-use Rattle.chart_machine.specs.Table.{state_piece, region_piece, piece_of_region, piece_of_state}
+use Rattle.chart_machine.specs.Table.{Subtree, state_at, region_at, region_numbers, states_in, regions_in, side_by_side, within, state_row, state_numbers}
+use Rattle.chart_machine.specs.Table.{state_subtree, region_subtree, subtree_of_region, subtree_of_state}
 use Rattle.chart_machine.specs.Table.{behind as behind_piece}
 use Rattle.scl.specs.declared.statement.Statement.{Statement}
 use Rattle.scl.specs.declared.statement.Statement.TheVariants as statement
@@ -74,7 +74,7 @@ abbrev pub low_open_region : Region → Region-F RegionPiece StatePiece
 low_open_region r = record { name = (out-Region r).name; states = map low_of_state (out-Region r).states }
 
 -- numbers from n on
-pub numbers_from : (ps : List Piece) (n q : ℕ) → Contains (region_numbers ps n) q → n ≤ q
+pub numbers_from : (ps : List Subtree) (n q : ℕ) → Contains (region_numbers ps n) q → n ≤ q
 numbers_from [] n q h = absurd (contains_none q h)
 numbers_from (p ∷ ps) n q h =
     ⊎_elim (λ same. let is : n ≡ q = same in omega (arith, is)) (λ later. let from : n + p.regions ≤ q = numbers_from ps (n + p.regions) q later in
@@ -116,7 +116,7 @@ module _ (k : Table) (ms : List Mark) (root : Block) (keeps : KeepsScopes root) 
     pub at : TablePosition
     pub is : at.state ≡ s
     pub row : slice_get k.states at.state ≡ Some
-        (state_row (open_state state) at (side_by_side (map piece_of_region (out-State state).regions) (within at)).entered)
+        (state_row (open_state state) at (side_by_side (map subtree_of_region (out-State state).regions) (within at)).entered)
     pub before : ℕ
     pub follows : at.region ≡ suc before
     pub less : at.holder < at.region
@@ -128,12 +128,12 @@ module _ (k : Table) (ms : List Mark) (root : Block) (keeps : KeepsScopes root) 
     pub one_join : count_by (λ t. is_join t.kind) (out-State state).transitions ≤ 1
     pub transitions : (i : ℕ) (t : Transition) → slice_get (out-State state).transitions i ≡ Some t →
         IsTransition features.Core variables (length (region_at k at.holder).states) (has_regions (out-State state).regions) t
-    pub inside : StandAt k.regions before (side_by_side (map piece_of_region (out-State state).regions) (within at)).regions
+    pub inside : StandAt k.regions before (side_by_side (map subtree_of_region (out-State state).regions) (within at)).regions
     pub rowed : Each RegionRowed (out-State state).regions
     pub targets : Targets
     pub goes : Goes at.holder at.around targets
     pub label : ℕ
-    pub inside_states : StandAt k.states (suc at.state) (side_by_side (map piece_of_region (out-State state).regions) (within at)).states
+    pub inside_states : StandAt k.states (suc at.state) (side_by_side (map subtree_of_region (out-State state).regions) (within at)).states
     pub inside_marks : StandAt ms (suc at.state) (marks_beside (map marks_of_region (out-State state).regions) (suc label))
     pub mark : slice_get ms at.state ≡ Some
         (record {
@@ -158,7 +158,11 @@ module _ (k : Table) (ms : List Mark) (root : Block) (keeps : KeepsScopes root) 
     pub held : Held at.region
     pub targets : Targets
     pub goes : Goes at.region at.around targets
-    pub row : slice_get k.regions before ≡ Some (record { around = at.around; states = state_numbers (map piece_of_state (out-Region region).states) at.state })
+    pub row : slice_get k.regions before ≡ Some (record {
+      around = at.around;
+      states = state_numbers
+          (map subtree_of_state (out-Region region).states) at.state;
+    })
     pub label : ℕ
     pub base : ℕ
     pub numbers : Numbers
@@ -183,7 +187,7 @@ module _ (k : Table) (ms : List Mark) (root : Block) (keeps : KeepsScopes root) 
   found_to a b c d e f x y h = subst (λ z. Found a z c f) x (subst (λ z. Found a b c z) y h)
 
   -- wherever the region's rows and its text stand, all in it are found
-  abbrev pub WalksRegionBy : Piece → RegionPiece → RegionMarks → Type 0
+  abbrev pub WalksRegionBy : Subtree → RegionPiece → RegionMarks → Type 0
   WalksRegionBy p low m =
       (at : TablePosition) (before : ℕ) → at.region ≡ suc before → Held at.region → StandAt k.states at.state (p.parts at).states →
       StandAt k.regions before (p.parts at).regions →
@@ -192,9 +196,9 @@ module _ (k : Table) (ms : List Mark) (root : Block) (keeps : KeepsScopes root) 
       Found at.state (at.state + p.states) at.region (at.region + p.regions)
 
   abbrev pub WalksRegion : Region → Type 0
-  WalksRegion r = WalksRegionBy (piece_of_region r) (low_of_region r) (marks_of_region r)
+  WalksRegion r = WalksRegionBy (subtree_of_region r) (low_of_region r) (marks_of_region r)
 
-  abbrev WalksStateBy : ℕ → Piece → StatePiece → StateMarks → Type 0
+  abbrev WalksStateBy : ℕ → Subtree → StatePiece → StateMarks → Type 0
   WalksStateBy size p low m =
       (at : TablePosition) (before : ℕ) → at.region ≡ suc before → at.holder < at.region → length (region_at k at.holder).states ≡ size →
       Contains (region_at k at.holder).states at.state → StandAt k.states at.state (p.parts at).states → StandAt k.regions before (p.parts at).regions →
@@ -203,24 +207,24 @@ module _ (k : Table) (ms : List Mark) (root : Block) (keeps : KeepsScopes root) 
       Found at.state (at.state + p.states) at.region (at.region + p.regions)
 
   abbrev pub WalksState : ℕ → State → Type 0
-  WalksState size s = WalksStateBy size (piece_of_state s) (low_of_state s) (marks_of_state s)
+  WalksState size s = WalksStateBy size (subtree_of_state s) (low_of_state s) (marks_of_state s)
 
   -- the regions of a superstate, or of the chart, and the branches of its fork
   abbrev pub WalksSide : List Region → Type 0
   WalksSide regions =
-      (at : TablePosition) (before : ℕ) → at.region ≡ suc before → ((q : ℕ) → Contains (region_numbers (map piece_of_region regions) at.region) q → Held q) →
-      StandAt k.states at.state (side_by_side (map piece_of_region regions) at).states →
-      StandAt k.regions before (side_by_side (map piece_of_region regions) at).regions →
+      (at : TablePosition) (before : ℕ) → at.region ≡ suc before → ((q : ℕ) → Contains (region_numbers (map subtree_of_region regions) at.region) q → Held q) →
+      StandAt k.states at.state (side_by_side (map subtree_of_region regions) at).states →
+      StandAt k.regions before (side_by_side (map subtree_of_region regions) at).regions →
       (n : ℕ) (nums : Numbers) → StandAt ms at.state (marks_beside (map marks_of_region regions) n) → nums.thread ≡ at.region →
       ((u : ℕ) (b : Block) → IsBranch (branches_from (map (map piece_of) (branches (map low_of_region regions) n)) nums) u b → Main u b) →
-      Found at.state (at.state + states_in (map piece_of_region regions)) at.region (at.region + regions_in (map piece_of_region regions))
+      Found at.state (at.state + states_in (map subtree_of_region regions)) at.region (at.region + regions_in (map subtree_of_region regions))
 
   pub walk_side : (regions : List Region) → Each WalksRegion regions → Each RegionRowed regions → Each CountsRegion regions → Each RegionMarked regions →
       WalksSide regions
   walk_side [] walks rowed counts marked at before follows holds states rows n nums marks thread inside = found_none at.state at.region
   walk_side (r ∷ regions) walks rowed counts marked at before follows holds states rows n nums marks thread inside =
-      let p : Piece = piece_of_region r in
-      let ps : List Piece = map piece_of_region regions in
+      let p : Subtree = subtree_of_region r in
+      let ps : List Subtree = map subtree_of_region regions in
       let body : List Statement = (low_of_region r).body n in
       let own_marks : List Mark = (marks_of_region r).marks n in
       let more_marks : List Mark = marks_beside (map marks_of_region regions) (n + (marks_of_region r).low.labels) in
@@ -265,14 +269,14 @@ module _ (k : Table) (ms : List Mark) (root : Block) (keeps : KeepsScopes root) 
 
   -- what is inside a state
   inside_state : (is_final : Bool) (regions : List Region) (all : List Transition) → (is_final ≡ true → regions ≡ []) → WalksSide regions →
-      (at : TablePosition) (before : ℕ) → at.region ≡ suc before → ((q : ℕ) → Contains (region_numbers (map piece_of_region regions) at.region) q → Held q) →
-      StandAt k.states (suc at.state) (side_by_side (map piece_of_region regions) (within at)).states →
-      StandAt k.regions before (side_by_side (map piece_of_region regions) (within at)).regions →
+      (at : TablePosition) (before : ℕ) → at.region ≡ suc before → ((q : ℕ) → Contains (region_numbers (map subtree_of_region regions) at.region) q → Held q) →
+      StandAt k.states (suc at.state) (side_by_side (map subtree_of_region regions) (within at)).states →
+      StandAt k.regions before (side_by_side (map subtree_of_region regions) (within at)).regions →
       (targets : Targets) (n : ℕ) (nums : Numbers) (following : Block) → StandAt ms (suc at.state) (marks_beside (map marks_of_region regions) (suc n)) →
       nums.thread ≡ at.region → Main at.holder (made (text_of is_final (map low_of_region regions) all targets n) nums following) →
-      Found (suc at.state) (suc at.state + states_in (map piece_of_region regions)) at.region (at.region + regions_in (map piece_of_region regions))
+      Found (suc at.state) (suc at.state + states_in (map subtree_of_region regions)) at.region (at.region + regions_in (map subtree_of_region regions))
   inside_state true regions all bare walks at before follows holds states rows targets n nums following marks thread main =
-      subst (λ rs. Found (suc at.state) (suc at.state + states_in (map piece_of_region rs)) at.region (at.region + regions_in (map piece_of_region rs)))
+      subst (λ rs. Found (suc at.state) (suc at.state + states_in (map subtree_of_region rs)) at.region (at.region + regions_in (map subtree_of_region rs)))
       (sym (bare refl)) (found_none (suc at.state) at.region)
   inside_state false [] all bare walks at before follows holds states rows targets n nums following marks thread main = found_none (suc at.state) at.region
   inside_state false (r ∷ regions) all bare walks at before follows holds states rows targets n nums following marks thread main =
@@ -304,22 +308,23 @@ module _ (k : Table) (ms : List Mark) (root : Block) (keeps : KeepsScopes root) 
       (has_regions (out-State s).regions) t) →
       Each RegionRowed (out-State s).regions → WalksSide (out-State s).regions → WalksState size s
   walk_state size variables levels s regions_rules bare one_join transitions rowed walks =
-      subst (λ p. WalksStateBy size p (low_of_state s) (marks_of_state s)) (sym (fold_out-State Piece Piece region_piece state_piece s))
-      (subst (λ low. WalksStateBy size (state_piece (open_state s)) low (marks_of_state s)) (sym (fold_out-State RegionPiece StatePiece low_region low_state s))
-      (subst (λ m. WalksStateBy size (state_piece (open_state s)) (low_state (low_open_state s)) m)
+      subst (λ p. WalksStateBy size p (low_of_state s) (marks_of_state s)) (sym (fold_out-State Subtree Subtree region_subtree state_subtree s))
+      (subst (λ low. WalksStateBy size (state_subtree (open_state s)) low (marks_of_state s))
+      (sym (fold_out-State RegionPiece StatePiece low_region low_state s))
+      (subst (λ m. WalksStateBy size (state_subtree (open_state s)) (low_state (low_open_state s)) m)
       (sym (fold_out-State RegionMarks StateMarks region_marks state_marks s)) opened))
     where
-      opened : WalksStateBy size (state_piece (open_state s)) (low_state (low_open_state s)) (state_marks (mark_open_state s))
+      opened : WalksStateBy size (state_subtree (open_state s)) (low_state (low_open_state s)) (state_marks (mark_open_state s))
       opened at before follows less sized listed states rows targets n nums following labelled goes marks thread main =
           let regions : List Region = (out-State s).regions in
-          let number : (state_at k at.state).regions ≡ region_numbers (map piece_of_region regions) at.region =
+          let number : (state_at k at.state).regions ≡ region_numbers (map subtree_of_region regions) at.region =
           ap (λ o. (unwrap_or {T = StateRow} o (state_at (record k { states = [] }) 0)).regions) states.0 in
           let holder : (state_at k at.state).holder ≡ at.holder = ap (λ o. (unwrap_or {T = StateRow} o (state_at (record k { states = [] }) 0)).holder) states.0
           in
           let there : at.state < length k.states = slice_get_within k.states at.state
-          (state_row (open_state s) at (side_by_side (map piece_of_region regions) (within at)).entered) states.0 in
-          let holds : (q : ℕ) → Contains (region_numbers (map piece_of_region regions) at.region) q → Held q = λ q h.
-          let from : at.region ≤ q = numbers_from (map piece_of_region regions) at.region q h in
+          (state_row (open_state s) at (side_by_side (map subtree_of_region regions) (within at)).entered) states.0 in
+          let holds : (q : ℕ) → Contains (region_numbers (map subtree_of_region regions) at.region) q → Held q = λ q h.
+          let from : at.region ≤ q = numbers_from (map subtree_of_region regions) at.region q h in
           inr (record {
             state = at.state;
             there = there;
@@ -327,8 +332,8 @@ module _ (k : Table) (ms : List Mark) (root : Block) (keeps : KeepsScopes root) 
             less = subst (λ n. n < q) (sym holder)
                 (omega (arith, from, less));
           }) in
-          let inner : Found (suc at.state) (suc at.state + states_in (map piece_of_region regions)) at.region
-          (at.region + regions_in (map piece_of_region regions)) =
+          let inner : Found (suc at.state) (suc at.state + states_in (map subtree_of_region regions)) at.region
+          (at.region + regions_in (map subtree_of_region regions)) =
           inside_state (out-State s).is_final regions (out-State s).transitions (λ final. (bare final).0) walks at before follows holds states.1 rows targets n
           nums following marks.1 thread main in
           let own : StateAt at.state = record {

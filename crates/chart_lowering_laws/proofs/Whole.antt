@@ -5,8 +5,8 @@ use Rattle.core_charts.specs.declared.features.Features.TheVariants as features
 use Rattle.core_charts.specs.Chart.{Chart}
 use Rattle.core_charts.specs.Rules.{IsChart, depth_limit, IsRegion, AreRegions}
 use Rattle.chart_machine.specs.declared.table.SubtreeRows.{SubtreeRows}
-use Rattle.chart_machine.specs.Table.{table, whole, side_by_side, states_in, regions_in, region_numbers, piece_of_region, region_at, state_numbers, in_region}
-use Rattle.chart_machine.specs.Table.{past_states, with_region, regions_in_initial, inside_region, region_piece, state_piece, piece_of_state}
+use Rattle.chart_machine.specs.Table.{table, whole, side_by_side, states_in, regions_in, region_numbers, subtree_of_region, region_at, state_numbers, in_region}
+use Rattle.chart_machine.specs.Table.{past_states, with_region, regions_in_initial, inside_region, region_subtree, state_subtree, subtree_of_state}
 use Rattle.scl.specs.declared.program.Scl.{Scl}
 use Rattle.scl.specs.declared.statement.Statement.{Statement}
 use Rattle.scl.specs.Rules.{KeepsRules}
@@ -77,8 +77,9 @@ module _ (k : Table) (ms : List Mark) (root : Block) (keeps : KeepsScopes root) 
           (one_initial ss rules.one_initial)
 
 pub chart_found : (c : Chart) (scl : Scl) → IsChart features.Core c → scl.body ≡ lowered c → (keeps : KeepsScopes (numbered scl).root) →
-    Found (table c) (marks c) (numbered scl).root keeps (region_numbers (map piece_of_region c.regions) 1) 0 (0 + states_in (map piece_of_region c.regions)) 1
-    (1 + regions_in (map piece_of_region c.regions))
+    Found (table c) (marks c) (numbered scl).root keeps (region_numbers (map subtree_of_region c.regions) 1) 0
+    (0 + states_in (map subtree_of_region c.regions)) 1
+    (1 + regions_in (map subtree_of_region c.regions))
 chart_found c scl rules same keeps =
     let all : Block = (numbered scl).root in
     let bodies : List (List Statement) = branches (map low_of_region c.regions) 1 in
@@ -88,9 +89,9 @@ chart_found c scl rules same keeps =
     let text : MainPlace all keeps 0 (made (lowered c) first end) = subst (λ xs. MainPlace all keeps 0 (made xs first end)) same (main_whole all keeps) in
     let fork : MainPlace all keeps 0 (Fork 0 (branches_from (map (map piece_of) bodies) first) end) =
     subst (λ (x : Piece). MainPlace all keeps 0 (x.made first end)) (fork_piece bodies) text in
-    let parts : SubtreeRows = side_by_side (map piece_of_region c.regions) whole in
-    walk_side (table c) (marks c) all keeps (region_numbers (map piece_of_region c.regions) 1) c.regions
-    (regions_walk (table c) (marks c) all keeps (region_numbers (map piece_of_region c.regions) 1) c.variables depth_limit c.regions rules.regions)
+    let parts : SubtreeRows = side_by_side (map subtree_of_region c.regions) whole in
+    walk_side (table c) (marks c) all keeps (region_numbers (map subtree_of_region c.regions) 1) c.regions
+    (regions_walk (table c) (marks c) all keeps (region_numbers (map subtree_of_region c.regions) 1) c.variables depth_limit c.regions rules.regions)
     (regions_rowed c.variables depth_limit c.regions rules.regions)
     (regions_count c.variables depth_limit c.regions rules.regions)
     (regions_marked c.variables depth_limit c.regions rules.regions)
@@ -99,6 +100,6 @@ chart_found c scl rules same keeps =
 
 -- for a program that keeps the rules of SCL
 pub image_found : (c : Chart) (scl : Scl) → IsChart features.Core c → scl.body ≡ lowered c → (kept : KeepsRules scl.name scl.variables scl.body) →
-    Found (table c) (marks c) (numbered scl).root (keeps_scopes scl kept) (region_numbers (map piece_of_region c.regions) 1) 0
-    (0 + states_in (map piece_of_region c.regions)) 1 (1 + regions_in (map piece_of_region c.regions))
+    Found (table c) (marks c) (numbered scl).root (keeps_scopes scl kept) (region_numbers (map subtree_of_region c.regions) 1) 0
+    (0 + states_in (map subtree_of_region c.regions)) 1 (1 + regions_in (map subtree_of_region c.regions))
 image_found c scl rules same kept = chart_found c scl rules same (keeps_scopes scl kept)

@@ -8,7 +8,7 @@ use Rattle.core_charts.specs.declared.region.Region.TheFolds.{fold-Region}
 use Rattle.core_charts.specs.Chart.{Chart}
 use Rattle.core_charts.specs.Tests.{at_once, terminations}
 use Rattle.chart_machine.specs.declared.table.Table.{Table}
-use Rattle.chart_machine.specs.Table.{table, region_at, region_numbers, piece_of_region}
+use Rattle.chart_machine.specs.Table.{table, region_at, region_numbers, subtree_of_region}
 use Rattle.chart_lowering.specs.Lowering.{RegionPiece, StatePiece, region_piece, state_piece, label_name, labels_in, labels_in_initial, numbers, leaves_surely}
 use Rattle.scl.specs.Block.{Block, End}
 use Rattle.scl.specs.Labels.{Front, Jumps, Begins, front, behind_label, label_count}
@@ -114,4 +114,4 @@ layout_of k top all root =
     }
 
 abbrev pub layout : Chart → Block → Layout
-layout c root = layout_of (table c) (region_numbers (map piece_of_region c.regions) 1) (marks c) root
+layout c root = layout_of (table c) (region_numbers (map subtree_of_region c.regions) 1) (marks c) root

@@ -20,17 +20,17 @@ use Rattle.core_charts.specs.Chart.{Chart}
 use Rattle.core_charts.specs.Tests.{at_once, strong_aborts, first_closing_tests}
 
 -- a state, or a region, with all that is in it: how many states and regions it has, and what it gives where it stands
-pub record Piece : Type 0 where
+pub record Subtree : Type 0 where
   pub is_initial : Bool
   pub states : ℕ
   pub regions : ℕ
   pub parts : TablePosition → SubtreeRows
 
-abbrev pub states_in : List Piece → ℕ
+abbrev pub states_in : List Subtree → ℕ
 states_in [] = 0
 states_in (p ∷ pieces) = p.states + states_in pieces
 
-abbrev pub regions_in : List Piece → ℕ
+abbrev pub regions_in : List Subtree → ℕ
 regions_in [] = 0
 regions_in (p ∷ pieces) = p.regions + regions_in pieces
 
@@ -41,16 +41,16 @@ abbrev pub both : SubtreeRows → SubtreeRows → SubtreeRows
 both a b = record { states = a.states ++ b.states; regions = a.regions ++ b.regions; entered = a.entered ++ b.entered }
 
 -- where the next region of the superstate stands
-abbrev pub behind : Piece → TablePosition → TablePosition
+abbrev pub behind : Subtree → TablePosition → TablePosition
 behind p at = record at { state = at.state + p.states; region = at.region + p.regions }
 
 -- the regions of a superstate, side by side
-abbrev pub side_by_side : List Piece → TablePosition → SubtreeRows
+abbrev pub side_by_side : List Subtree → TablePosition → SubtreeRows
 side_by_side [] at = nothing
 side_by_side (p ∷ regions) at = both (p.parts at) (side_by_side regions (behind p at))
 
 -- their numbers
-abbrev pub region_numbers : List Piece → ℕ → List ℕ
+abbrev pub region_numbers : List Subtree → ℕ → List ℕ
 region_numbers [] n = []
 region_numbers (p ∷ regions) n = n ∷ region_numbers regions (n + p.regions)
 
@@ -67,7 +67,7 @@ abbrev pub entered_superstate : TablePosition → List Transition → List Move 
 entered_superstate at transitions opened =
     come_to at.holder at.state (at_once (strong_aborts transitions)) (first_closing_tests transitions) opened
 
-abbrev pub is_superstate : List Piece → Bool
+abbrev pub is_superstate : List Subtree → Bool
 is_superstate [] = false
 is_superstate (p ∷ regions) = true
 
@@ -79,7 +79,7 @@ entered_state false false at transitions opened =
     record { region = at.holder; standing = standing.Trying at.state (at_once transitions) } ∷ []
 entered_state false true at transitions opened = entered_superstate at transitions opened
 
-abbrev pub state_row : State-F Piece Piece → TablePosition → List Move → StateRow
+abbrev pub state_row : State-F Subtree Subtree → TablePosition → List Move → StateRow
 state_row s at opened =
     record {
       holder = at.holder;
@@ -90,7 +90,7 @@ state_row s at opened =
     }
 
 -- a state, over what is inside it
-abbrev pub state_over : State-F Piece Piece → TablePosition → SubtreeRows → SubtreeRows
+abbrev pub state_over : State-F Subtree Subtree → TablePosition → SubtreeRows → SubtreeRows
 state_over s at inside =
     record {
       states = state_row s at inside.entered ∷ inside.states;
@@ -98,8 +98,8 @@ state_over s at inside =
       entered = entered_state s.is_final (is_superstate s.regions) at s.transitions inside.entered;
     }
 
-abbrev pub state_piece : State-F Piece Piece → Piece
-state_piece s =
+abbrev pub state_subtree : State-F Subtree Subtree → Subtree
+state_subtree s =
     record {
       is_initial = s.is_initial;
       states = suc (states_in s.regions);
@@ -135,25 +135,25 @@ rows_of_state_at false parts next at =
       entered = [];
     }
 
-abbrev pub alone : Piece → ℕ → TablePosition → StatesRows
+abbrev pub alone : Subtree → ℕ → TablePosition → StatesRows
 alone p = rows_of_state_at p.is_initial p.parts
 
-abbrev pub next_behind : Piece → ℕ → ℕ
+abbrev pub next_behind : Subtree → ℕ → ℕ
 next_behind p next = if p.is_initial then next else next + p.regions
 
 -- the states of a region in the order of the text
-abbrev pub in_region : List Piece → ℕ → TablePosition → StatesRows
+abbrev pub in_region : List Subtree → ℕ → TablePosition → StatesRows
 in_region [] next at = record { states = []; first = []; others = []; entered = [] }
 in_region (p ∷ states) next at = followed_by (alone p next at)
     (in_region states (next_behind p next) (past_states p.states at))
 
 -- the numbers of the states
-abbrev pub state_numbers : List Piece → ℕ → List ℕ
+abbrev pub state_numbers : List Subtree → ℕ → List ℕ
 state_numbers [] n = []
 state_numbers (p ∷ states) n = n ∷ state_numbers states (n + p.states)
 
 -- how many regions are inside the initial states
-abbrev pub regions_in_initial : List Piece → ℕ
+abbrev pub regions_in_initial : List Subtree → ℕ
 regions_in_initial [] = 0
 regions_in_initial (p ∷ states) = (if p.is_initial then p.regions else 0) + regions_in_initial states
 
@@ -169,8 +169,8 @@ region_over states at inner =
       entered = inner.entered;
     }
 
-abbrev pub region_piece : Region-F Piece Piece → Piece
-region_piece r =
+abbrev pub region_subtree : Region-F Subtree Subtree → Subtree
+region_subtree r =
     record {
       is_initial = false;
       states = states_in r.states;
@@ -180,11 +180,11 @@ region_piece r =
           (in_region r.states (suc at.region + regions_in_initial r.states) (inside_region at));
     }
 
-abbrev pub piece_of_region : Region → Piece
-piece_of_region = fold-Region Piece Piece region_piece state_piece
+abbrev pub subtree_of_region : Region → Subtree
+subtree_of_region = fold-Region Subtree Subtree region_subtree state_subtree
 
-abbrev pub piece_of_state : State → Piece
-piece_of_state = fold-State Piece Piece region_piece state_piece
+abbrev pub subtree_of_state : State → Subtree
+subtree_of_state = fold-State Subtree Subtree region_subtree state_subtree
 
 abbrev pub whole : TablePosition
 whole = record { state = 0; region = 1; holder = 0; around = [] }
@@ -198,7 +198,7 @@ table_over variables parts = record {
 }
 
 abbrev pub table_of : List Variable → List Region → Table
-table_of variables regions = table_over variables (side_by_side (map piece_of_region regions) whole)
+table_of variables regions = table_over variables (side_by_side (map subtree_of_region regions) whole)
 
 abbrev pub table : Chart → Table
 table c = table_of c.variables c.regions

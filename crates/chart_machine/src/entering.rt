@@ -2,7 +2,7 @@
 
 ghost use Rattle.std.specs.Prelude.{◌≡◌, ◌∷◌, [], IfOk, map};
 ghost use Rattle.core_charts.specs.declared.region.Region.TheViews.{out-State};
-ghost use Rattle.chart_machine.specs.Table.{is_superstate, entered_superstate, entered_state, piece_of_region};
+ghost use Rattle.chart_machine.specs.Table.{is_superstate, entered_superstate, entered_state, subtree_of_region};
 
 use crate::chosen::{at_once, first_closing_tests, strong_aborts};
 use crate::copies::copied_moves;
@@ -20,7 +20,7 @@ pub(crate) fn entered_state(
     opened: &[Move],
 ) -> Result<Items<Move>, AllocError>
     ensures { IfOk result (λ moves. moves ≡ entered_state (out-State state.now).is_final
-        (is_superstate (map piece_of_region (out-State state.now).regions)) at.now
+        (is_superstate (map subtree_of_region (out-State state.now).regions)) at.now
         (out-State state.now).transitions opened.now) }
 {
     let transitions = state.transitions.as_slice();
@@ -44,7 +44,7 @@ pub(crate) fn entered_state(
 
 #[tactic(auto, using(crate::proofs::Superstates::superstate_alike))]
 fn is_superstate(state: &State) -> bool
-    ensures { result ≡ is_superstate (map piece_of_region (out-State state.now).regions) }
+    ensures { result ≡ is_superstate (map subtree_of_region (out-State state.now).regions) }
 {
     state.is_superstate()
 }

@@ -2,7 +2,7 @@
 //! numbered, no memory holds their rows: this counts as refused memory.
 
 ghost use Rattle.std.specs.Prelude.{◌≡◌, ◌+◌, IfOk, map};
-ghost use Rattle.chart_machine.specs.Table.{region_numbers, state_numbers, piece_of_region, piece_of_state};
+ghost use Rattle.chart_machine.specs.Table.{region_numbers, state_numbers, subtree_of_region, subtree_of_state};
 
 use crate::sizes::{region_size, state_size};
 use core_charts::{Region, State};
@@ -11,7 +11,7 @@ use std::alloc::{AllocError, Global};
 
 // The first number behind those of the regions in a state.
 pub(crate) fn past_regions(state: &State, next: usize) -> Result<usize, AllocError>
-    ensures { IfOk result (λ n. n ≡ next + (piece_of_state state.now).regions) }
+    ensures { IfOk result (λ n. n ≡ next + (subtree_of_state state.now).regions) }
 {
     let Some(size) = state_size(state) else {
         return Err(AllocError);
@@ -24,7 +24,7 @@ pub(crate) fn past_regions(state: &State, next: usize) -> Result<usize, AllocErr
 
 // The first number behind those of the states in a state.
 pub(crate) fn past_states(state: &State, next: usize) -> Result<usize, AllocError>
-    ensures { IfOk result (λ n. n ≡ next + (piece_of_state state.now).states) }
+    ensures { IfOk result (λ n. n ≡ next + (subtree_of_state state.now).states) }
 {
     let Some(size) = state_size(state) else {
         return Err(AllocError);
@@ -37,7 +37,7 @@ pub(crate) fn past_states(state: &State, next: usize) -> Result<usize, AllocErro
 
 // The first number behind those of the states in a region.
 pub(crate) fn past_states_of_region(region: &Region, next: usize) -> Result<usize, AllocError>
-    ensures { IfOk result (λ n. n ≡ next + (piece_of_region region.now).states) }
+    ensures { IfOk result (λ n. n ≡ next + (subtree_of_region region.now).states) }
 {
     let Some(size) = region_size(region) else {
         return Err(AllocError);
@@ -53,7 +53,7 @@ pub(crate) fn state_numbers(
     states: &[State],
     from: usize,
 ) -> Result<Items<usize>, AllocError>
-    ensures { IfOk result (λ numbers. numbers ≡ state_numbers (map piece_of_state states.now) from) }
+    ensures { IfOk result (λ numbers. numbers ≡ state_numbers (map subtree_of_state states.now) from) }
 {
     let mut next = from;
     let mut numbers = Vec::new(alloc);
@@ -69,7 +69,7 @@ pub(crate) fn region_numbers(
     regions: &[Region],
     from: usize,
 ) -> Result<Items<usize>, AllocError>
-    ensures { IfOk result (λ numbers. numbers ≡ region_numbers (map piece_of_region regions.now) from) }
+    ensures { IfOk result (λ numbers. numbers ≡ region_numbers (map subtree_of_region regions.now) from) }
 {
     let mut next = from;
     let mut numbers = Vec::new(alloc);
@@ -82,7 +82,7 @@ pub(crate) fn region_numbers(
 
 // The first number behind those of the regions in a region.
 pub(crate) fn past_region(region: &Region, next: usize) -> Result<usize, AllocError>
-    ensures { IfOk result (λ n. n ≡ next + (piece_of_region region.now).regions) }
+    ensures { IfOk result (λ n. n ≡ next + (subtree_of_region region.now).regions) }
 {
     let Some(size) = region_size(region) else {
         return Err(AllocError);

@@ -1,7 +1,7 @@
-//! How many states and regions are in a piece of a chart.
+//! How many states and regions are in a subtree of a chart.
 
 ghost use Rattle.std.specs.Prelude.{◌≡◌, ◌+◌, IfSome, map};
-ghost use Rattle.chart_machine.specs.Table.{piece_of_region, piece_of_state, states_in, regions_in, regions_in_initial};
+ghost use Rattle.chart_machine.specs.Table.{subtree_of_region, subtree_of_state, states_in, regions_in, regions_in_initial};
 
 use core_charts::{Region, State};
 
@@ -28,8 +28,8 @@ impl Size {
 // Of a state with all that is in it. None: they are too many.
 #[cycle(sizes)]
 pub(crate) fn state_size(state: &State) -> Option<Size>
-    ensures states { IfSome result (λ size. size.states ≡ (piece_of_state state.now).states) }
-    ensures regions { IfSome result (λ size. size.regions ≡ (piece_of_state state.now).regions) }
+    ensures states { IfSome result (λ size. size.states ≡ (subtree_of_state state.now).states) }
+    ensures regions { IfSome result (λ size. size.regions ≡ (subtree_of_state state.now).regions) }
 {
     let mut size = Size {
         states: 1,
@@ -44,8 +44,8 @@ pub(crate) fn state_size(state: &State) -> Option<Size>
 // Of a region with all that is in it. None: they are too many.
 #[cycle(sizes)]
 pub(crate) fn region_size(region: &Region) -> Option<Size>
-    ensures states { IfSome result (λ size. size.states ≡ (piece_of_region region.now).states) }
-    ensures regions { IfSome result (λ size. size.regions ≡ (piece_of_region region.now).regions) }
+    ensures states { IfSome result (λ size. size.states ≡ (subtree_of_region region.now).states) }
+    ensures regions { IfSome result (λ size. size.regions ≡ (subtree_of_region region.now).regions) }
 {
     let mut size = Size {
         states: 0,
@@ -59,7 +59,7 @@ pub(crate) fn region_size(region: &Region) -> Option<Size>
 
 // How many regions are inside the initial states. None: they are too many.
 pub(crate) fn regions_in_initial(states: &[State]) -> Option<usize>
-    ensures { IfSome result (λ count. count ≡ regions_in_initial (map piece_of_state states.now)) }
+    ensures { IfSome result (λ count. count ≡ regions_in_initial (map subtree_of_state states.now)) }
 {
     let mut count: usize = 0;
     for state in states {

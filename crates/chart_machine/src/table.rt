@@ -41,7 +41,7 @@ pub struct Table {
     pub opened: Items<Move>,
 }
 
-/// Where a piece of a chart stands: the numbers of the next state and of the next region, the region that holds
+/// Where a subtree of a chart stands: the numbers of the next state and of the next region, the region that holds
 /// it, and the superstates around it, the innermost first.
 #[derive(Debug, Drop)]
 pub struct TablePosition {
@@ -51,7 +51,7 @@ pub struct TablePosition {
     pub around: Items<usize>,
 }
 
-/// What a piece of a chart gives: the rows of its states and of its regions, and what entering it makes of
+/// What a subtree of a chart gives: the rows of its states and of its regions, and what entering it makes of
 /// regions.
 #[derive(Debug, Drop)]
 pub struct SubtreeRows {

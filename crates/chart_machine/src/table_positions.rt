@@ -1,8 +1,8 @@
 //! Where a state or a region stands in the table of a chart.
 
 ghost use Rattle.std.specs.Prelude.{◌≡◌, IfOk};
-ghost use Rattle.chart_machine.specs.Table.{with_region, past_states, behind, within, inside_region, piece_of_region};
-ghost use Rattle.chart_machine.specs.Table.{piece_of_state};
+ghost use Rattle.chart_machine.specs.Table.{with_region, past_states, behind, within, inside_region, subtree_of_region};
+ghost use Rattle.chart_machine.specs.Table.{subtree_of_state};
 
 use crate::numbering::{past_region, past_states, past_states_of_region};
 use crate::table::TablePosition;
@@ -73,7 +73,7 @@ impl TablePosition {
 
     // Where the next state of the region stands.
     pub(crate) fn past(self, state: &State) -> Result<TablePosition, AllocError>
-        ensures { IfOk result (λ at. at ≡ past_states (piece_of_state state.now).states self) }
+        ensures { IfOk result (λ at. at ≡ past_states (subtree_of_state state.now).states self) }
     {
         let state = past_states(state, self.state)?;
         Ok(TablePosition {
@@ -86,7 +86,7 @@ impl TablePosition {
 
     // Where the next region of the superstate stands.
     pub(crate) fn behind(self, region: &Region) -> Result<TablePosition, AllocError>
-        ensures { IfOk result (λ at. at ≡ behind (piece_of_region region.now) self) }
+        ensures { IfOk result (λ at. at ≡ behind (subtree_of_region region.now) self) }
     {
         let state = past_states_of_region(region, self.state)?;
         let region = past_region(region, self.region)?;

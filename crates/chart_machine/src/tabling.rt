@@ -2,8 +2,8 @@
 
 ghost use Rattle.std.specs.Prelude.{◌≡◌, ◌++◌, IfOk, OnOk, map};
 ghost use Rattle.chart_machine.specs.Table.{both, followed_by, alone, next_behind, side_by_side, in_region};
-ghost use Rattle.chart_machine.specs.Table.{piece_of_region};
-ghost use Rattle.chart_machine.specs.Table.{piece_of_state, table_of, table};
+ghost use Rattle.chart_machine.specs.Table.{subtree_of_region};
+ghost use Rattle.chart_machine.specs.Table.{subtree_of_state, table_of, table};
 
 use crate::copies::copied_moves;
 use crate::entering::entered_state;
@@ -69,7 +69,7 @@ fn side_by_side(
     regions: &[Region],
     at: &TablePosition,
 ) -> Result<SubtreeRows, AllocError>
-    ensures { IfOk result (λ parts. parts ≡ side_by_side (map piece_of_region regions.now) at.now) }
+    ensures { IfOk result (λ parts. parts ≡ side_by_side (map subtree_of_region regions.now) at.now) }
 {
     let mut here = at.copied(alloc)?;
     let mut parts = SubtreeRows {
@@ -86,7 +86,7 @@ fn side_by_side(
 
 #[cycle(parts)]
 fn state_parts(alloc: Global, state: &State, at: &TablePosition) -> Result<SubtreeRows, AllocError>
-    ensures { IfOk result (λ parts. parts ≡ (piece_of_state state.now).parts at.now) }
+    ensures { IfOk result (λ parts. parts ≡ (subtree_of_state state.now).parts at.now) }
 {
     let regions = state.regions.as_slice();
     let inside = side_by_side(alloc, regions, &at.within(alloc)?)?;
@@ -113,7 +113,7 @@ fn region_parts(
     region: &Region,
     at: &TablePosition,
 ) -> Result<SubtreeRows, AllocError>
-    ensures { IfOk result (λ parts. parts ≡ (piece_of_region region.now).parts at.now) }
+    ensures { IfOk result (λ parts. parts ≡ (subtree_of_region region.now).parts at.now) }
 {
     let states = region.states.as_slice();
     let inside = at.inside_region(alloc)?;
@@ -171,7 +171,7 @@ fn in_region(
     next: usize,
     at: &TablePosition,
 ) -> Result<StatesRows, AllocError>
-    ensures { IfOk result (λ inner. inner ≡ in_region (map piece_of_state states.now) next at.now) }
+    ensures { IfOk result (λ inner. inner ≡ in_region (map subtree_of_state states.now) next at.now) }
 {
     let mut here = at.copied(alloc)?;
     let mut next = next;
@@ -197,8 +197,8 @@ fn put_state(
     here: &TablePosition,
     inner: &mut StatesRows,
 ) -> Result<usize, AllocError>
-    ensures next { IfOk result (λ n. n ≡ next_behind (piece_of_state state.now) next) }
-    ensures inner { OnOk result (inner.new ≡ followed_by inner.old (alone (piece_of_state state.now) next here.now)) }
+    ensures next { IfOk result (λ n. n ≡ next_behind (subtree_of_state state.now) next) }
+    ensures inner { OnOk result (inner.new ≡ followed_by inner.old (alone (subtree_of_state state.now) next here.now)) }
 {
     if state.is_initial {
         inner.lead(state_parts(alloc, state, here)?)?;

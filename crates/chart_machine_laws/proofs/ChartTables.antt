@@ -14,11 +14,12 @@ use Rattle.core_charts.specs.Rules.{IsRegion, AreRegions, IsChart, depth_limit}
 use Rattle.chart_machine.specs.declared.table.StateRow.{StateRow}
 use Rattle.chart_machine.specs.declared.table.RegionRow.{RegionRow}
 use Rattle.chart_machine.specs.declared.table.Table.{Table}
-use Rattle.chart_machine.specs.Table.{Piece, region_piece, state_piece, piece_of_region, piece_of_state, side_by_side, whole, table_of, table, state_at}
+use Rattle.chart_machine.specs.Table.{Subtree, region_subtree, state_subtree, subtree_of_region, subtree_of_state, side_by_side}
+use Rattle.chart_machine.specs.Table.{whole, table_of, table, state_at}
 use Rattle.chart_machine.specs.Table.{region_at}
 use Rattle.scl_graph_laws.proofs.Segments.{StandAt, stand_all, each_at}
 use Rattle.chart_machine_laws.proofs.LyingIn.{IsTree, around, holder, none_in}
-use Rattle.chart_machine_laws.proofs.RowsOfPieces.{StatesAt, RegionsAt, Holds, IsSized, AllSized, state_sized, region_sized}
+use Rattle.chart_machine_laws.proofs.RowsOfSubtrees.{StatesAt, RegionsAt, Holds, IsSized, AllSized, state_sized, region_sized}
 use Rattle.chart_machine_laws.proofs.Children.{Kept, EachKept, RegionKeeps, StateKeeps, side_kept, state_keeps, region_keeps}
 use Rattle.chart_machine_laws.proofs.TableTrees.{NoneInitial, OnceInitial, Rooted, EachUpward, RegionClimbs, StateClimbs, StateHeld, Each, side_climbs}
 use Rattle.chart_machine_laws.proofs.TableTrees.{state_held, state_climbs, region_climbs}
@@ -35,8 +36,8 @@ count (s ∷ states) = cond (is_first s) (1 + count states) (count states)
 count_is : (states : List State) → count states ≡ count_by is_first states
 count_is states = is_count_by count is_first refl (λ x ys. refl) states
 
-first_is : (s : State) → (piece_of_state s).is_initial ≡ is_first s
-first_is s = ap (λ p. p.is_initial) (fold_out-State Piece Piece region_piece state_piece s)
+first_is : (s : State) → (subtree_of_state s).is_initial ≡ is_first s
+first_is s = ap (λ p. p.is_initial) (fold_out-State Subtree Subtree region_subtree state_subtree s)
 
 none_if : (b : Bool) (n : ℕ) → cond b (1 + n) n ≡ 0 → (b ≡ false) × (n ≡ 0)
 none_if true n e = absurd (omega (e, arith))
@@ -46,122 +47,122 @@ once_if : (b : Bool) (n : ℕ) → cond b (1 + n) n ≤ 1 → (b ≡ true → n 
 once_if true n e = (λ same. omega (e, arith), omega (e, arith))
 once_if false n e = (λ same. absurd cc, e)
 
-none_initial : (states : List State) → count states ≡ 0 → NoneInitial (map piece_of_state states)
+none_initial : (states : List State) → count states ≡ 0 → NoneInitial (map subtree_of_state states)
 none_initial [] e = tt
 none_initial (s ∷ states) e = let both = none_if (is_first s) (count states) e in (first_is s ∙ both.0, none_initial states both.1)
 
-once_initial : (states : List State) → count states ≤ 1 → OnceInitial (map piece_of_state states)
+once_initial : (states : List State) → count states ≤ 1 → OnceInitial (map subtree_of_state states)
 once_initial [] e = tt
 once_initial (s ∷ states) e =
     let both = once_if (is_first s) (count states) e in (λ first. none_initial states (both.0 (sym (first_is s) ∙ first)), once_initial states both.1)
 
 -- ---- by how deep regions nest
 
-pub record Grows (k : Table) (p : Piece) : Type 0 where
+pub record Grows (k : Table) (p : Subtree) : Type 0 where
   pub sized : IsSized p
   pub climbs : RegionClimbs k p
   pub keeps : RegionKeeps k p
 
-pub record GrowsInside (k : Table) (p : Piece) : Type 0 where
+pub record GrowsInside (k : Table) (p : Subtree) : Type 0 where
   pub sized : IsSized p
   pub held : StateHeld k p
   pub climbs : StateClimbs k p
   pub keeps : StateKeeps k p
 
 module _ (k : Table) where
-  all_sized : (pieces : List Piece) → Each k (Grows k) pieces → AllSized pieces
+  all_sized : (pieces : List Subtree) → Each k (Grows k) pieces → AllSized pieces
   all_sized [] each = tt
   all_sized (p ∷ pieces) each = (each.0.sized, all_sized pieces each.1)
 
-  all_climb : (pieces : List Piece) → Each k (Grows k) pieces → Each k (RegionClimbs k) pieces
+  all_climb : (pieces : List Subtree) → Each k (Grows k) pieces → Each k (RegionClimbs k) pieces
   all_climb [] each = tt
   all_climb (p ∷ pieces) each = (each.0.climbs, all_climb pieces each.1)
 
-  all_sized_inside : (pieces : List Piece) → Each k (GrowsInside k) pieces → AllSized pieces
+  all_sized_inside : (pieces : List Subtree) → Each k (GrowsInside k) pieces → AllSized pieces
   all_sized_inside [] each = tt
   all_sized_inside (p ∷ pieces) each = (each.0.sized, all_sized_inside pieces each.1)
 
-  all_held : (pieces : List Piece) → Each k (GrowsInside k) pieces → Each k (StateHeld k) pieces
+  all_held : (pieces : List Subtree) → Each k (GrowsInside k) pieces → Each k (StateHeld k) pieces
   all_held [] each = tt
   all_held (p ∷ pieces) each = (each.0.held, all_held pieces each.1)
 
-  all_climb_inside : (pieces : List Piece) → Each k (GrowsInside k) pieces → Each k (StateClimbs k) pieces
+  all_climb_inside : (pieces : List Subtree) → Each k (GrowsInside k) pieces → Each k (StateClimbs k) pieces
   all_climb_inside [] each = tt
   all_climb_inside (p ∷ pieces) each = (each.0.climbs, all_climb_inside pieces each.1)
 
-  all_keep : (pieces : List Piece) → Each k (Grows k) pieces → Each k (RegionKeeps k) pieces
+  all_keep : (pieces : List Subtree) → Each k (Grows k) pieces → Each k (RegionKeeps k) pieces
   all_keep [] each = tt
   all_keep (p ∷ pieces) each = (each.0.keeps, all_keep pieces each.1)
 
-  all_keep_inside : (pieces : List Piece) → Each k (GrowsInside k) pieces → Each k (StateKeeps k) pieces
+  all_keep_inside : (pieces : List Subtree) → Each k (GrowsInside k) pieces → Each k (StateKeeps k) pieces
   all_keep_inside [] each = tt
   all_keep_inside (p ∷ pieces) each = (each.0.keeps, all_keep_inside pieces each.1)
 
-  state_grows : (s : State) → Each k (Grows k) (map piece_of_region (out-State s).regions) → GrowsInside k (piece_of_state s)
+  state_grows : (s : State) → Each k (Grows k) (map subtree_of_region (out-State s).regions) → GrowsInside k (subtree_of_state s)
   state_grows s each =
-      subst (GrowsInside k) (sym (fold_out-State Piece Piece region_piece state_piece s))
+      subst (GrowsInside k) (sym (fold_out-State Subtree Subtree region_subtree state_subtree s))
       (record {
         sized = state_sized (record {
           name = (out-State s).name;
           is_initial = (out-State s).is_initial;
           is_final = (out-State s).is_final;
-          regions = map piece_of_region (out-State s).regions;
+          regions = map subtree_of_region (out-State s).regions;
           transitions = (out-State s).transitions;
-        }) (all_sized (map piece_of_region (out-State s).regions) each);
+        }) (all_sized (map subtree_of_region (out-State s).regions) each);
         held = state_held k (record {
           name = (out-State s).name;
           is_initial = (out-State s).is_initial;
           is_final = (out-State s).is_final;
-          regions = map piece_of_region (out-State s).regions;
+          regions = map subtree_of_region (out-State s).regions;
           transitions = (out-State s).transitions;
         });
         climbs = state_climbs k (record {
           name = (out-State s).name;
           is_initial = (out-State s).is_initial;
           is_final = (out-State s).is_final;
-          regions = map piece_of_region (out-State s).regions;
+          regions = map subtree_of_region (out-State s).regions;
           transitions = (out-State s).transitions;
-        }) (all_sized (map piece_of_region (out-State s).regions) each) (all_climb (map piece_of_region (out-State s).regions) each);
+        }) (all_sized (map subtree_of_region (out-State s).regions) each) (all_climb (map subtree_of_region (out-State s).regions) each);
         keeps = state_keeps k (record {
           name = (out-State s).name;
           is_initial = (out-State s).is_initial;
           is_final = (out-State s).is_final;
-          regions = map piece_of_region (out-State s).regions;
+          regions = map subtree_of_region (out-State s).regions;
           transitions = (out-State s).transitions;
-        }) (all_sized (map piece_of_region (out-State s).regions) each) (all_keep (map piece_of_region (out-State s).regions) each);
+        }) (all_sized (map subtree_of_region (out-State s).regions) each) (all_keep (map subtree_of_region (out-State s).regions) each);
       })
 
-  region_grows : (r : Region) → count_by is_first (out-Region r).states ≡ 1 → Each k (GrowsInside k) (map piece_of_state (out-Region r).states) →
-      Grows k (piece_of_region r)
+  region_grows : (r : Region) → count_by is_first (out-Region r).states ≡ 1 → Each k (GrowsInside k) (map subtree_of_state (out-Region r).states) →
+      Grows k (subtree_of_region r)
   region_grows r one each =
-      subst (Grows k) (sym (fold_out-Region Piece Piece region_piece state_piece r))
+      subst (Grows k) (sym (fold_out-Region Subtree Subtree region_subtree state_subtree r))
       (record {
-        sized = region_sized (record { name = (out-Region r).name; states = map piece_of_state (out-Region r).states }) (all_sized_inside (map
-            piece_of_state (out-Region r).states) each);
+        sized = region_sized (record { name = (out-Region r).name; states = map subtree_of_state (out-Region r).states }) (all_sized_inside (map
+            subtree_of_state (out-Region r).states) each);
         climbs =
-            region_climbs k (record { name = (out-Region r).name; states = map piece_of_state (out-Region r).states })
+            region_climbs k (record { name = (out-Region r).name; states = map subtree_of_state (out-Region r).states })
             (once_initial (out-Region r).states (omega (count_is (out-Region r).states, one, arith)))
-            (all_sized_inside (map piece_of_state (out-Region r).states) each) (all_held (map piece_of_state (out-Region r).states) each)
-            (all_climb_inside (map piece_of_state (out-Region r).states) each);
+            (all_sized_inside (map subtree_of_state (out-Region r).states) each) (all_held (map subtree_of_state (out-Region r).states) each)
+            (all_climb_inside (map subtree_of_state (out-Region r).states) each);
         keeps =
-            region_keeps k (record { name = (out-Region r).name; states = map piece_of_state (out-Region r).states })
+            region_keeps k (record { name = (out-Region r).name; states = map subtree_of_state (out-Region r).states })
             (once_initial (out-Region r).states (omega (count_is (out-Region r).states, one, arith)))
-            (all_sized_inside (map piece_of_state (out-Region r).states) each) (all_keep_inside (map piece_of_state (out-Region r).states) each);
+            (all_sized_inside (map subtree_of_state (out-Region r).states) each) (all_keep_inside (map subtree_of_state (out-Region r).states) each);
       })
 
-  each_of : {A : Type 0} (f : A → Piece) (P : Piece → Type 0) (xs : List A) → ((i : ℕ) (x : A) → slice_get xs i ≡ Some x → P (f x)) → Each k P (map f xs)
+  each_of : {A : Type 0} (f : A → Subtree) (P : Subtree → Type 0) (xs : List A) → ((i : ℕ) (x : A) → slice_get xs i ≡ Some x → P (f x)) → Each k P (map f xs)
   each_of f P [] h = tt
   each_of f P (x ∷ xs) h = (h 0 x refl, each_of f P xs (λ i y at. h (suc i) y at))
 
   pub regions_grow : (f : Features) (variables : List Variable) (levels : ℕ) (regions : List Region) → AreRegions f variables levels regions →
-      Each k (Grows k) (map piece_of_region regions)
-  regions_grow f variables zero regions rules = subst (λ rs. Each k (Grows k) (map piece_of_region rs)) (sym rules) tt
+      Each k (Grows k) (map subtree_of_region regions)
+  regions_grow f variables zero regions rules = subst (λ rs. Each k (Grows k) (map subtree_of_region rs)) (sym rules) tt
   regions_grow f variables (suc levels) regions rules =
-      each_of piece_of_region (Grows k) regions
+      each_of subtree_of_region (Grows k) regions
       (λ i r at.
       let region : IsRegion f variables (AreRegions f variables levels) r = rules.each i r at in
       region_grows r region.one_initial
-      (each_of piece_of_state (GrowsInside k) (out-Region r).states
+      (each_of subtree_of_state (GrowsInside k) (out-Region r).states
       (λ j s is. state_grows s (regions_grow f variables levels (out-State s).regions (region.states j s is).regions))))
 
 -- ---- the table
@@ -178,7 +179,7 @@ regions_stand k n [] h = tt
 regions_stand k n (x ∷ xs) h = (ap (λ o. unwrap_or o (record { around = []; states = [] })) h.0, regions_stand k (suc n) xs h.1)
 
 pub holds_whole : (variables : List Variable) (regions : List Region) →
-    Holds (table_of variables regions) whole (side_by_side (map piece_of_region regions) whole)
+    Holds (table_of variables regions) whole (side_by_side (map subtree_of_region regions) whole)
 holds_whole variables regions =
     let k : Table = table_of variables regions in
     record { states = states_stand k 0 k.states (stand_all k.states); regions = regions_stand k 0 k.regions (stand_all k.regions) }
@@ -218,7 +219,7 @@ table_rooted : (f : Features) (variables : List Variable) (levels : ℕ) (region
     Rooted (table_of variables regions) q
 table_rooted f variables levels regions rules =
     let k : Table = table_of variables regions in
-    let pieces : List Piece = map piece_of_region regions in
+    let pieces : List Subtree = map subtree_of_region regions in
     let grow : Each k (Grows k) pieces = regions_grow k f variables levels regions rules in
     each_rooted k (side_climbs k pieces whole (all_sized k pieces grow) (all_climb k pieces grow) (holds_whole variables regions) (λ q here s ss e. absurd (cc))
     (λ s h. absurd (none_in s h)))
@@ -249,7 +250,7 @@ table_kept : (f : Features) (variables : List Variable) (levels : ℕ) (regions 
     EachKept (table_of variables regions) 0 (table_of variables regions).states
 table_kept f variables levels regions rules =
     let k : Table = table_of variables regions in
-    let pieces : List Piece = map piece_of_region regions in
+    let pieces : List Subtree = map subtree_of_region regions in
     let grow : Each k (Grows k) pieces = regions_grow k f variables levels regions rules in
     side_kept k pieces whole (all_sized k pieces grow) (all_keep k pieces grow) (holds_whole variables regions)
 

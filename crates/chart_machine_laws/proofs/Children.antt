@@ -7,13 +7,13 @@ use Rattle.chart_machine.specs.declared.table.Table.{Table}
 use Rattle.chart_machine.specs.declared.table.TablePosition.{TablePosition}
 use Rattle.chart_machine.specs.declared.table.SubtreeRows.{SubtreeRows}
 use Rattle.chart_machine.specs.declared.table.StatesRows.{StatesRows}
-use Rattle.chart_machine.specs.Table.{Piece, behind, side_by_side, within, region_numbers, state_piece, state_numbers, with_region, past_states}
+use Rattle.chart_machine.specs.Table.{Subtree, behind, side_by_side, within, region_numbers, state_subtree, state_numbers, with_region, past_states}
 use Rattle.chart_machine.specs.Table.{rows_of_state_at}
-use Rattle.chart_machine.specs.Table.{followed_by, in_region, regions_in_initial, inside_region, region_piece, state_at, region_at}
+use Rattle.chart_machine.specs.Table.{followed_by, in_region, regions_in_initial, inside_region, region_subtree, state_at, region_at}
 use Rattle.scl_graph_laws.proofs.Segments.{EachAt, each_from, each_append}
 use Rattle.chart_machine_laws.proofs.LyingIn.{around, none_in, head_or_tail, head_in, tail_in}
-use Rattle.chart_machine_laws.proofs.RowsOfPieces.{StatesAt, RegionsAt, Holds, states_from, states_first, states_second, regions_from, regions_first}
-use Rattle.chart_machine_laws.proofs.RowsOfPieces.{regions_second, IsSized, AllSized, inner_first}
+use Rattle.chart_machine_laws.proofs.RowsOfSubtrees.{StatesAt, RegionsAt, Holds, states_from, states_first, states_second, regions_from, regions_first}
+use Rattle.chart_machine_laws.proofs.RowsOfSubtrees.{regions_second, IsSized, AllSized, inner_first}
 use Rattle.chart_machine_laws.proofs.TableTrees.{NoneInitial, OnceInitial, none_first, Each}
 
 module _ (k : Table) where
@@ -27,15 +27,15 @@ module _ (k : Table) where
   EachKept n rows = EachAt Kept n rows
 
   -- the row of a region is the first one of its piece
-  pub record RegionKeeps (p : Piece) : Type 0 where
+  pub record RegionKeeps (p : Subtree) : Type 0 where
     pub own : (at : TablePosition) → Holds k at (p.parts at) → around k at.region ≡ at.around
     pub kept : (at : TablePosition) → Holds k at (p.parts at) → EachKept at.state (p.parts at).states
 
-  abbrev pub StateKeeps : Piece → Type 0
+  abbrev pub StateKeeps : Subtree → Type 0
   StateKeeps p = (at : TablePosition) → Holds k at (p.parts at) → around k at.holder ≡ at.around → Contains (region_at k at.holder).states at.state →
       EachKept at.state (p.parts at).states
 
-  first_holds : (p : Piece) (regions : List Piece) (at : TablePosition) → Holds k at (side_by_side (p ∷ regions) at) → Holds k at (p.parts at)
+  first_holds : (p : Subtree) (regions : List Subtree) (at : TablePosition) → Holds k at (side_by_side (p ∷ regions) at) → Holds k at (p.parts at)
   first_holds p regions at holds =
       let rest : SubtreeRows = side_by_side regions (behind p at) in
       record {
@@ -44,7 +44,7 @@ module _ (k : Table) where
             rest.regions holds.regions;
       }
 
-  rest_holds : (p : Piece) (regions : List Piece) (at : TablePosition) → IsSized p → Holds k at (side_by_side (p ∷ regions) at) →
+  rest_holds : (p : Subtree) (regions : List Subtree) (at : TablePosition) → IsSized p → Holds k at (side_by_side (p ∷ regions) at) →
       Holds k (behind p at) (side_by_side regions (behind p at))
   rest_holds p regions at sized holds =
       let rest : SubtreeRows = side_by_side regions (behind p at) in
@@ -57,7 +57,7 @@ module _ (k : Table) where
             (regions_second k at.region (p.parts at).regions rest.regions holds.regions);
       }
 
-  side_around : (regions : List Piece) (at : TablePosition) → AllSized regions → Each k RegionKeeps regions → Holds k at (side_by_side regions at) →
+  side_around : (regions : List Subtree) (at : TablePosition) → AllSized regions → Each k RegionKeeps regions → Holds k at (side_by_side regions at) →
       (r : ℕ) → Contains (region_numbers regions at.region) r → around k r ≡ at.around
   side_around [] at sized keeps holds r h = absurd (none_in r h)
   side_around (p ∷ regions) at sized keeps holds r h =
@@ -65,7 +65,7 @@ module _ (k : Table) where
       (λ tail. side_around regions (behind p at) sized.1 keeps.1 (rest_holds p regions at sized.0 holds) r tail) (head_or_tail at.region r (region_numbers
       regions (at.region + p.regions)) h)
 
-  pub side_kept : (regions : List Piece) (at : TablePosition) → AllSized regions → Each k RegionKeeps regions → Holds k at (side_by_side regions at) →
+  pub side_kept : (regions : List Subtree) (at : TablePosition) → AllSized regions → Each k RegionKeeps regions → Holds k at (side_by_side regions at) →
       EachKept at.state (side_by_side regions at).states
   side_kept [] at sized keeps holds = tt
   side_kept (p ∷ regions) at sized keeps holds =
@@ -76,7 +76,7 @@ module _ (k : Table) where
       ))
       (side_kept regions (behind p at) sized.1 keeps.1 (rest_holds p regions at sized.0 holds)))
 
-  pub state_keeps : (s : State-F Piece Piece) → AllSized s.regions → Each k RegionKeeps s.regions → StateKeeps (state_piece s)
+  pub state_keeps : (s : State-F Subtree Subtree) → AllSized s.regions → Each k RegionKeeps s.regions → StateKeeps (state_subtree s)
   state_keeps s sized keeps at holds round listed =
       let inner : Holds k (within at) (side_by_side s.regions (within at)) = record { states = holds.states.1; regions = holds.regions } in (
         record {
@@ -88,14 +88,14 @@ module _ (k : Table) where
       )
 
   -- the region that holds these has their numbers
-  abbrev AllListed : List Piece → TablePosition → Type 0
+  abbrev AllListed : List Subtree → TablePosition → Type 0
   AllListed states at = (s : ℕ) → Contains (state_numbers states at.state) s → Contains (region_at k at.holder).states s
 
-  abbrev RestKept : List Piece → TablePosition → Type 0
+  abbrev RestKept : List Subtree → TablePosition → Type 0
   RestKept states at = (next : ℕ) → StatesAt k at.state (in_region states next at).states → RegionsAt k at.region (in_region states next at).first →
       RegionsAt k next (in_region states next at).others → EachKept at.state (in_region states next at).states
 
-  inner_cons : (b : Bool) (p : Piece) (states : List Piece) (next : ℕ) (at : TablePosition) → (b ≡ true → NoneInitial states) → IsSized p → StateKeeps p →
+  inner_cons : (b : Bool) (p : Subtree) (states : List Subtree) (next : ℕ) (at : TablePosition) → (b ≡ true → NoneInitial states) → IsSized p → StateKeeps p →
       RestKept states (past_states p.states at) → around k at.holder ≡ at.around → Contains (region_at k at.holder).states at.state →
       StatesAt k at.state ((rows_of_state_at b p.parts next at).states ++ (in_region states (if b then next else next + p.regions) (past_states p.states
       at)).states) →
@@ -131,7 +131,7 @@ module _ (k : Table) where
       (regions_from k (next + length own.regions) (next + p.regions) rest.others (omega (arith, sized.regions there)) (regions_second k next own.regions
       rest.others others))))
 
-  inner_kept : (states : List Piece) (next : ℕ) (at : TablePosition) → OnceInitial states → AllSized states → Each k StateKeeps states →
+  inner_kept : (states : List Subtree) (next : ℕ) (at : TablePosition) → OnceInitial states → AllSized states → Each k StateKeeps states →
       StatesAt k at.state (in_region states next at).states → RegionsAt k at.region (in_region states next at).first →
       RegionsAt k next (in_region states next at).others →
       around k at.holder ≡ at.around → AllListed states at → EachKept at.state (in_region states next at).states
@@ -142,7 +142,7 @@ module _ (k : Table) where
       (λ later rows first others. inner_kept states later (past_states p.states at) once.1 sized.1 keeps.1 rows first others round
       (λ s h. listed s (tail_in at.state s numbers h))) round (listed at.state (head_in at.state numbers)) rows first others
 
-  pub region_keeps : (r : Region-F Piece Piece) → OnceInitial r.states → AllSized r.states → Each k StateKeeps r.states → RegionKeeps (region_piece r)
+  pub region_keeps : (r : Region-F Subtree Subtree) → OnceInitial r.states → AllSized r.states → Each k StateKeeps r.states → RegionKeeps (region_subtree r)
   region_keeps r once sized keeps =
       record {
         own = λ at holds. ap (λ z. z.around) holds.regions.0;

@@ -1,5 +1,5 @@
 pub mod LyingIn
-pub mod RowsOfPieces
+pub mod RowsOfSubtrees
 pub mod TableTrees
 pub mod Children
 pub mod ChartTables

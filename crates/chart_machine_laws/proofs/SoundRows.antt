@@ -22,9 +22,9 @@ use Rattle.chart_machine.specs.declared.table.SubtreeRows.{SubtreeRows}
 use Rattle.chart_machine.specs.declared.table.StatesRows.{StatesRows}
 use Rattle.chart_machine.specs.declared.table.Table.{Table}
 use Rattle.chart_machine.specs.declared.table.TablePosition.{TablePosition}
-use Rattle.chart_machine.specs.Table.{Piece, side_by_side, behind, within, come_to, entered_state, is_superstate, state_piece, rows_of_state_at}
-use Rattle.chart_machine.specs.Table.{with_region, past_states, next_behind, in_region, regions_in_initial, inside_region, region_piece}
-use Rattle.chart_machine.specs.Table.{piece_of_region, piece_of_state, whole, table_of, state_at}
+use Rattle.chart_machine.specs.Table.{Subtree, side_by_side, behind, within, come_to, entered_state, is_superstate, state_subtree, rows_of_state_at}
+use Rattle.chart_machine.specs.Table.{with_region, past_states, next_behind, in_region, regions_in_initial, inside_region, region_subtree}
+use Rattle.chart_machine.specs.Table.{subtree_of_region, subtree_of_state, whole, table_of, state_at}
 
 pub each_filter : {X : Type 0} (P : X → Type 0) (p : X → Bool) (xs : List X) → Each P xs → Each P (filter p xs)
 each_filter P p [] h = tt
@@ -91,10 +91,10 @@ module _ (variables : List Variable) where
   abbrev SoundInner : StatesRows → Type 0
   SoundInner inner = Each SoundRow inner.states × Each SoundMove inner.entered
 
-  abbrev SoundPiece : Piece → Type 0
-  SoundPiece p = (at : TablePosition) → SoundParts (p.parts at)
+  abbrev SoundSubtree : Subtree → Type 0
+  SoundSubtree p = (at : TablePosition) → SoundParts (p.parts at)
 
-  side_sound : (ps : List Piece) → Each SoundPiece ps → (at : TablePosition) → SoundParts (side_by_side ps at)
+  side_sound : (ps : List Subtree) → Each SoundSubtree ps → (at : TablePosition) → SoundParts (side_by_side ps at)
   side_sound [] h at = (tt, tt)
   side_sound (p ∷ ps) h at =
       let first : SoundParts (p.parts at) = h.0 at in
@@ -116,18 +116,18 @@ module _ (variables : List Variable) where
       come_sound here.holder here.state (at_once (strong_aborts ts)) (first_closing_tests ts) opened (at_once_sound (strong_aborts ts) (strong_sound ts tests))
       (first_closing_sound ts tests) openings
 
-  state_sound : (s : State-F Piece Piece) → Each SoundTest s.transitions → Each SoundPiece s.regions → SoundPiece (state_piece s)
+  state_sound : (s : State-F Subtree Subtree) → Each SoundTest s.transitions → Each SoundSubtree s.regions → SoundSubtree (state_subtree s)
   state_sound s tests inner here =
       let inside : SoundParts (side_by_side s.regions (within here)) = side_sound s.regions inner (within here) in
       let entered : Each SoundMove (entered_state s.is_final (is_superstate s.regions) here s.transitions (side_by_side s.regions (within here)).entered) =
       entered_sound s.is_final (is_superstate s.regions) here s.transitions (side_by_side s.regions (within here)).entered tests inside.1 in
       ((record { transitions = tests; entered = entered; opened = inside.1 }, inside.0), entered)
 
-  alone_sound : (b : Bool) (p : Piece) → SoundPiece p → (next : ℕ) (here : TablePosition) → SoundInner (rows_of_state_at b p.parts next here)
+  alone_sound : (b : Bool) (p : Subtree) → SoundSubtree p → (next : ℕ) (here : TablePosition) → SoundInner (rows_of_state_at b p.parts next here)
   alone_sound true p h next here = h here
   alone_sound false p h next here = ((h (with_region next here)).0, tt)
 
-  inner_sound : (ps : List Piece) → Each SoundPiece ps → (next : ℕ) (here : TablePosition) → SoundInner (in_region ps next here)
+  inner_sound : (ps : List Subtree) → Each SoundSubtree ps → (next : ℕ) (here : TablePosition) → SoundInner (in_region ps next here)
   inner_sound [] h next here = (tt, tt)
   inner_sound (p ∷ ps) h next here =
       let a : StatesRows = rows_of_state_at p.is_initial p.parts next here in
@@ -136,7 +136,7 @@ module _ (variables : List Variable) where
       let rest : SoundInner b = inner_sound ps h.1 (next_behind p next) (past_states p.states here) in
       (each_append SoundRow a.states b.states first.0 rest.0, each_append SoundMove a.entered b.entered first.1 rest.1)
 
-  region_sound : (r : Region-F Piece Piece) → Each SoundPiece r.states → SoundPiece (region_piece r)
+  region_sound : (r : Region-F Subtree Subtree) → Each SoundSubtree r.states → SoundSubtree (region_subtree r)
   region_sound r h here = inner_sound r.states h (suc here.region + regions_in_initial r.states) (inside_region here)
 
   -- ---- charts
@@ -145,36 +145,37 @@ module _ (variables : List Variable) where
   test_of f states super t rules = record { trigger = rules.trigger; effects = each_of (IsEffect variables) t.effects rules.effects }
 
   state_of : (f : Features) (levels count : ℕ) → ((regions : List Region) → AreRegions f variables levels regions →
-      Each (λ r. SoundPiece (piece_of_region r)) regions) →
-      (s : State) → IsState f variables (AreRegions f variables levels) count s → SoundPiece (piece_of_state s)
+      Each (λ r. SoundSubtree (subtree_of_region r)) regions) →
+      (s : State) → IsState f variables (AreRegions f variables levels) count s → SoundSubtree (subtree_of_state s)
   state_of f levels count inner s rules =
-      subst SoundPiece (sym (fold_out-State Piece Piece region_piece state_piece s))
+      subst SoundSubtree (sym (fold_out-State Subtree Subtree region_subtree state_subtree s))
       (state_sound (record {
         name = (out-State s).name;
         is_initial = (out-State s).is_initial;
         is_final = (out-State s).is_final;
-        regions = map piece_of_region (out-State s).regions;
+        regions = map subtree_of_region (out-State s).regions;
         transitions = (out-State s).transitions;
       }) (each_of SoundTest (out-State s).transitions (λ i t is. test_of f count _ t (rules.transitions i t is)))
-      (each_map SoundPiece piece_of_region (out-State s).regions (inner (out-State s).regions rules.regions)))
+      (each_map SoundSubtree subtree_of_region (out-State s).regions (inner (out-State s).regions rules.regions)))
 
   region_of : (f : Features) (levels : ℕ) → ((regions : List Region) → AreRegions f variables levels regions →
-      Each (λ r. SoundPiece (piece_of_region r)) regions) →
-      (r : Region) → IsRegion f variables (AreRegions f variables levels) r → SoundPiece (piece_of_region r)
+      Each (λ r. SoundSubtree (subtree_of_region r)) regions) →
+      (r : Region) → IsRegion f variables (AreRegions f variables levels) r → SoundSubtree (subtree_of_region r)
   region_of f levels inner r rules =
-      subst SoundPiece (sym (fold_out-Region Piece Piece region_piece state_piece r))
-      (region_sound (record { name = (out-Region r).name; states = map piece_of_state (out-Region r).states })
-      (each_map SoundPiece piece_of_state (out-Region r).states
-      (each_of (λ s. SoundPiece (piece_of_state s)) (out-Region r).states (λ i s is. state_of f levels _ inner s (rules.states i s is)))))
+      subst SoundSubtree (sym (fold_out-Region Subtree Subtree region_subtree state_subtree r))
+      (region_sound (record { name = (out-Region r).name; states = map subtree_of_state (out-Region r).states })
+      (each_map SoundSubtree subtree_of_state (out-Region r).states
+      (each_of (λ s. SoundSubtree (subtree_of_state s)) (out-Region r).states (λ i s is. state_of f levels _ inner s (rules.states i s is)))))
 
-  regions_of : (f : Features) (levels : ℕ) (regions : List Region) → AreRegions f variables levels regions → Each (λ r. SoundPiece (piece_of_region r)) regions
-  regions_of f zero regions rules = subst (λ rs. Each (λ r. SoundPiece (piece_of_region r)) rs) (sym rules) tt
+  regions_of : (f : Features) (levels : ℕ) (regions : List Region) → AreRegions f variables levels regions →
+      Each (λ r. SoundSubtree (subtree_of_region r)) regions
+  regions_of f zero regions rules = subst (λ rs. Each (λ r. SoundSubtree (subtree_of_region r)) rs) (sym rules) tt
   regions_of f (suc levels) regions rules =
-      each_of (λ r. SoundPiece (piece_of_region r)) regions (λ i r is. region_of f levels (regions_of f levels) r (rules.each i r is))
+      each_of (λ r. SoundSubtree (subtree_of_region r)) regions (λ i r is. region_of f levels (regions_of f levels) r (rules.each i r is))
 
   pub rows_sound : (f : Features) (levels : ℕ) (regions : List Region) → AreRegions f variables levels regions →
       Each SoundRow (table_of variables regions).states × Each SoundMove (table_of variables regions).opened
-  rows_sound f levels regions rules = side_sound (map piece_of_region regions) (each_map SoundPiece piece_of_region regions (regions_of f levels regions
+  rows_sound f levels regions rules = side_sound (map subtree_of_region regions) (each_map SoundSubtree subtree_of_region regions (regions_of f levels regions
       rules)) whole
 
 -- of each number, also where it is none of a state

@@ -8,20 +8,20 @@ use Rattle.chart_machine.specs.declared.table.Table.{Table}
 use Rattle.chart_machine.specs.declared.table.TablePosition.{TablePosition}
 use Rattle.chart_machine.specs.declared.table.SubtreeRows.{SubtreeRows}
 use Rattle.chart_machine.specs.declared.table.StatesRows.{StatesRows}
-use Rattle.chart_machine.specs.Table.{region_numbers, Piece, behind, side_by_side, within, state_piece, state_numbers, with_region, past_states}
+use Rattle.chart_machine.specs.Table.{region_numbers, Subtree, behind, side_by_side, within, state_subtree, state_numbers, with_region, past_states}
 use Rattle.chart_machine.specs.Table.{rows_of_state_at}
-use Rattle.chart_machine.specs.Table.{alone, next_behind, followed_by, in_region, regions_in_initial, inside_region, region_piece, state_at, region_at}
+use Rattle.chart_machine.specs.Table.{alone, next_behind, followed_by, in_region, regions_in_initial, inside_region, region_subtree, state_at, region_at}
 use Rattle.scl_graph_laws.proofs.Segments.{EachAt, each_from, each_append}
 use Rattle.chart_machine_laws.proofs.LyingIn.{around, holder, none_in, head_or_tail, head_in, tail_in}
-use Rattle.chart_machine_laws.proofs.RowsOfPieces.{StatesAt, RegionsAt, Holds, states_from, states_first, states_second, regions_from, regions_first}
-use Rattle.chart_machine_laws.proofs.RowsOfPieces.{regions_second, IsSized, AllSized, alone_states, inner_first}
+use Rattle.chart_machine_laws.proofs.RowsOfSubtrees.{StatesAt, RegionsAt, Holds, states_from, states_first, states_second, regions_from, regions_first}
+use Rattle.chart_machine_laws.proofs.RowsOfSubtrees.{regions_second, IsSized, AllSized, alone_states, inner_first}
 
 -- at most one of these is initial
-abbrev pub NoneInitial : List Piece → Type 0
+abbrev pub NoneInitial : List Subtree → Type 0
 NoneInitial [] = Unit {0}
 NoneInitial (p ∷ states) = (p.is_initial ≡ false) × NoneInitial states
 
-abbrev pub OnceInitial : List Piece → Type 0
+abbrev pub OnceInitial : List Subtree → Type 0
 OnceInitial [] = Unit {0}
 OnceInitial (p ∷ states) = (p.is_initial ≡ true → NoneInitial states) × OnceInitial states
 
@@ -29,7 +29,7 @@ not_first : (b : Bool) (parts : TablePosition → SubtreeRows) (next : ℕ) (at 
 not_first true parts next at e = absurd cc
 not_first false parts next at e = refl
 
-pub none_first : (states : List Piece) (next : ℕ) (at : TablePosition) → NoneInitial states → (in_region states next at).first ≡ []
+pub none_first : (states : List Subtree) (next : ℕ) (at : TablePosition) → NoneInitial states → (in_region states next at).first ≡ []
 none_first [] next at none = refl
 none_first (p ∷ states) next at none =
     let own : (rows_of_state_at p.is_initial p.parts next at).first ≡ [] = not_first p.is_initial p.parts next at none.0 in
@@ -66,31 +66,31 @@ module _ (k : Table) where
   below_more : (zs : List ℕ) (m n : ℕ) → m ≤ n → Below zs m → Below zs n
   below_more zs m n le below s h = let lt = below s h in omega (lt, le, arith)
 
-  abbrev pub RegionClimbs : Piece → Type 0
+  abbrev pub RegionClimbs : Subtree → Type 0
   RegionClimbs p = (at : TablePosition) → Holds k at (p.parts at) → Enclosed at.around at.region → Below at.around at.region →
       EachUpward at.region (p.parts at).regions
 
-  abbrev pub StateClimbs : Piece → Type 0
+  abbrev pub StateClimbs : Subtree → Type 0
   StateClimbs p = (at : TablePosition) → Holds k at (p.parts at) → around k at.holder ≡ at.around → at.holder < at.region → Below at.around at.region →
       EachUpward at.region (p.parts at).regions
 
-  abbrev pub Each : (Piece → Type 0) → List Piece → Type 0
+  abbrev pub Each : (Subtree → Type 0) → List Subtree → Type 0
   Each P [] = Unit {0}
   Each P (p ∷ pieces) = P p × Each P pieces
 
   -- the row of a state has its holder
-  abbrev pub StateHeld : Piece → Type 0
+  abbrev pub StateHeld : Subtree → Type 0
   StateHeld p = (at : TablePosition) → StatesAt k at.state (p.parts at).states → holder k at.state ≡ at.holder
 
-  pub state_held : (s : State-F Piece Piece) → StateHeld (state_piece s)
+  pub state_held : (s : State-F Subtree Subtree) → StateHeld (state_subtree s)
   state_held s at rows = ap (λ z. z.holder) rows.0
 
-  alone_held : (b : Bool) (p : Piece) (next : ℕ) (at : TablePosition) → StateHeld p → StatesAt k at.state (rows_of_state_at b p.parts next at).states →
+  alone_held : (b : Bool) (p : Subtree) (next : ℕ) (at : TablePosition) → StateHeld p → StatesAt k at.state (rows_of_state_at b p.parts next at).states →
       holder k at.state ≡ at.holder
   alone_held true p next at held rows = held at rows
   alone_held false p next at held rows = held (with_region next at) rows
 
-  numbers_held : (states : List Piece) (next : ℕ) (at : TablePosition) → AllSized states → Each StateHeld states →
+  numbers_held : (states : List Subtree) (next : ℕ) (at : TablePosition) → AllSized states → Each StateHeld states →
       StatesAt k at.state (in_region states next at).states → (s : ℕ) → Contains (state_numbers states at.state) s → holder k s ≡ at.holder
   numbers_held [] next at sized held rows s h = absurd (none_in s h)
   numbers_held (p ∷ states) next at sized held rows s h =
@@ -103,7 +103,7 @@ module _ (k : Table) where
       (states_second k at.state own.states rest.states rows)) s tail)
       (head_or_tail at.state s (state_numbers states (at.state + p.states)) h)
 
-  pub side_climbs : (regions : List Piece) (at : TablePosition) → AllSized regions → Each RegionClimbs regions → Holds k at (side_by_side regions at) →
+  pub side_climbs : (regions : List Subtree) (at : TablePosition) → AllSized regions → Each RegionClimbs regions → Holds k at (side_by_side regions at) →
       AllEnclosed at.around (region_numbers regions at.region) → Below at.around at.region →
       EachUpward at.region (side_by_side regions at).regions
   side_climbs [] at sized climbs holds enclosed below = tt
@@ -136,7 +136,7 @@ module _ (k : Table) where
       let rest : ss ≡ us = cc in
       (sym rest ∙ (sym round ∙ ap (around k) (sym held ∙ ap (holder k) same)), subst (λ z. Contains (state_at k z).regions q) same own)
 
-  pub state_climbs : (s : State-F Piece Piece) → AllSized s.regions → Each RegionClimbs s.regions → StateClimbs (state_piece s)
+  pub state_climbs : (s : State-F Subtree Subtree) → AllSized s.regions → Each RegionClimbs s.regions → StateClimbs (state_subtree s)
   state_climbs s sized climbs at holds round held below =
       let own : holder k at.state ≡ at.holder = ap (λ z. z.holder) holds.states.0 in
       side_climbs s.regions (within at) sized climbs (record { states = holds.states.1; regions = holds.regions })
@@ -149,12 +149,12 @@ module _ (k : Table) where
     others : EachUpward next inner.others
 
   -- what the states behind the first one owe, where they stand at these numbers
-  abbrev RestClimbs : List Piece → TablePosition → Type 0
+  abbrev RestClimbs : List Subtree → TablePosition → Type 0
   RestClimbs states at = (next : ℕ) → at.region ≤ next → StatesAt k at.state (in_region states next at).states →
       RegionsAt k at.region (in_region states next at).first →
       RegionsAt k next (in_region states next at).others → BothClimb at next (in_region states next at)
 
-  inner_cons : (b : Bool) (p : Piece) (states : List Piece) (next : ℕ) (at : TablePosition) → (b ≡ true → NoneInitial states) → IsSized p → StateClimbs p →
+  inner_cons : (b : Bool) (p : Subtree) (states : List Subtree) (next : ℕ) (at : TablePosition) → (b ≡ true → NoneInitial states) → IsSized p → StateClimbs p →
       RestClimbs states (past_states p.states at) → around k at.holder ≡ at.around → at.holder < at.region → Below at.around at.region → at.region ≤ next →
       StatesAt k at.state ((rows_of_state_at b p.parts next at).states ++ (in_region states (if b then next else next + p.regions) (past_states p.states
       at)).states) →
@@ -206,7 +206,7 @@ module _ (k : Table) where
             (each_from (λ q row. Rooted q) (next + p.regions) (next + length own.regions) rest.others (omega (arith, sized.regions there)) theirs.others);
       }
 
-  inner_climbs : (states : List Piece) (next : ℕ) (at : TablePosition) → OnceInitial states → AllSized states → Each StateClimbs states →
+  inner_climbs : (states : List Subtree) (next : ℕ) (at : TablePosition) → OnceInitial states → AllSized states → Each StateClimbs states →
       StatesAt k at.state (in_region states next at).states → RegionsAt k at.region (in_region states next at).first →
       RegionsAt k next (in_region states next at).others →
       around k at.holder ≡ at.around → at.holder < at.region → Below at.around at.region → at.region ≤ next → BothClimb at next (in_region states next at)
@@ -216,8 +216,8 @@ module _ (k : Table) where
       (λ later more rows first others. inner_climbs states later (past_states p.states at) once.1 sized.1 climbs.1 rows first others round held below more)
       round held below le rows first others
 
-  pub region_climbs : (r : Region-F Piece Piece) → OnceInitial r.states → AllSized r.states → Each StateHeld r.states → Each StateClimbs r.states →
-      RegionClimbs (region_piece r)
+  pub region_climbs : (r : Region-F Subtree Subtree) → OnceInitial r.states → AllSized r.states → Each StateHeld r.states → Each StateClimbs r.states →
+      RegionClimbs (region_subtree r)
   region_climbs r once sized held climbs at holds enclosed below = (
     (
       λ s ss e. enclosed s ss (sym own ∙ e),

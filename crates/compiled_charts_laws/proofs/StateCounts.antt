@@ -73,11 +73,11 @@ behind_has at (join ∷ others) n s = taken_has at join
 pub record RegionHas (r : Region) : Type 0 where
   pub nodes : (n s : ℕ) → suc (counts_of ((low_of_region r).body n)).nodes + (counts_of ((low_of_region r).body n)).lower
       ≡ length ((row.piece_of_region r).nodes s)
-  pub states : (row.piece_of_region r).states ≡ (table.piece_of_region r).states
+  pub states : (row.piece_of_region r).states ≡ (table.subtree_of_region r).states
 
 pub record StateHas (x : State) : Type 0 where
   pub nodes : (at : Targets) (n s : ℕ) → Has ((low_of_state x).text at n) (length ((row.piece_of_state x).own s)) (length ((row.piece_of_state x).below s))
-  pub states : (row.piece_of_state x).states ≡ (table.piece_of_state x).states
+  pub states : (row.piece_of_state x).states ≡ (table.subtree_of_state x).states
   pub initial : (row.piece_of_state x).is_initial ≡ (low_of_state x).is_initial
 
 -- the branches of a fork
@@ -123,11 +123,11 @@ state_has false (r ∷ regions) all bare each at n s =
     (behind_has at (terminations all) (suc n + labels_in (map low_of_region whole)) s)))
 
 pub side_states : (regions : List Region) → Each RegionHas regions → row.states_in (map row.piece_of_region regions)
-    ≡ table.states_in (map table.piece_of_region regions)
+    ≡ table.states_in (map table.subtree_of_region regions)
 side_states [] each = refl
 side_states (r ∷ regions) each =
-    let here : (row.piece_of_region r).states ≡ (table.piece_of_region r).states = each.0.states in
-    let rest : row.states_in (map row.piece_of_region regions) ≡ table.states_in (map table.piece_of_region regions) = side_states regions each.1 in
+    let here : (row.piece_of_region r).states ≡ (table.subtree_of_region r).states = each.0.states in
+    let rest : row.states_in (map row.piece_of_region regions) ≡ table.states_in (map table.subtree_of_region regions) = side_states regions each.1 in
     omega (arith, here, rest)
 
 pub states_have : (x : State) → (((out-State x).is_final ≡ true) → (out-State x).regions ≡ []) → Each RegionHas (out-State x).regions → StateHas x
@@ -143,7 +143,7 @@ states_have x bare each = record {
   states =
       ap (λ (p : row.StatePiece). p.states) (fold_out-State row.RegionPiece row.StatePiece row.region_piece row.state_piece x)
       ∙ ap suc (side_states (out-State x).regions each)
-      ∙ sym (ap (λ (p : table.Piece). p.states) (fold_out-State table.Piece table.Piece table.region_piece table.state_piece x));
+      ∙ sym (ap (λ (p : table.Subtree). p.states) (fold_out-State table.Subtree table.Subtree table.region_subtree table.state_subtree x));
   initial =
       ap (λ (p : row.StatePiece). p.is_initial) (fold_out-State row.RegionPiece row.StatePiece row.region_piece row.state_piece x)
       ∙ sym (ap (λ (p : StatePiece). p.is_initial) (fold_out-State RegionPiece StatePiece low_region low_state x));
@@ -186,11 +186,11 @@ texts_have wanted (x ∷ states) each at (n ∷ ns) long s =
     (one_text wanted x states at n ns s next each.0 (texts_have wanted states each.1 at ns shorter next) (is_wanted wanted (low_of_state x).is_initial))
 
 among_states : (states : List State) → Each StateHas states → row.states_among (map row.piece_of_state states)
-    ≡ table.states_in (map table.piece_of_state states)
+    ≡ table.states_in (map table.subtree_of_state states)
 among_states [] each = refl
 among_states (x ∷ states) each =
-    let here : (row.piece_of_state x).states ≡ (table.piece_of_state x).states = each.0.states in
-    let rest : row.states_among (map row.piece_of_state states) ≡ table.states_in (map table.piece_of_state states) = among_states states each.1 in
+    let here : (row.piece_of_state x).states ≡ (table.subtree_of_state x).states = each.0.states in
+    let rest : row.states_among (map row.piece_of_state states) ≡ table.states_in (map table.subtree_of_state states) = among_states states each.1 in
     omega (arith, here, rest)
 
 pub thread_long : (ps : List row.StatePiece) (s : ℕ) →
@@ -248,7 +248,7 @@ region_has r each = record {
   states =
       ap (λ (p : row.RegionPiece). p.states) (fold_out-Region row.RegionPiece row.StatePiece row.region_piece row.state_piece r)
       ∙ among_states (out-Region r).states each
-      ∙ sym (ap (λ (p : table.Piece). p.states) (fold_out-Region table.Piece table.Piece table.region_piece table.state_piece r));
+      ∙ sym (ap (λ (p : table.Subtree). p.states) (fold_out-Region table.Subtree table.Subtree table.region_subtree table.state_subtree r));
 }
 
 -- regions of a core chart

@@ -39,8 +39,8 @@ module _ (c : Chart) (p : Scl) (low : IsLowering c p) where
   state_there : (s : ℕ) → s < length (k c p low).states → StateAt (root c p low) (keeps c p low) (marks c) nodes s
   state_there s less =
       let have : Each RegionHas c.regions = regions_have c.variables depth_limit c.regions low.core.regions in
-      let many : length (k c p low).states ≡ table.states_in (map table.piece_of_region c.regions) = many_states c p low in
-      let same : row.states_in (map row.piece_of_region c.regions) ≡ table.states_in (map table.piece_of_region c.regions) = side_states c.regions have in
+      let many : length (k c p low).states ≡ table.states_in (map table.subtree_of_region c.regions) = many_states c p low in
+      let same : row.states_in (map row.piece_of_region c.regions) ≡ table.states_in (map table.subtree_of_region c.regions) = side_states c.regions have in
       walk_side (root c p low) (keeps c p low) (marks c) nodes c.regions
       (regions_walk (root c p low) (keeps c p low) (marks c) nodes c.variables depth_limit c.regions low.core.regions) have
       (regions_marked c.variables depth_limit c.regions low.core.regions) 0 1 (first c p low) (stand_all (marks c))
@@ -59,5 +59,5 @@ module _ (c : Chart) (p : Scl) (low : IsLowering c p) where
   pub as_many_states : length (k c p low).states ≡ row.state_count c
   as_many_states =
       let have : Each RegionHas c.regions = regions_have c.variables depth_limit c.regions low.core.regions in
-      let many : length (k c p low).states ≡ table.states_in (map table.piece_of_region c.regions) = many_states c p low in
+      let many : length (k c p low).states ≡ table.states_in (map table.subtree_of_region c.regions) = many_states c p low in
       many ∙ sym (side_states c.regions have)

@@ -148,8 +148,8 @@ module _ (root : Block) (keeps : KeepsScopes root) (ms : List Mark) (nodes : Lis
       let nodes_same : b.counts.nodes ≡ (counts_of body).nodes = ap (λ (c : Counts). c.nodes) same in
       let lower_same : b.counts.lower ≡ (counts_of body).lower = ap (λ (c : Counts). c.lower) same in
       let many : suc (counts_of body).nodes + (counts_of body).lower ≡ length (p.nodes number) = has.0.nodes n number in
-      let states : length own_marks ≡ (table.piece_of_region r).states = marked.0.long n in
-      let states_too : p.states ≡ (table.piece_of_region r).states = has.0.states in
+      let states : length own_marks ≡ (table.subtree_of_region r).states = marked.0.long n in
+      let states_too : p.states ≡ (table.subtree_of_region r).states = has.0.states in
       let first : AllAt number (number + p.states) =
       walks.0 number n at (stand_first ms number own_marks more_marks marks)
       (stand_first nodes at.base (p.nodes number) (row.beside ps (number + p.states)) own)
@@ -249,8 +249,8 @@ module _ (root : Block) (keeps : KeepsScopes root) (ms : List Mark) (nodes : Lis
 
     more_marks : StandAt ms (number + p.states) (marks_among (map marks_of_state states) ns)
     more_marks =
-        let many : length ((marks_of_state s).marks n) ≡ (table.piece_of_state s).states = marked.long n in
-        let same : p.states ≡ (table.piece_of_state s).states = has.states in
+        let many : length ((marks_of_state s).marks n) ≡ (table.subtree_of_state s).states = marked.long n in
+        let same : p.states ≡ (table.subtree_of_state s).states = has.states in
         stand_from ms (number + length ((marks_of_state s).marks n)) (number + p.states) (marks_among (map marks_of_state states) ns)
         (omega (arith, many, same))
         (stand_second ms number ((marks_of_state s).marks n) (marks_among (map marks_of_state states) ns) marks)

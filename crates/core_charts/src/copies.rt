@@ -35,7 +35,8 @@ impl Transition {
     }
 }
 
-fn copied_trigger(alloc: Global, trigger: &Option<Expr>) -> Result<Option<Expr>, AllocError>
+/// A copy of a trigger. Err: memory was refused.
+pub fn copied_trigger(alloc: Global, trigger: &Option<Expr>) -> Result<Option<Expr>, AllocError>
     ensures { IfOk result (λ copy. copy ≡ trigger.now) }
 {
     match trigger {

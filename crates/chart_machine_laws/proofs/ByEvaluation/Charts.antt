@@ -20,7 +20,7 @@ use Rattle.core_charts.specs.declared.region.Region.TheViews.{roll-Region}
 use Rattle.core_charts.specs.declared.region.Region.TheFolds.{fold-roll-Region}
 use Rattle.core_charts.specs.declared.region.State.{State}
 use Rattle.chart_machine.specs.declared.table.Table.{Table}
-use Rattle.chart_machine.specs.Table.{Piece, region_piece, state_piece, piece_of_region, piece_of_state, side_by_side, whole, table_over}
+use Rattle.chart_machine.specs.Table.{Subtree, region_subtree, state_subtree, subtree_of_region, subtree_of_state, side_by_side, whole, table_over}
 
 -- names of variables
 abbrev pub letter_A : ℕ
@@ -88,8 +88,8 @@ abbrev pub doing : List Effect → Transition → Transition
 doing effects t = record t { effects = effects }
 
 -- a state, initial or not, with its regions and transitions
-abbrev pub a_state : Bool → Bool → List Piece → List Transition → Piece
-a_state is_initial is_final regions transitions = state_piece (record {
+abbrev pub a_state : Bool → Bool → List Subtree → List Transition → Subtree
+a_state is_initial is_final regions transitions = state_subtree (record {
   name = [];
   is_initial = is_initial;
   is_final = is_final;
@@ -97,26 +97,26 @@ a_state is_initial is_final regions transitions = state_piece (record {
   transitions = transitions;
 })
 
-abbrev pub initial_state : List Piece → List Transition → Piece
+abbrev pub initial_state : List Subtree → List Transition → Subtree
 initial_state = a_state true false
 
-abbrev pub state : List Piece → List Transition → Piece
+abbrev pub state : List Subtree → List Transition → Subtree
 state = a_state false false
 
-abbrev pub final_state : Piece
+abbrev pub final_state : Subtree
 final_state = a_state false true [] []
 
-abbrev pub initial_final_state : Piece
+abbrev pub initial_final_state : Subtree
 initial_final_state = a_state true true [] []
 
-abbrev pub region : List Piece → Piece
-region states = region_piece (record { name = []; states = states })
+abbrev pub region : List Subtree → Subtree
+region states = region_subtree (record { name = []; states = states })
 
 -- the table of a chart of such regions
-abbrev pub chart : List Variable → List Piece → Table
+abbrev pub chart : List Variable → List Subtree → Table
 chart variables regions = table_over variables (side_by_side regions whole)
 
 -- a region is told so by what its states are: names have no part in it
 pub told_so : (name : List ℕ) (states : List State) →
-    piece_of_region (roll-Region (record { name = name; states = states })) ≡ region (map piece_of_state states)
-told_so name states = fold-roll-Region Piece Piece region_piece state_piece (record { name = name; states = states })
+    subtree_of_region (roll-Region (record { name = name; states = states })) ≡ region (map subtree_of_state states)
+told_so name states = fold-roll-Region Subtree Subtree region_subtree state_subtree (record { name = name; states = states })

@@ -2,7 +2,7 @@
 use Rattle.std.proofs.Common.{◌≡◌, [], ◌∷◌, refl}
 use Rattle.chart_machine.specs.declared.standing.Standing.TheVariants as at
 use Rattle.chart_machine.specs.declared.table.Table.{Table}
-use Rattle.chart_machine.specs.Table.{Piece}
+use Rattle.chart_machine.specs.Table.{Subtree}
 use Rattle.chart_machine_laws.proofs.ByEvaluation.Charts.{letter_A, letter_B, input, of_read}
 use Rattle.chart_machine_laws.proofs.ByEvaluation.Charts.{go, strong, weak, join, immediate, only_if, initial_state, state, final_state, initial_final_state}
 use Rattle.chart_machine_laws.proofs.ByEvaluation.Charts.{region, chart}
@@ -18,7 +18,7 @@ use Rattle.chart_machine_laws.proofs.ByEvaluation.Told.{on, yes, no, tick, ticks
 --     strong if B -> S;
 --   }
 -- }
-abbrev inside_S : Piece
+abbrev inside_S : Subtree
 inside_S = region (
     initial_state [] (only_if 0 (go 1) ∷ [])
     ∷ state (region (initial_state [] (immediate (go 1) ∷ []) ∷ final_state ∷ []) ∷ []) []

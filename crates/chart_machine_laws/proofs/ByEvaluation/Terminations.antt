@@ -2,7 +2,7 @@
 use Rattle.std.proofs.Common.{◌≡◌, [], ◌∷◌, refl}
 use Rattle.core_charts.specs.declared.region.Transition.{Transition}
 use Rattle.chart_machine.specs.declared.table.Table.{Table}
-use Rattle.chart_machine.specs.Table.{Piece}
+use Rattle.chart_machine.specs.Table.{Subtree}
 use Rattle.chart_machine_laws.proofs.ByEvaluation.Charts.{letter_A, input, of_read}
 use Rattle.chart_machine_laws.proofs.ByEvaluation.Charts.{go, weak, join, immediate, only_if, initial_state, state, final_state, initial_final_state, region}
 use Rattle.chart_machine_laws.proofs.ByEvaluation.Charts.{chart}
@@ -28,7 +28,7 @@ taken_at_entry = refl
 --   }
 --   state T;
 -- }
-abbrev begins_with : Transition → Piece
+abbrev begins_with : Transition → Subtree
 begins_with t = region (initial_state [] (immediate t ∷ []) ∷ final_state ∷ [])
 
 abbrev two : Table

@@ -8,8 +8,8 @@ use Rattle.chart_machine.specs.declared.table.Table.{Table}
 use Rattle.chart_machine.specs.declared.table.TablePosition.{TablePosition}
 use Rattle.chart_machine.specs.declared.table.SubtreeRows.{SubtreeRows}
 use Rattle.chart_machine.specs.declared.table.StatesRows.{StatesRows}
-use Rattle.chart_machine.specs.Table.{Piece, states_in, regions_in, behind, side_by_side, within, state_piece, with_region, past_states}
-use Rattle.chart_machine.specs.Table.{rows_of_state_at, alone, next_behind, in_region, regions_in_initial, inside_region, region_piece, state_at}
+use Rattle.chart_machine.specs.Table.{Subtree, states_in, regions_in, behind, side_by_side, within, state_subtree, with_region, past_states}
+use Rattle.chart_machine.specs.Table.{rows_of_state_at, alone, next_behind, in_region, regions_in_initial, inside_region, region_subtree, state_at}
 use Rattle.chart_machine.specs.Table.{region_at}
 
 -- these rows stand in the table from this number on
@@ -51,20 +51,20 @@ module _ (k : Table) where
 
 -- ---- how many rows a piece has
 
-pub record IsSized (p : Piece) : Type 0 where
+pub record IsSized (p : Subtree) : Type 0 where
   pub states : (at : TablePosition) → length (p.parts at).states ≡ p.states
   pub regions : (at : TablePosition) → length (p.parts at).regions ≡ p.regions
 
-abbrev pub AllSized : List Piece → Type 0
+abbrev pub AllSized : List Subtree → Type 0
 AllSized [] = Unit {0}
 AllSized (p ∷ pieces) = IsSized p × AllSized pieces
 
-pub side_states : (regions : List Piece) (at : TablePosition) → AllSized regions → length (side_by_side regions at).states ≡ states_in regions
+pub side_states : (regions : List Subtree) (at : TablePosition) → AllSized regions → length (side_by_side regions at).states ≡ states_in regions
 side_states [] at sized = refl
 side_states (p ∷ regions) at sized =
     omega (arith, length-append (p.parts at).states (side_by_side regions (behind p at)).states, sized.0.states at, side_states regions (behind p at) sized.1)
 
-pub side_regions : (regions : List Piece) (at : TablePosition) → AllSized regions → length (side_by_side regions at).regions ≡ regions_in regions
+pub side_regions : (regions : List Subtree) (at : TablePosition) → AllSized regions → length (side_by_side regions at).regions ≡ regions_in regions
 side_regions [] at sized = refl
 side_regions (p ∷ regions) at sized =
     omega (
@@ -75,27 +75,27 @@ side_regions (p ∷ regions) at sized =
           sized.1,
     )
 
-pub state_sized : (s : State-F Piece Piece) → AllSized s.regions → IsSized (state_piece s)
+pub state_sized : (s : State-F Subtree Subtree) → AllSized s.regions → IsSized (state_subtree s)
 state_sized s sized = record {
   states = λ at. ap suc (side_states s.regions (within at) sized);
   regions = λ at. side_regions s.regions (within at) sized;
 }
 
 -- of one state: its rows, those of its regions among the first ones or among the others
-pub alone_states : (b : Bool) (p : Piece) (next : ℕ) (at : TablePosition) → IsSized p → length (rows_of_state_at b p.parts next at).states ≡ p.states
+pub alone_states : (b : Bool) (p : Subtree) (next : ℕ) (at : TablePosition) → IsSized p → length (rows_of_state_at b p.parts next at).states ≡ p.states
 alone_states true p next at sized = sized.states at
 alone_states false p next at sized = sized.states (with_region next at)
 
-alone_first : (b : Bool) (p : Piece) (next : ℕ) (at : TablePosition) → IsSized p → length (rows_of_state_at b p.parts next at).first ≡ cond b p.regions 0
+alone_first : (b : Bool) (p : Subtree) (next : ℕ) (at : TablePosition) → IsSized p → length (rows_of_state_at b p.parts next at).first ≡ cond b p.regions 0
 alone_first true p next at sized = sized.regions at
 alone_first false p next at sized = refl
 
-alone_others : (b : Bool) (p : Piece) (next : ℕ) (at : TablePosition) → IsSized p →
+alone_others : (b : Bool) (p : Subtree) (next : ℕ) (at : TablePosition) → IsSized p →
     cond b p.regions 0 + length (rows_of_state_at b p.parts next at).others ≡ p.regions
 alone_others true p next at sized = omega arith
 alone_others false p next at sized = omega (arith, sized.regions (with_region next at))
 
-pub inner_states : (states : List Piece) (next : ℕ) (at : TablePosition) → AllSized states → length (in_region states next at).states ≡ states_in states
+pub inner_states : (states : List Subtree) (next : ℕ) (at : TablePosition) → AllSized states → length (in_region states next at).states ≡ states_in states
 inner_states [] next at sized = refl
 inner_states (p ∷ states) next at sized =
     let rest : StatesRows = in_region states (next_behind p next) (past_states p.states at) in
@@ -107,7 +107,8 @@ inner_states (p ∷ states) next at sized =
           (past_states p.states at) sized.1,
     )
 
-pub inner_first : (states : List Piece) (next : ℕ) (at : TablePosition) → AllSized states → length (in_region states next at).first ≡ regions_in_initial states
+pub inner_first : (states : List Subtree) (next : ℕ) (at : TablePosition) → AllSized states →
+    length (in_region states next at).first ≡ regions_in_initial states
 inner_first [] next at sized = refl
 inner_first (p ∷ states) next at sized =
     let rest : StatesRows = in_region states (next_behind p next) (past_states p.states at) in
@@ -119,7 +120,7 @@ inner_first (p ∷ states) next at sized =
           (past_states p.states at) sized.1,
     )
 
-pub inner_others : (states : List Piece) (next : ℕ) (at : TablePosition) → AllSized states →
+pub inner_others : (states : List Subtree) (next : ℕ) (at : TablePosition) → AllSized states →
     regions_in_initial states + length (in_region states next at).others ≡ regions_in states
 inner_others [] next at sized = refl
 inner_others (p ∷ states) next at sized =
@@ -132,7 +133,7 @@ inner_others (p ∷ states) next at sized =
           (past_states p.states at) sized.1,
     )
 
-pub region_sized : (r : Region-F Piece Piece) → AllSized r.states → IsSized (region_piece r)
+pub region_sized : (r : Region-F Subtree Subtree) → AllSized r.states → IsSized (region_subtree r)
 region_sized r sized = record {
   states = λ at. inner_states r.states (suc at.region + regions_in_initial r.states) (inside_region at) sized;
   regions = λ at.
