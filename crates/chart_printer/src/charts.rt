@@ -5,9 +5,9 @@ ghost use Rattle.chart_printer.specs.Layout.{chart_head, chart_text, declaration
 
 use crate::lines::{put_head, put_line};
 use crate::regions::put_regions;
-use crate::words::{kind_text, role_text};
 use core_charts::Chart;
 use sc_graph::Variable;
+use scl_printer::{kind_text, role_text};
 use std::alloc::{AllocError, Global};
 
 fn declaration_text(alloc: Global, variable: &Variable) -> Result<String, AllocError>

@@ -1,12 +1,9 @@
 //! The words of chart text.
 
 ghost use Rattle.std.specs.Prelude.{◌≡◌, codes};
-ghost use Rattle.scl_printer.specs.Layout.{role_text, kind_text};
 ghost use Rattle.chart_printer.specs.Layout.{word_of, when};
 
 use core_charts::TransitionKind;
-use sc_graph::Role;
-use sc_values::Kind;
 
 /// The word with which a transition begins.
 pub(crate) fn word_of(kind: TransitionKind) -> &'static str
@@ -39,25 +36,4 @@ pub(crate) fn final_text(is_final: bool) -> &'static str
     ensures { result.now ≡ when is_final (codes "final ") }
 {
     if is_final { "final " } else { "" }
-}
-
-/// What a variable is to the outside.
-pub(crate) fn role_text(role: Role) -> &'static str
-    ensures { result.now ≡ role_text role }
-{
-    match role {
-        Role::Input => "input ",
-        Role::Output => "output ",
-        Role::Local => "local ",
-    }
-}
-
-/// What kind of values a variable has.
-pub(crate) fn kind_text(kind: Kind) -> &'static str
-    ensures { result.now ≡ kind_text kind }
-{
-    match kind {
-        Kind::Bool => "bool ",
-        Kind::Int => "int ",
-    }
 }

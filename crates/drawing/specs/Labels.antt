@@ -14,11 +14,11 @@ use Rattle.drawing.specs.Expressions.{symbol_text, sparing_text}
 -- ---- words
 
 -- an ordinary transition is the one that no word marks
-abbrev pub kind_text : TransitionKind → List ℕ
-kind_text kind.Go = []
-kind_text kind.Strong = codes " strong"
-kind_text kind.Weak = codes " weak"
-kind_text kind.Join = codes " join"
+abbrev pub kind_word : TransitionKind → List ℕ
+kind_word kind.Go = []
+kind_word kind.Strong = codes " strong"
+kind_word kind.Weak = codes " weak"
+kind_word kind.Join = codes " join"
 
 abbrev pub immediate_text : Bool → List ℕ
 immediate_text true = codes " immediate"
@@ -56,7 +56,7 @@ effects_text symbols signals trigger (e ∷ effects) =
 -- and so is how it enters its target
 abbrev pub words_text : List Symbol → (signals : List ℕ) → ℕ → Transition → (asked entering : List ℕ) → List ℕ
 words_text symbols signals number t asked entering =
-    codes "  " ++ (decimal number ++ (codes ":" ++ (kind_text t.kind ++ (immediate_text t.immediate
+    codes "  " ++ (decimal number ++ (codes ":" ++ (kind_word t.kind ++ (immediate_text t.immediate
     ++ (asked ++ (effects_text symbols signals t.trigger t.effects ++ (entering ++ codes "  \\l")))))))
 
 -- that of a chart, which has no signals, and enters its target as always

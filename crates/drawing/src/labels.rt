@@ -3,7 +3,7 @@
 ghost use Rattle.std.specs.Prelude.{◌≡◌, IfOk, nat_eq, string_bytes};
 ghost use Rattle.std.specs.List.{list_any};
 ghost use Rattle.drawing.specs.Labels.{do_text, effect_text, effects_text, further_text, immediate_text};
-ghost use Rattle.drawing.specs.Labels.{kind_text, transition_text, trigger_text, words_text};
+ghost use Rattle.drawing.specs.Labels.{kind_word, transition_text, trigger_text, words_text};
 
 use crate::expressions::sparing_text;
 use crate::symbols::{Symbol, symbol_text};
@@ -12,8 +12,8 @@ use sc_graph::VariableId;
 use sc_values::Expr;
 use std::alloc::{AllocError, Global};
 
-fn kind_text(kind: TransitionKind) -> &'static str
-    ensures { result.now ≡ kind_text kind }
+fn kind_word(kind: TransitionKind) -> &'static str
+    ensures { result.now ≡ kind_word kind }
 {
     match kind {
         TransitionKind::Go => "",
@@ -135,7 +135,7 @@ pub fn words_text(
     ensures { IfOk result (λ text. string_bytes text
         ≡ words_text symbols.now signals.now number transition.now asked.now entering.now) }
 {
-    let kind = kind_text(transition.kind);
+    let kind = kind_word(transition.kind);
     let immediate = immediate_text(transition.immediate);
     let own = transition.effects.as_slice();
     let effects = effects_text(alloc, symbols, signals, &transition.trigger, own)?;

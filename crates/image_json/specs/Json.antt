@@ -2,12 +2,9 @@
 -- paths of the states of its chart, where they are given; and how many nodes and threads it has, and its budget.
 -- Names and paths have no sign that JSON would want otherwise.
 use Rattle.std.specs.Prelude.{ℕ, Option, Some, None, List, [], ◌∷◌, ◌++◌, map, length, codes, decimal}
-use Rattle.sc_values.specs.declared.value.Kind.{Kind}
-use Rattle.sc_values.specs.declared.value.Kind.TheVariants as kind
-use Rattle.sc_graph.specs.declared.program.Role.{Role}
-use Rattle.sc_graph.specs.declared.program.Role.TheVariants as role
 use Rattle.sc_graph.specs.declared.program.Variable.{Variable}
 use Rattle.bytecode.specs.Image.{Image}
+use Rattle.image_listing.specs.Words.{kind_text, role_text}
 
 abbrev pub quoted : List ℕ → List ℕ
 quoted text = codes "\"" ++ (text ++ codes "\"")
@@ -20,15 +17,6 @@ further (item ∷ items) = codes "," ++ (item ++ further items)
 abbrev pub in_row : List (List ℕ) → List ℕ
 in_row [] = []
 in_row (item ∷ items) = item ++ further items
-
-abbrev pub kind_text : Kind → List ℕ
-kind_text kind.Bool = codes "bool"
-kind_text kind.Int = codes "int"
-
-abbrev pub role_text : Role → List ℕ
-role_text role.Input = codes "input"
-role_text role.Output = codes "output"
-role_text role.Local = codes "local"
 
 abbrev pub variable_json : Variable → List ℕ
 variable_json v =

@@ -1,30 +1,11 @@
 //! The variables of an image in JSON.
 
 ghost use Rattle.std.specs.Prelude.{◌≡◌, IfOk, map, string_bytes};
-ghost use Rattle.image_json.specs.Json.{further, in_row, kind_text, role_text, variable_json};
+ghost use Rattle.image_json.specs.Json.{further, in_row, variable_json};
 
-use sc_graph::{Role, Variable};
-use sc_values::Kind;
+use image_listing::{kind_text, role_text};
+use sc_graph::Variable;
 use std::alloc::{AllocError, Global};
-
-fn kind_text(kind: Kind) -> &'static str
-    ensures { result.now ≡ kind_text kind }
-{
-    match kind {
-        Kind::Bool => "bool",
-        Kind::Int => "int",
-    }
-}
-
-fn role_text(role: Role) -> &'static str
-    ensures { result.now ≡ role_text role }
-{
-    match role {
-        Role::Input => "input",
-        Role::Output => "output",
-        Role::Local => "local",
-    }
-}
 
 fn variable_json(alloc: Global, variable: &Variable) -> Result<String, AllocError>
     ensures { IfOk result (λ text. string_bytes text ≡ variable_json variable.now) }

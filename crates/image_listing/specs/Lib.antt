@@ -1,4 +1,5 @@
 pub mod Cells
+pub mod Words
 pub mod Steps
 pub mod Nodes
 pub mod Listing

@@ -9,7 +9,9 @@ mod runs;
 mod steps;
 mod threads;
 mod variables;
+mod words;
 
 pub use cells::left_cell;
 pub use listing::{image_text, image_text_with_cells};
 pub use steps::step_text;
+pub use words::{kind_text, role_text};

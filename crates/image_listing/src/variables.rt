@@ -1,24 +1,9 @@
 //! The lines of variables.
 
 use crate::cells::{left_cell, number_cell};
-use sc_graph::{Role, Variable};
-use sc_values::Kind;
+use crate::words::{kind_text, role_text};
+use sc_graph::Variable;
 use std::alloc::{AllocError, Global};
-
-fn role_text(role: Role) -> &'static str {
-    match role {
-        Role::Input => "input",
-        Role::Output => "output",
-        Role::Local => "local",
-    }
-}
-
-fn kind_text(kind: Kind) -> &'static str {
-    match kind {
-        Kind::Bool => "bool",
-        Kind::Int => "int",
-    }
-}
 
 // The line of a variable: number, role, kind and name.
 fn variable_text(alloc: Global, number: u32, variable: &Variable) -> Result<String, AllocError> {

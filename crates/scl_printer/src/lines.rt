@@ -130,7 +130,8 @@ pub(crate) fn write_declaration<W: Sink>(buffered: &mut Buffered, sink: &mut W, 
     buffered.put_text(sink, ";\n");
 }
 
-fn role_text(role: Role) -> &'static str
+/// What a variable is to the outside, and a space behind it.
+pub fn role_text(role: Role) -> &'static str
     ensures { result.now ≡ role_text role }
 {
     match role {
@@ -140,7 +141,8 @@ fn role_text(role: Role) -> &'static str
     }
 }
 
-fn kind_text(kind: Kind) -> &'static str
+/// What kind of values a variable has, and a space behind it.
+pub fn kind_text(kind: Kind) -> &'static str
     ensures { result.now ≡ kind_text kind }
 {
     match kind {
