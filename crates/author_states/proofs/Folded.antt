@@ -13,10 +13,10 @@ use Rattle.extended_charts.specs.declared.extended.ExtendedRegion.TheFolds.{fold
 use Rattle.extended_charts.specs.declared.extended.ExtendedRegion.TheFolds.{fold-roll-ExtendedState}
 use Rattle.extended_charts.specs.declared.reading.Reading.{Reading}
 use Rattle.extended_charts.specs.declared.reading.Reading.TheVariants as reading
-use Rattle.extended_charts.specs.Clocks.{timed_by}
+use Rattle.value_passes.specs.Clocks.{timed_by}
 use Rattle.extended_charts.specs.Making.{always, passing, region}
-use Rattle.extended_charts.specs.Constants as constants
-use Rattle.extended_charts.specs.Counts as counts
+use Rattle.value_passes.specs.Constants as constants
+use Rattle.value_passes.specs.Counts as counts
 use Rattle.extended_charts.specs.Durings as durings
 use Rattle.extended_charts.specs.Holds as holds
 use Rattle.sc_text.proofs.EachItem.{Each}

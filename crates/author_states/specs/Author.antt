@@ -4,8 +4,8 @@
 -- that reductions add. So where one of these rests nothing is told of it, and the author's states around it are told.
 use Rattle.std.specs.Prelude.{ℕ, Option, None, List, map, slice_get, unwrap_or, option_and_then}
 use Rattle.extended_charts.specs.declared.extended.ExtendedChart.{ExtendedChart}
-use Rattle.extended_charts.specs.Reduction.{with_entry}
-use Rattle.extended_charts.specs.Rows.{rows_of}
+use Rattle.chart_reduction.specs.Reduction.{with_entry}
+use Rattle.chart_reduction.specs.Rows.{rows_of}
 use Rattle.author_states.specs.Paths.{paths_of}
 
 -- the paths of his states, numbered from 0 in the order of his text; and for each state of the reduced chart, in the order

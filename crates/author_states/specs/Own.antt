@@ -7,8 +7,8 @@ use Rattle.extended_charts.specs.declared.extended.ExtendedRegion.{ExtendedRegio
 use Rattle.extended_charts.specs.declared.extended.ExtendedState.{ExtendedState}
 use Rattle.extended_charts.specs.declared.extended.ExtendedRegion.TheOpen.{ExtendedRegion-F, ExtendedState-F}
 use Rattle.extended_charts.specs.declared.extended.ExtendedRegion.TheFolds.{fold-ExtendedRegion, fold-ExtendedState}
-use Rattle.extended_charts.specs.Reduction.{with_entry}
-use Rattle.extended_charts.specs.Rows.{rows_of}
+use Rattle.chart_reduction.specs.Reduction.{with_entry}
+use Rattle.chart_reduction.specs.Rows.{rows_of}
 
 -- of a state the own paths, by what stands before the regions around it, and before the states of its region
 abbrev pub OwnPaths : Type 0

@@ -1,11 +1,12 @@
 //! For which of the author's states the states of a reduced chart stand.
 
 ghost use Rattle.std.specs.Prelude.{◌≡◌, IfErr, IfOk, map, option_and_then, string_bytes};
-ghost use Rattle.extended_charts.specs.Reduction.{LacksChart};
+ghost use Rattle.chart_reduction.specs.Reduction.{LacksChart};
 ghost use Rattle.author_states.specs.Author.{author_nodes, author_state, author_states};
 
 use crate::paths::paths_of;
-use extended_charts::{ExtendedChart, ReduceFault, reduce};
+use chart_reduction::{ReduceFault, reduce};
+use extended_charts::ExtendedChart;
 use sqlite_items::Items;
 use std::alloc::{AllocError, Global};
 use std::marker::Model;

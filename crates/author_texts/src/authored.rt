@@ -13,9 +13,10 @@ ghost use Rattle.reduced_texts.specs.ReducedText.{IsReducedText};
 
 use abort_expansion::ExpandFault;
 use author_states::{AuthorStates, author_states};
+use chart_reduction::ReduceFault;
 use command_files::LoadFault;
 use compiler::CompileFault;
-use extended_charts::{ExtendedChart, ReduceFault};
+use extended_charts::ExtendedChart;
 use extended_reader::read_extended;
 use extended_sources::begins_extended;
 use reduced_texts::reduced_text;

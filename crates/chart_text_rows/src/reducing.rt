@@ -1,7 +1,8 @@
 //! What is told of a text of an extended chart: the chart to which it is reduced, laid out.
 
 use chart_printer::chart_text;
-use extended_charts::{ExtendedChart, ReduceFault, reduce};
+use chart_reduction::{ReduceFault, reduce};
+use extended_charts::ExtendedChart;
 use extended_reader::read_extended;
 use row_answers::Answers;
 use sc_text::ReadFault;

@@ -3,24 +3,10 @@
 ghost use Rattle.std.specs.Prelude.{◌≡◌, IfOk};
 
 use crate::extended::{Declared, During};
-use core_charts::copied_effects;
+use core_charts::{copied_effects, copied_trigger};
 use sc_graph::Variable;
-use sc_values::Expr;
 use sqlite_items::Items;
 use std::alloc::{AllocError, Global};
-
-/// A copy of a trigger. Err: memory was refused.
-pub(crate) fn copied_trigger(
-    alloc: Global,
-    trigger: &Option<Expr>,
-) -> Result<Option<Expr>, AllocError>
-    ensures { IfOk result (λ copy. copy ≡ trigger.now) }
-{
-    match trigger {
-        Some(expression) => Ok(Some(expression.copied(alloc)?)),
-        None => Ok(None),
-    }
-}
 
 /// A copy of a during action. Err: memory was refused.
 pub(crate) fn copied_during(alloc: Global, during: &During) -> Result<During, AllocError>
@@ -34,7 +20,7 @@ pub(crate) fn copied_during(alloc: Global, during: &During) -> Result<During, Al
 }
 
 /// A copy of during actions. Err: memory was refused.
-pub(crate) fn copied_durings(alloc: Global, durings: &[During]) -> Result<Items<During>, AllocError>
+pub fn copied_durings(alloc: Global, durings: &[During]) -> Result<Items<During>, AllocError>
     ensures { IfOk result (λ copy. copy ≡ durings.now) }
 {
     let mut copy = Items::new(alloc);
@@ -45,7 +31,7 @@ pub(crate) fn copied_durings(alloc: Global, durings: &[During]) -> Result<Items<
 }
 
 /// A copy of declarations. Err: memory was refused.
-pub(crate) fn copied_declarations(
+pub fn copied_declarations(
     alloc: Global,
     variables: &[Declared],
 ) -> Result<Items<Declared>, AllocError>

@@ -32,7 +32,7 @@ pub fn with_durings(alloc: Global, chart: ExtendedChart) -> Result<ExtendedChart
 }
 
 /// What makes an action and goes on at once. Err: memory was refused.
-pub(crate) fn ways_on(
+pub fn ways_on(
     alloc: Global,
     trigger: &Option<Expr>,
     effects: &[Effect],
@@ -63,7 +63,7 @@ fn step(alloc: Global, place: u32, during: &During) -> Result<ExtendedState, All
 }
 
 /// States from this place on that make these actions. Err: memory was refused.
-pub(crate) fn steps(
+pub fn steps(
     alloc: Global,
     first: u32,
     durings: &[During],
@@ -80,7 +80,7 @@ pub(crate) fn steps(
 }
 
 /// Those that are immediate. Err: memory was refused.
-pub(crate) fn immediate_ones(alloc: Global, durings: &[During]) -> Result<Items<During>, AllocError>
+pub fn immediate_ones(alloc: Global, durings: &[During]) -> Result<Items<During>, AllocError>
     ensures { IfOk result (λ made. made ≡ immediate_ones durings.now) }
 {
     let mut made = Items::new(alloc);

@@ -4,10 +4,9 @@ ghost use Rattle.std.specs.Prelude.{◌≡◌, IfOk, map};
 ghost use Rattle.extended_charts.specs.Holds.{condition, untested, body, tested, hold, ended, held};
 ghost use Rattle.extended_charts.specs.Holds.{held_region, held_state, held_inside, with_holds};
 
-use crate::copies::copied_trigger;
 use crate::extended::{ExtendedChart, ExtendedRegion, ExtendedState};
 use crate::making::{alone, always, made_state};
-use core_charts::{Transition, TransitionKind, copied_effects};
+use core_charts::{Transition, TransitionKind, copied_effects, copied_trigger};
 use sc_text::plain;
 use sc_values::Expr;
 use sqlite_items::Items;
@@ -30,10 +29,7 @@ pub fn with_holds(alloc: Global, chart: ExtendedChart) -> Result<ExtendedChart, 
 }
 
 /// The trigger of the termination, if it has one. Err: memory was refused.
-pub(crate) fn condition(
-    alloc: Global,
-    transitions: &[Transition],
-) -> Result<Option<Expr>, AllocError>
+pub fn condition(alloc: Global, transitions: &[Transition]) -> Result<Option<Expr>, AllocError>
     ensures { IfOk result (λ trigger. trigger ≡ condition transitions.now) }
 {
     for transition in transitions {
@@ -56,7 +52,7 @@ fn untested(alloc: Global, transition: &Transition) -> Result<Transition, AllocE
 }
 
 /// Copies of transitions; that of a termination has no trigger. Err: memory was refused.
-pub(crate) fn all_untested(
+pub fn all_untested(
     alloc: Global,
     transitions: &[Transition],
 ) -> Result<Items<Transition>, AllocError>
@@ -99,7 +95,7 @@ fn hold(alloc: Global, trigger: Expr) -> Result<ExtendedState, AllocError>
 }
 
 /// The state in which such a region has ended.
-pub(crate) fn ended(alloc: Global) -> ExtendedState
+pub fn ended(alloc: Global) -> ExtendedState
     ensures { result ≡ ended }
 {
     ExtendedState {

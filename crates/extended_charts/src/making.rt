@@ -15,7 +15,7 @@ use sqlite_items::{Boxed, Items};
 use std::alloc::{AllocError, Global};
 
 /// The expression that a text writes for a value.
-pub(crate) fn literal(alloc: Global, value: Value) -> Result<Expr, AllocError>
+pub fn literal(alloc: Global, value: Value) -> Result<Expr, AllocError>
     ensures { IfOk result (λ made. made ≡ literal value) }
 {
     match value {
@@ -28,7 +28,7 @@ pub(crate) fn literal(alloc: Global, value: Value) -> Result<Expr, AllocError>
 }
 
 /// A local variable.
-pub(crate) fn local(name: Name, kind: Kind, initial: Option<Value>) -> Declared
+pub fn local(name: Name, kind: Kind, initial: Option<Value>) -> Declared
     ensures { result ≡ local name kind initial }
 {
     Declared {
@@ -42,7 +42,7 @@ pub(crate) fn local(name: Name, kind: Kind, initial: Option<Value>) -> Declared
 }
 
 /// As many int variables: this word, and a number from 1 behind it.
-pub(crate) fn integers(alloc: Global, word: &str, count: u32) -> Result<Items<Declared>, AllocError>
+pub fn integers(alloc: Global, word: &str, count: u32) -> Result<Items<Declared>, AllocError>
     requires named { IsTrue (is_name word.now) }
     requires short { length word.now ≤ 16 }
     ensures { IfOk result (λ made. made ≡ integers word.now count) }
@@ -55,7 +55,7 @@ pub(crate) fn integers(alloc: Global, word: &str, count: u32) -> Result<Items<De
 }
 
 /// The variable becomes what another is.
-pub(crate) fn copy(variable: VariableId, from: VariableId) -> Effect
+pub fn copy(variable: VariableId, from: VariableId) -> Effect
     ensures { result ≡ copy variable from }
 {
     Effect {
@@ -65,7 +65,7 @@ pub(crate) fn copy(variable: VariableId, from: VariableId) -> Effect
 }
 
 /// The transition without a trigger.
-pub(crate) fn always(immediate: bool, effects: Items<Effect>, target: u32) -> Transition
+pub fn always(immediate: bool, effects: Items<Effect>, target: u32) -> Transition
     ensures { result ≡ always immediate effects target }
 {
     Transition {
@@ -78,7 +78,7 @@ pub(crate) fn always(immediate: bool, effects: Items<Effect>, target: u32) -> Tr
 }
 
 /// A state that is made, with these parts.
-pub(crate) fn made_state(
+pub fn made_state(
     alloc: Global,
     name: Name,
     is_initial: bool,
@@ -101,7 +101,7 @@ pub(crate) fn made_state(
 }
 
 /// The state of this place, which makes these effects and goes on: at once, or in the next tick.
-pub(crate) fn passing(
+pub fn passing(
     alloc: Global,
     immediate: bool,
     place: u32,
@@ -116,7 +116,7 @@ pub(crate) fn passing(
 }
 
 /// States from this place on that make these effects, one after the other, and lead to the place behind them.
-pub(crate) fn all_passing(
+pub fn all_passing(
     alloc: Global,
     first: u32,
     effects: &[Effect],
@@ -135,21 +135,21 @@ pub(crate) fn all_passing(
 }
 
 /// Whether there is an item.
-pub(crate) fn has_some<T>(items: &[T]) -> bool
+pub fn has_some<T>(items: &[T]) -> bool
     ensures { result ≡ has_some items.now }
 {
     !items.is_empty()
 }
 
 /// One, where there is something.
-pub(crate) fn one(is_there: bool) -> u32
+pub fn one(is_there: bool) -> u32
     ensures { result ≡ one is_there }
 {
     if is_there { 1 } else { 0 }
 }
 
 /// A sum. Err: no memory holds so many.
-pub(crate) fn sum(a: u32, b: u32) -> Result<u32, AllocError>
+pub fn sum(a: u32, b: u32) -> Result<u32, AllocError>
     ensures { IfOk result (λ both. both ≡ a + b) }
 {
     match a.checked_add(b) {
@@ -159,7 +159,7 @@ pub(crate) fn sum(a: u32, b: u32) -> Result<u32, AllocError>
 }
 
 /// How many there are. Err: no memory holds so many.
-pub(crate) fn count<T>(items: &[T]) -> Result<u32, AllocError>
+pub fn count<T>(items: &[T]) -> Result<u32, AllocError>
     ensures { IfOk result (λ count. count ≡ length items.now) }
 {
     match u32::try_from(items.len()) {
@@ -169,7 +169,7 @@ pub(crate) fn count<T>(items: &[T]) -> Result<u32, AllocError>
 }
 
 /// A list of one item.
-pub(crate) fn alone<T: Drop>(alloc: Global, item: T) -> Result<Items<T>, AllocError>
+pub fn alone<T: Drop>(alloc: Global, item: T) -> Result<Items<T>, AllocError>
     ensures { IfOk result (λ made. made ≡ item ∷ []) }
 {
     let mut items = Items::new(alloc);
@@ -178,7 +178,7 @@ pub(crate) fn alone<T: Drop>(alloc: Global, item: T) -> Result<Items<T>, AllocEr
 }
 
 /// A variable of this number. Err: a chart with so many is refused before.
-pub(crate) fn variable(number: usize) -> Result<VariableId, AllocError>
+pub fn variable(number: usize) -> Result<VariableId, AllocError>
     ensures { IfOk result (λ x. x ≡ number) }
 {
     match VariableId::try_from(number) {

@@ -43,7 +43,7 @@ impl Reading {
     }
 
     /// An expression that reads so. Err: memory was refused.
-    pub(crate) fn replaced(&self, alloc: Global, expression: &Expr) -> Result<Expr, AllocError>
+    pub fn replaced(&self, alloc: Global, expression: &Expr) -> Result<Expr, AllocError>
         ensures { IfOk result (λ made. made ≡ replaced self.now expression.now) }
     {
         let made = match expression {
@@ -63,7 +63,7 @@ impl Reading {
     }
 
     /// A trigger that reads so. Err: memory was refused.
-    pub(crate) fn replaced_trigger(
+    pub fn replaced_trigger(
         &self,
         alloc: Global,
         trigger: &Option<Expr>,
@@ -78,18 +78,14 @@ impl Reading {
 }
 
 /// Whether this number names one of so many counts.
-pub(crate) fn is_count(counts: u16, x: u16) -> bool
+pub fn is_count(counts: u16, x: u16) -> bool
     ensures { result ≡ is_count counts x }
 {
     x < ELAPSED && !(counts < ELAPSED - x)
 }
 
 /// The variable of the count of this number. Err: there are more than 65535 variables.
-pub(crate) fn count_variable(
-    first: VariableId,
-    counts: u16,
-    x: u16,
-) -> Result<VariableId, AllocError>
+pub fn count_variable(first: VariableId, counts: u16, x: u16) -> Result<VariableId, AllocError>
     ensures { IfOk result (λ made. made ≡ count_variable first counts x) }
 {
     if x < ELAPSED {

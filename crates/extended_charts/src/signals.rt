@@ -48,7 +48,7 @@ pub fn emission(alloc: Global, signal: VariableId) -> Result<Effect, AllocError>
 }
 
 /// The signal becomes false.
-pub(crate) fn reset(signal: VariableId) -> Effect
+pub fn reset(signal: VariableId) -> Effect
     ensures { result ≡ reset signal }
 {
     Effect {

@@ -7,9 +7,9 @@ use Rattle.core_charts.specs.Chart.{Chart}
 use Rattle.core_charts.specs.Rules.{IsChart}
 use Rattle.chart_places.specs.Places.{places_of}
 use Rattle.extended_charts.specs.declared.extended.ExtendedChart.{ExtendedChart}
-use Rattle.extended_charts.specs.declared.rows.AuthorRows.{AuthorRows}
-use Rattle.extended_charts.specs.declared.fault.ReduceFault.TheVariants as reduce
-use Rattle.extended_charts.specs.Reduction.{IsReduction, LacksChart, reduced}
+use Rattle.chart_reduction.specs.declared.rows.AuthorRows.{AuthorRows}
+use Rattle.chart_reduction.specs.declared.fault.ReduceFault.TheVariants as reduce
+use Rattle.chart_reduction.specs.Reduction.{IsReduction, LacksChart, reduced}
 use Rattle.extended_drafts.specs.declared.draft.ExtendedDraft.{ExtendedDraft}
 use Rattle.extended_drafts.specs.Checked.{IsSound, IsTextFault}
 use Rattle.extended_reader.specs.Resolved.{extended_of}

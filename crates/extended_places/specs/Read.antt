@@ -8,8 +8,8 @@ use Rattle.core_charts.specs.Chart.{Chart}
 use Rattle.core_charts.specs.Rules.{IsChart}
 use Rattle.chart_places.specs.declared.places.Places.{Places}
 use Rattle.chart_places.specs.Places.{places_of}
-use Rattle.extended_charts.specs.declared.rows.AuthorRows.{AuthorRows}
-use Rattle.extended_charts.specs.Reduction.{IsReduction, reduced}
+use Rattle.chart_reduction.specs.declared.rows.AuthorRows.{AuthorRows}
+use Rattle.chart_reduction.specs.Reduction.{IsReduction, reduced}
 use Rattle.extended_drafts.specs.declared.draft.ExtendedDraft.{ExtendedDraft}
 use Rattle.extended_drafts.specs.Checked.{IsSound, IsTextFault}
 use Rattle.extended_reader.specs.Resolved.{extended_of}

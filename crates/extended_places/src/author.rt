@@ -1,6 +1,6 @@
 //! What is the author's in a reduced chart.
 
-use extended_charts::AuthorRows;
+use chart_reduction::AuthorRows;
 use sqlite_items::Items;
 
 /// The effects of a transition of the author's: the number of the first one, and how many there are.

@@ -4,9 +4,9 @@ use Rattle.std.specs.Prelude.{ℕ, ◌≡◌, ◌⊎◌, List, []}
 use Rattle.sc_text.specs.declared.read_fault.FaultKind.{FaultKind}
 use Rattle.sc_text.specs.declared.read_fault.ReadFault.TheVariants as fault
 use Rattle.core_charts.specs.Chart.{Chart}
-use Rattle.extended_charts.specs.declared.rows.AuthorRows.{AuthorRows}
-use Rattle.extended_charts.specs.declared.fault.ReduceFault.TheVariants as reduce
-use Rattle.extended_charts.specs.Reduction.{IsReduction, LacksChart}
+use Rattle.chart_reduction.specs.declared.rows.AuthorRows.{AuthorRows}
+use Rattle.chart_reduction.specs.declared.fault.ReduceFault.TheVariants as reduce
+use Rattle.chart_reduction.specs.Reduction.{IsReduction, LacksChart}
 use Rattle.extended_drafts.specs.declared.draft.ExtendedDraft.{ExtendedDraft}
 use Rattle.extended_drafts.specs.Checked.{IsSound, IsTextFault}
 use Rattle.extended_reader.specs.Resolved.{extended_of}

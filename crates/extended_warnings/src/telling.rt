@@ -3,14 +3,14 @@
 ghost use Rattle.std.specs.Prelude.{IfOk, string_bytes};
 ghost use Rattle.extended_drafts.specs.Checked.{IsSound};
 ghost use Rattle.extended_reader.specs.Resolved.{extended_of};
-ghost use Rattle.extended_charts.specs.Reduction.{IsReduction};
+ghost use Rattle.chart_reduction.specs.Reduction.{IsReduction};
 ghost use Rattle.extended_warnings.specs.Reports.{IsToldOfAuthor, WarnsAuthor};
 
 use crate::places::author_places;
 use crate::warnings::author_warnings;
+use chart_reduction::{AuthorRows, ReduceFault, reduce};
 use chart_warnings::warnings_of;
 use core_charts::Chart;
-use extended_charts::{AuthorRows, ReduceFault, reduce};
 use extended_drafts::{ExtendedDraft, read_checked_extended};
 use extended_reader::extended_of;
 use sc_text::ReadFault;

@@ -3,7 +3,7 @@ use Rattle.std.proofs.Common.{◌≡◌, ℕ, Option, Some, None, List, subst, i
 use Rattle.core_charts.specs.Chart.{Chart}
 use Rattle.core_texts.specs.CoreText.{Spells}
 use Rattle.extended_charts.specs.declared.extended.ExtendedChart.{ExtendedChart}
-use Rattle.extended_charts.specs.Reduction.{reduced}
+use Rattle.chart_reduction.specs.Reduction.{reduced}
 use Rattle.reduced_texts.specs.ReducedText.{Answers}
 
 pub is_answer : (c : ExtendedChart) (made : Chart) (text : Option (List ℕ)) → made ≡ reduced c → Spells made text → Answers c text

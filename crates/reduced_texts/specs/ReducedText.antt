@@ -5,7 +5,7 @@ use Rattle.core_charts.specs.Rules.{IsChart}
 use Rattle.chart_reader.specs.Read.{IsRead}
 use Rattle.chart_printer.specs.Layout.{chart_text}
 use Rattle.extended_charts.specs.declared.extended.ExtendedChart.{ExtendedChart}
-use Rattle.extended_charts.specs.Reduction.{reduced}
+use Rattle.chart_reduction.specs.Reduction.{reduced}
 
 -- the text of the chart to which it is reduced, and what a reader of texts takes it for: that chart
 pub record IsReducedText (c : ExtendedChart) (text : List ℕ) : Type 0 where

@@ -3,8 +3,9 @@
 ghost use Rattle.std.specs.Prelude.{IfOk, option_map, string_bytes};
 ghost use Rattle.reduced_texts.specs.ReducedText.{Answers};
 
+use chart_reduction::{ReduceFault, reduce};
 use core_texts::text_that_spells;
-use extended_charts::{ExtendedChart, ReduceFault, reduce};
+use extended_charts::ExtendedChart;
 use std::alloc::{AllocError, Global};
 
 /// The text of the chart to which an extended chart is reduced. It is read again before it is given, and spells that

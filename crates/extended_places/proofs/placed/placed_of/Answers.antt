@@ -1,5 +1,5 @@
 use Rattle.std.proofs.Common.{subst}
-use Rattle.extended_charts.specs.Reduction.{LacksChart}
+use Rattle.chart_reduction.specs.Reduction.{LacksChart}
 use Rattle.extended_reader.proofs.Reading.{shaped}
 use Rattle.extended_places.proofs.Reading.{is_placed, passes_limit}
 use Rattle.extended_places.proofs.placed.placed_of.Goals as goal

@@ -1,5 +1,5 @@
 use Rattle.std.proofs.Common.{string_bytes, subst}
-use Rattle.extended_charts.specs.Reduction.{LacksChart}
+use Rattle.chart_reduction.specs.Reduction.{LacksChart}
 use Rattle.extended_reader.proofs.Reading.{shaped}
 use Rattle.extended_warnings.proofs.ToldOfAuthor.{limited, reduction}
 use Rattle.extended_warnings.proofs.telling.told_of.Goals as goal

@@ -1,0 +1,175 @@
+-- A chart without exit actions keeps its states and transitions, and no region notes where it is.
+use Rattle.std.proofs.Common.{◌≡◌, ℕ, ◌+◌, None, List, [], ◌∷◌, ◌++◌, map, length, refl, sym, ap, ◌∙◌, arith, if◌then◌else◌}
+use Rattle.sc_graph.specs.declared.program.Variable.{Variable}
+use Rattle.sc_text.proofs.EachItem.{Each}
+use Rattle.core_charts.specs.declared.region.Transition.{Transition}
+use Rattle.core_charts.specs.declared.region.Region.{Region}
+use Rattle.core_charts.specs.declared.region.State.{State}
+use Rattle.core_charts.specs.declared.region.Region.TheViews.{out-Region, out-State}
+use Rattle.entry_passes.specs.declared.leaving.Leaving.{Leaving}
+use Rattle.extended_charts.specs.declared.extended.ExtendedRegion.{ExtendedRegion}
+use Rattle.extended_charts.specs.declared.extended.ExtendedState.{ExtendedState}
+use Rattle.extended_charts.specs.declared.extended.ExtendedRegion.TheViews.{roll-ExtendedRegion, roll-ExtendedState}
+use Rattle.extended_charts.specs.Making.{has_some, one}
+use Rattle.entry_passes.specs.Exits.{LeftRegion, LeftState, left_region, left_state, region_step, state_step, left_by, left_transitions, left_behind}
+use Rattle.entry_passes.specs.Exits.{notes, notes_in, notes_among, exits_of, leavings_in, leavings_among, own_leaving, own_note, all_regions, all_states}
+use Rattle.entry_passes.specs.Exits.{all_behind, all_inside, outer_regions}
+use Rattle.chart_reduction.specs.Laws.{of_region, of_state}
+use Rattle.chart_reduction.proofs.ByRules.{Cases}
+use Rattle.chart_reduction.proofs.PlainParts.{over_state, over_region, state_is, region_is, state_folded, region_folded}
+
+-- such a region, as it is left: to this one
+pub record Unleft (left : LeftRegion) (made : ExtendedRegion) : Type 0 where
+  pub inside : left.inside ≡ 0
+  pub exits : left.exits ≡ []
+  pub leavings : (x : ℕ) → left.leavings x ≡ []
+  pub stays : (x : ℕ) → left.made None x ≡ made
+
+pub record UnleftState (left : LeftState) (made : ExtendedState) : Type 0 where
+  pub inside : left.inside ≡ 0
+  pub exit : left.exit ≡ []
+  pub leavings : (x : ℕ) → left.leavings x ≡ []
+  pub stays : (number x place : ℕ) → left.made None number x place ≡ made
+  pub behind : (x place : ℕ) → left.behind None x place ≡ []
+
+abbrev pub RegionUnleft : Region → Type 0
+RegionUnleft r = Unleft (left_region (of_region r)) (of_region r)
+
+abbrev pub StateUnleft : ℕ → State → Type 0
+StateUnleft count s = UnleftState (left_state (of_state s)) (of_state s)
+
+-- ---- regions beside each other
+
+abbrev lefts : List Region → List LeftRegion
+lefts regions = map left_region (map of_region regions)
+
+no_notes : (r : LeftRegion) (made : ExtendedRegion) → Unleft r made → notes r ≡ 0
+no_notes r made h = let none : one (has_some r.exits) ≡ 0 = ap (λ es. one (has_some es)) h.exits in omega (arith, h.inside, none)
+
+no_notes_in : (regions : List Region) → Each RegionUnleft regions → notes_in (lefts regions) ≡ 0
+no_notes_in [] h = refl
+no_notes_in (r ∷ regions) h = omega (arith, no_notes (left_region (of_region r)) (of_region r) h.0, no_notes_in regions h.1)
+
+no_leavings_in : (regions : List Region) → Each RegionUnleft regions → (x : ℕ) → leavings_in x (lefts regions) ≡ []
+no_leavings_in [] h x = refl
+no_leavings_in (r ∷ regions) h x =
+    ap (λ ls. ls ++ leavings_in (x + notes (left_region (of_region r))) (lefts regions)) (h.0.leavings x)
+    ∙ no_leavings_in regions h.1 (x + notes (left_region (of_region r)))
+
+all_stay : (regions : List Region) → Each RegionUnleft regions → (x : ℕ) → all_regions x (lefts regions) ≡ map of_region regions
+all_stay [] h x = refl
+all_stay (r ∷ regions) h x =
+    let l : LeftRegion = left_region (of_region r) in
+    ap (λ es. l.made (own_note (x + l.inside) (has_some es)) x ∷ all_regions (x + notes l) (lefts regions)) h.0.exits
+    ∙ ap (λ m. m ∷ all_regions (x + notes l) (lefts regions)) (h.0.stays x)
+    ∙ ap (λ ms. of_region r ∷ ms) (all_stay regions h.1 (x + notes l))
+
+pub none_inside : (regions : List Region) → Each RegionUnleft regions → all_inside (lefts regions) ≡ 0
+none_inside [] h = refl
+none_inside (r ∷ regions) h = omega (arith, h.0.inside, none_inside regions h.1)
+
+pub outer_stay : (regions : List Region) → Each RegionUnleft regions → (x : ℕ) → outer_regions x (lefts regions) ≡ map of_region regions
+outer_stay [] h x = refl
+outer_stay (r ∷ regions) h x =
+    let l : LeftRegion = left_region (of_region r) in
+    ap (λ m. m ∷ outer_regions (x + l.inside) (lefts regions)) (h.0.stays x)
+    ∙ ap (λ ms. of_region r ∷ ms) (outer_stay regions h.1 (x + l.inside))
+
+-- ---- states of one region
+
+abbrev left_states : List State → List LeftState
+left_states states = map left_state (map of_state states)
+
+no_notes_among : (count : ℕ) (states : List State) → Each (StateUnleft count) states → notes_among (left_states states) ≡ 0
+no_notes_among count [] h = refl
+no_notes_among count (s ∷ states) h = omega (arith, h.0.inside, no_notes_among count states h.1)
+
+no_exits_of : (count : ℕ) (states : List State) → Each (StateUnleft count) states → exits_of (left_states states) ≡ []
+no_exits_of count [] h = refl
+no_exits_of count (s ∷ states) h =
+    let l : LeftState = left_state (of_state s) in
+    ap (λ e. if has_some e then e ∷ exits_of (left_states states) else exits_of (left_states states)) h.0.exit ∙ no_exits_of count states h.1
+
+no_leavings_among : (count : ℕ) (states : List State) → Each (StateUnleft count) states → (x : ℕ) → leavings_among x (left_states states) ≡ []
+no_leavings_among count [] h x = refl
+no_leavings_among count (s ∷ states) h x =
+    let l : LeftState = left_state (of_state s) in
+    ap (λ ls. ls ++ leavings_among (x + l.inside) (left_states states)) (h.0.leavings x) ∙ no_leavings_among count states h.1 (x + l.inside)
+
+states_stay : (count : ℕ) (states : List State) → Each (StateUnleft count) states → (number x place : ℕ) →
+    all_states None number x place (left_states states) ≡ map of_state states
+states_stay count [] h number x place = refl
+states_stay count (s ∷ states) h number x place =
+    let l : LeftState = left_state (of_state s) in
+    let rest : List ExtendedState =
+    all_states None (number + one (has_some l.exit)) (x + l.inside) (place + length (l.behind None x place)) (left_states states) in
+    ap (λ m. m ∷ rest) (h.0.stays number x place)
+    ∙ ap (λ ms. of_state s ∷ ms) (states_stay count states h.1 (number + one (has_some l.exit)) (x + l.inside) (place + length (l.behind None x place)))
+
+none_behind : (count : ℕ) (states : List State) → Each (StateUnleft count) states → (x place : ℕ) → all_behind None x place (left_states states) ≡ []
+none_behind count [] h x place = refl
+none_behind count (s ∷ states) h x place =
+    let l : LeftState = left_state (of_state s) in
+    let rest : List ExtendedState = all_behind None (x + l.inside) (place + length (l.behind None x place)) (left_states states) in
+    ap (λ m. m ++ rest) (h.0.behind x place)
+    ∙ none_behind count states h.1 (x + l.inside) (place + length (l.behind None x place))
+
+-- ---- one state, and one region
+
+all_left_by_nothing : (transitions : List Transition) → map (left_by []) transitions ≡ transitions
+all_left_by_nothing [] = refl
+all_left_by_nothing (t ∷ transitions) = ap (λ ts. t ∷ ts) (all_left_by_nothing transitions)
+
+same_transitions : (place : ℕ) (leavings : List Leaving) (transitions : List Transition) → leavings ≡ [] →
+    left_transitions place leavings [] transitions ≡ transitions
+same_transitions place leavings transitions h =
+    ap (λ ls. left_transitions place ls [] transitions) h ∙ all_left_by_nothing transitions
+
+state_unleft : (s : State) → Each RegionUnleft (out-State s).regions → UnleftState (left_state (of_state s)) (of_state s)
+state_unleft s h =
+    let regions : List Region = (out-State s).regions in
+    let transitions : List Transition = (out-State s).transitions in
+    let is = state_folded LeftRegion LeftState region_step state_step s in
+    record {
+      inside = ap (λ l. l.inside) is ∙ no_notes_in regions h;
+      exit = ap (λ l. l.exit) is;
+      leavings = λ x. ap (λ l. l.leavings x) is ∙ no_leavings_in regions h x;
+      stays = λ number x place.
+          ap (λ l. l.made None number x place) is
+          ∙ ap (λ rs. roll-ExtendedState (record (over_state s rs) { transitions = left_transitions place (leavings_in x (lefts regions)) [] transitions }))
+          (all_stay regions h x)
+          ∙ ap (λ ts. roll-ExtendedState (record (over_state s (map of_region regions)) { transitions = ts }))
+          (same_transitions place (leavings_in x (lefts regions)) transitions (no_leavings_in regions h x))
+          ∙ sym (state_is s);
+      behind = λ x place.
+          ap (λ l. l.behind None x place) is ∙ ap (λ ls. left_behind place ls [] transitions) (no_leavings_in regions h x);
+    }
+
+region_unleft : (r : Region) → Each (StateUnleft (length (out-Region r).states)) (out-Region r).states → RegionUnleft r
+region_unleft r h =
+    let states : List State = (out-Region r).states in
+    let count : ℕ = length states in
+    let is = region_folded LeftRegion LeftState region_step state_step r in
+    let none : exits_of (left_states states) ≡ [] = no_exits_of count states h in
+    record {
+      inside = ap (λ l. l.inside) is ∙ no_notes_among count states h;
+      exits = ap (λ l. l.exits) is ∙ none;
+      leavings = λ x.
+          ap (λ l. l.leavings x) is
+          ∙ ap (λ ls. ls ++ own_leaving (x + notes_among (left_states states)) (exits_of (left_states states))) (no_leavings_among count states h x)
+          ∙ ap (λ es. own_leaving (x + notes_among (left_states states)) es) none;
+      stays = λ x.
+          ap (λ l. l.made None x) is
+          ∙ ap (λ ss. roll-ExtendedRegion (over_region r (ss ++ all_behind None x (length (left_states states)) (left_states states))))
+          (states_stay count states h 1 x (length (left_states states)))
+          ∙ ap (λ bs. roll-ExtendedRegion (over_region r (map of_state states ++ bs))) (none_behind count states h x (length (left_states states)))
+          ∙ ap (λ ss. roll-ExtendedRegion (over_region r ss)) (append_nothing (map of_state states))
+          ∙ sym (region_is r);
+    }
+  where
+    append_nothing : (xs : List ExtendedState) → xs ++ [] ≡ xs
+    append_nothing [] = refl
+    append_nothing (x ∷ xs) = ap (λ ys. x ∷ ys) (append_nothing xs)
+
+pub nothing_left : (variables : List Variable) → Cases variables RegionUnleft StateUnleft
+nothing_left variables = record { of_state = λ count s rules h. state_unleft s h; of_region = λ r h. region_unleft r h }

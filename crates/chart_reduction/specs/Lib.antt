@@ -1,0 +1,4 @@
+pub mod Rows
+pub mod Reduction
+pub mod FaultText
+pub mod Laws

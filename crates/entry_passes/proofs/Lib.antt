@@ -1,0 +1,5 @@
+pub mod Folded
+pub mod Left
+pub mod PastStates
+mod ExitRows
+mod HistoryRows

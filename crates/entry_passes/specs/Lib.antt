@@ -1,0 +1,3 @@
+pub mod Exits
+pub mod Histories
+pub mod Entry

@@ -1,5 +1,0 @@
-use Rattle.extended_charts.proofs.Plain.{nothing_is_added, stays}
-use Rattle.extended_charts.proofs.laws.charts_stay.Goals as goal
-
-pub returns : goal.returns
-returns c = record { nothing_is_added = nothing_is_added; stays = stays }

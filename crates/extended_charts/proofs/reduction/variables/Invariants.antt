@@ -1,6 +1,0 @@
-use Rattle.std.proofs.Common.{◌≡◌, ◌++◌, map, drop}
-use Rattle.extended_charts.proofs.reduction.variables.Given as goal
-
-abbrev pub invariant-loop-one : goal.invariant-loop-one
-invariant-loop-one l =
-    l.made ++ map (λ d. d.variable) (drop l.one-index l.declared) ≡ map (λ d. d.variable) l.declared

@@ -1,0 +1,4 @@
+pub mod Folded
+pub mod EndingStates
+pub mod CountedStates
+pub mod Handed

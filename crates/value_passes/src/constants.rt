@@ -1,0 +1,240 @@
+//! Constants: each stands for its literal.
+
+ghost use Rattle.std.specs.Prelude.{◌≡◌, [], IfOk, map};
+ghost use Rattle.value_passes.specs.Constants.{unvalued, named_values, valued_effect, valued_during};
+ghost use Rattle.value_passes.specs.Constants.{valued_transition};
+ghost use Rattle.extended_charts.specs.Reading.{replaced};
+ghost use Rattle.value_passes.specs.Constants.{valued_region, valued_state, valued_chart, without_constants};
+
+use core_charts::{Effect, Transition};
+use extended_charts::{
+    Constant, Declared, During, ExtendedChart, ExtendedRegion, ExtendedState, Reading,
+    copied_declarations,
+};
+use sc_graph::VariableId;
+use sc_values::{Expr, Value};
+use sqlite_items::Items;
+use std::alloc::{AllocError, Global};
+
+/// The chart with the literals of its constants, which it then lacks. Err: memory was refused.
+pub fn without_constants(alloc: Global, chart: &ExtendedChart) -> Result<ExtendedChart, AllocError>
+    ensures { IfOk result (λ made. made ≡ without_constants chart.now) }
+{
+    let variables = chart.variables.as_slice();
+    let befores = chart.befores.as_slice();
+    let named = named_values(alloc, variables, befores, chart.constants.as_slice())?;
+    let reading = Reading::Values(named);
+    valued_chart(alloc, &reading, chart)
+}
+
+fn valued_chart(
+    alloc: Global,
+    reading: &Reading,
+    chart: &ExtendedChart,
+) -> Result<ExtendedChart, AllocError>
+    ensures { IfOk result (λ made. made ≡ valued_chart reading.now chart.now) }
+{
+    Ok(ExtendedChart {
+        name: chart.name,
+        variables: copied_declarations(alloc, chart.variables.as_slice())?,
+        signals: Items::from_slice(alloc, chart.signals.as_slice())?,
+        befores: Items::from_slice(alloc, chart.befores.as_slice())?,
+        constants: Items::new(alloc),
+        counts: valued_counts(alloc, reading, chart.counts.as_slice())?,
+        regions: valued_regions(alloc, reading, chart.regions.as_slice())?,
+    })
+}
+
+// The value of each number of an expression that has one.
+fn named_values(
+    alloc: Global,
+    variables: &[Declared],
+    befores: &[VariableId],
+    constants: &[Constant],
+) -> Result<Items<Option<Value>>, AllocError>
+    ensures { IfOk result (λ made. made ≡ named_values variables.now befores.now constants.now) }
+{
+    let mut named = unvalued(alloc, variables)?;
+    named.append(unvalued(alloc, befores)?)?;
+    named.append(constant_values(alloc, constants)?)?;
+    Ok(named)
+}
+
+fn unvalued<T>(alloc: Global, items: &[T]) -> Result<Items<Option<Value>>, AllocError>
+    ensures { IfOk result (λ made. made ≡ unvalued items.now) }
+{
+    let mut made = Items::new(alloc);
+    for _ in items {
+        made.push(None)?;
+    }
+    Ok(made)
+}
+
+fn constant_values(
+    alloc: Global,
+    constants: &[Constant],
+) -> Result<Items<Option<Value>>, AllocError>
+    ensures { IfOk result (λ made. made ≡ named_values [] [] constants.now) }
+{
+    let mut made = Items::new(alloc);
+    for constant in constants {
+        made.push(Some(constant.value))?;
+    }
+    Ok(made)
+}
+
+fn valued_counts(
+    alloc: Global,
+    reading: &Reading,
+    counts: &[Expr],
+) -> Result<Items<Expr>, AllocError>
+    ensures { IfOk result (λ made. made ≡ map (replaced reading.now) counts.now) }
+{
+    let mut made = Items::new(alloc);
+    for condition in counts {
+        made.push(reading.replaced(alloc, condition)?)?;
+    }
+    Ok(made)
+}
+
+fn valued_effects(
+    alloc: Global,
+    reading: &Reading,
+    effects: &[Effect],
+) -> Result<Items<Effect>, AllocError>
+    ensures { IfOk result (λ made. made ≡ map (valued_effect reading.now) effects.now) }
+{
+    let mut made = Items::new(alloc);
+    for effect in effects {
+        made.push(valued_effect(alloc, reading, effect)?)?;
+    }
+    Ok(made)
+}
+
+fn valued_effect(alloc: Global, reading: &Reading, effect: &Effect) -> Result<Effect, AllocError>
+    ensures { IfOk result (λ made. made ≡ valued_effect reading.now effect.now) }
+{
+    Ok(Effect {
+        variable: effect.variable,
+        value: reading.replaced(alloc, &effect.value)?,
+    })
+}
+
+fn valued_durings(
+    alloc: Global,
+    reading: &Reading,
+    durings: &[During],
+) -> Result<Items<During>, AllocError>
+    ensures { IfOk result (λ made. made ≡ map (valued_during reading.now) durings.now) }
+{
+    let mut made = Items::new(alloc);
+    for during in durings {
+        made.push(valued_during(alloc, reading, during)?)?;
+    }
+    Ok(made)
+}
+
+fn valued_during(alloc: Global, reading: &Reading, during: &During) -> Result<During, AllocError>
+    ensures { IfOk result (λ made. made ≡ valued_during reading.now during.now) }
+{
+    Ok(During {
+        immediate: during.immediate,
+        trigger: reading.replaced_trigger(alloc, &during.trigger)?,
+        effects: valued_effects(alloc, reading, during.effects.as_slice())?,
+    })
+}
+
+fn valued_transitions(
+    alloc: Global,
+    reading: &Reading,
+    transitions: &[Transition],
+) -> Result<Items<Transition>, AllocError>
+    ensures { IfOk result (λ made. made ≡ map (valued_transition reading.now) transitions.now) }
+{
+    let mut made = Items::new(alloc);
+    for transition in transitions {
+        made.push(valued_transition(alloc, reading, transition)?)?;
+    }
+    Ok(made)
+}
+
+fn valued_transition(
+    alloc: Global,
+    reading: &Reading,
+    transition: &Transition,
+) -> Result<Transition, AllocError>
+    ensures { IfOk result (λ made. made ≡ valued_transition reading.now transition.now) }
+{
+    Ok(Transition {
+        kind: transition.kind,
+        immediate: transition.immediate,
+        trigger: reading.replaced_trigger(alloc, &transition.trigger)?,
+        effects: valued_effects(alloc, reading, transition.effects.as_slice())?,
+        target: transition.target,
+    })
+}
+
+#[cycle(inside)]
+fn valued_regions(
+    alloc: Global,
+    reading: &Reading,
+    regions: &[ExtendedRegion],
+) -> Result<Items<ExtendedRegion>, AllocError>
+    ensures { IfOk result (λ made. made ≡ map (valued_region reading.now) regions.now) }
+{
+    let mut made = Items::new(alloc);
+    for region in regions {
+        made.push(valued_region(alloc, reading, region)?)?;
+    }
+    Ok(made)
+}
+
+#[cycle(inside)]
+fn valued_region(
+    alloc: Global,
+    reading: &Reading,
+    region: &ExtendedRegion,
+) -> Result<ExtendedRegion, AllocError>
+    ensures { IfOk result (λ made. made ≡ valued_region reading.now region.now) }
+{
+    Ok(ExtendedRegion {
+        name: region.name,
+        states: valued_states(alloc, reading, region.states.as_slice())?,
+    })
+}
+
+#[cycle(inside)]
+fn valued_states(
+    alloc: Global,
+    reading: &Reading,
+    states: &[ExtendedState],
+) -> Result<Items<ExtendedState>, AllocError>
+    ensures { IfOk result (λ made. made ≡ map (valued_state reading.now) states.now) }
+{
+    let mut made = Items::new(alloc);
+    for state in states {
+        made.push(valued_state(alloc, reading, state)?)?;
+    }
+    Ok(made)
+}
+
+#[cycle(inside)]
+fn valued_state(
+    alloc: Global,
+    reading: &Reading,
+    state: &ExtendedState,
+) -> Result<ExtendedState, AllocError>
+    ensures { IfOk result (λ made. made ≡ valued_state reading.now state.now) }
+{
+    Ok(ExtendedState {
+        name: state.name,
+        is_own: state.is_own,
+        is_initial: state.is_initial,
+        is_final: state.is_final,
+        entry: valued_effects(alloc, reading, state.entry.as_slice())?,
+        exit: valued_effects(alloc, reading, state.exit.as_slice())?,
+        during: valued_durings(alloc, reading, state.during.as_slice())?,
+        regions: valued_regions(alloc, reading, state.regions.as_slice())?,
+        transitions: valued_transitions(alloc, reading, state.transitions.as_slice())?,
+    })
+}
