@@ -15,6 +15,8 @@ mod Entered
 mod ListedCounts
 pub mod ListedThreads
 mod ListedWoken
+pub mod Covered
+mod StaysListed
 pub mod ListedEntered
 pub mod ListedCopied
 pub mod ListedStart
@@ -22,6 +24,7 @@ pub mod Reports
 pub mod Taken
 pub mod Fresh
 pub mod StateKept
+mod GoingOn
 pub mod Claiming
 pub mod SameClaim
 pub mod EveryOrder

@@ -1,5 +1,5 @@
--- Statuses in which all that are present are listed: made absent one by one, and copied one by one.
-use Rattle.std.proofs.Common.{◌≡◌, ◌≢◌, ℕ, zero, suc, ◌+◌, ◌<◌, ◌≤◌, ◌⊎◌, List, [], ◌∷◌, length, length-set, map}
+-- Statuses made absent one by one, where all that are present are listed, and copied one by one, where all that stand otherwise are.
+use Rattle.std.proofs.Common.{◌≡◌, ◌≢◌, ℕ, suc, ◌+◌, ◌<◌, ◌≤◌, ◌⊎◌, List, [], ◌∷◌, length, length-set, map}
 use Rattle.std.proofs.Common.{Option, Some, None, Contains, slice_get, slice_set, refl, sym, ap, subst, ◌∙◌, inl, inr, ⊎_elim, arith}
 use Rattle.std.proofs.lemmas.Option.{same_Some, slice_get_within, slice_get_past, slice_get-map}
 use Rattle.std.proofs.lemmas.Bool.{cases_lt}
@@ -9,7 +9,8 @@ use Rattle.sc_graph.specs.declared.control.Control.{Control}
 use Rattle.sc_graph.specs.Program.{Program}
 use Rattle.sc_graph.specs.Tick.{IsPresent, initial}
 use Rattle.tick_laws.proofs.Lists.{contained, get_contains, get_set_same, get_set_other, map_some, same_or_not, slice_get_there}
-use Rattle.tick_core.specs.Inside.There.{AllListed, AreAbsent, ClearedBelow, CopiedBelow, copied_by, copied_at}
+use Rattle.tick_core.specs.Inside.There.{AllListed, AreAbsent, AbsentBelow, ClearedBelow, StandsFrom, CopiedBelow, copied_by, copied_at}
+use Rattle.tick_core.specs.Inside.Astir.{ChangedListed}
 
 -- where nobody is present, everybody who is present is listed
 pub absent_listed : (ss : List Status) (threads : List ℕ) → AreAbsent ss → AllListed ss threads
@@ -23,6 +24,20 @@ spare_listed p c threads is =
     absent : (t : ℕ) (s : Status) → slice_get (map (λ _. status.Absent) p.threads) t ≡ Some s → s ≡ status.Absent
     absent t s at =
         let was = map_some (λ _. status.Absent) (slice_get p.threads t) s (sym (slice_get-map (λ _. status.Absent) p.threads t) ∙ at) in sym was.2
+
+-- with one thread more made absent
+pub absent_more : (ss : List Status) (n : ℕ) → AbsentBelow ss n → AbsentBelow (slice_set ss n status.Absent) (n + 1)
+absent_more ss n h = record { each = λ t s less is. each t s less is (same_or_not t n) }
+  where
+    each : (t : ℕ) (s : Status) → t < n + 1 → slice_get (slice_set ss n status.Absent) t ≡ Some s → (t ≡ n) ⊎ (t ≢ n) → s ≡ status.Absent
+    each t s less is (inl same) =
+        let there : slice_get (slice_set ss n status.Absent) n ≡ Some s = ap (slice_get (slice_set ss n status.Absent)) (sym same) ∙ is in
+        let within : n < length (slice_set ss n status.Absent) = slice_get_within (slice_set ss n status.Absent) n s there in
+        sym (same_Some status.Absent s (sym (get_set_same ss n status.Absent (omega (arith, within, length-set ss n status.Absent))) ∙ there))
+    each t s less is (inr other) = h.each t s (omega (arith, less, other)) (sym (get_set_other ss n t status.Absent other) ∙ is)
+
+pub absent_all : (ss : List Status) (n : ℕ) → length ss ≤ n → AbsentBelow ss n → AreAbsent ss
+absent_all ss n past h = record { each = λ t s is. h.each t s (omega (arith, slice_get_within ss t s is, past)) is }
 
 below_then : (threads : List ℕ) (n t i u : ℕ) → slice_get threads n ≡ Some t → i < n + 1 → slice_get threads i ≡ Some u → u ≢ t → (i ≡ n) ⊎ (i ≢ n) → i < n
 below_then threads n t i u is less at other (inl same) = absurd (other (same_Some u t (sym at ∙ (ap (slice_get threads) same ∙ is))))
@@ -74,9 +89,36 @@ all_cleared before after threads n past all h = record { each = λ t s is. ⊎_e
     each t (status.Paused d) is was = listed t (status.Paused d) is was tt
     each t status.Ended is was = listed t status.Ended is was tt
 
-pub copied_none : (from to : List Status) (threads : List ℕ) → length to ≡ length from → AreAbsent to → CopiedBelow from to threads 0
-copied_none from to threads long h =
-    record { long = long; copied = λ i t less. absurd (omega (arith, less)); rest = λ t s is. inl (h.each t s is) }
+-- where all that are present are listed, and nobody is present by the others, whoever stands otherwise is listed
+pub changed_absent : (from to : List Status) (threads : List ℕ) → length to ≡ length from → AllListed from threads → AreAbsent to
+    → ChangedListed from to threads
+changed_absent from to threads long all absent = record { each = λ t. by t (contained threads t) }
+  where
+    absent_there : (t : ℕ) (s : Status) → slice_get from t ≡ Some s → ¬ Contains threads t → s ≡ status.Absent
+    absent_there t status.Absent is none = refl
+    absent_there t (status.At n) is none = absurd (none (all.each t (status.At n) is tt))
+    absent_there t (status.Waiting j) is none = absurd (none (all.each t (status.Waiting j) is tt))
+    absent_there t (status.Paused d) is none = absurd (none (all.each t (status.Paused d) is tt))
+    absent_there t status.Ended is none = absurd (none (all.each t status.Ended is tt))
+
+    unlisted : (t : ℕ) → ¬ Contains threads t → (t < length from) ⊎ (length from ≤ t) → slice_get to t ≡ slice_get from t
+    unlisted t none (inr more) = slice_get_past to t (omega (arith, more, long)) ∙ sym (slice_get_past from t more)
+    unlisted t none (inl less) =
+        let was : (x : Status) × (slice_get from t ≡ Some x) = slice_get_there from t less in
+        let now : (x : Status) × (slice_get to t ≡ Some x) = slice_get_there to t (omega (arith, less, long)) in
+        now.1 ∙ (ap Some (absent.each t now.0 now.1 ∙ sym (absent_there t was.0 was.1 none)) ∙ sym was.1)
+
+    by : (t : ℕ) → Contains threads t ⊎ ¬ Contains threads t → Contains threads t ⊎ (slice_get to t ≡ slice_get from t)
+    by t (inl inside) = inl inside
+    by t (inr none) = inr (unlisted t none (cases_lt t (length from)))
+
+pub copied_none : (from to : List Status) (threads : List ℕ) → length to ≡ length from → ChangedListed from to threads → CopiedBelow from to threads 0
+copied_none from to threads long h = record { long = long; rest = λ t. by t (h.each t) }
+  where
+    by : (t : ℕ) → Contains threads t ⊎ (slice_get to t ≡ slice_get from t) → StandsFrom threads 0 t ⊎ (slice_get to t ≡ slice_get from t)
+    by t (inl inside) =
+        let at : (i : ℕ) × (slice_get threads i ≡ Some t) = get_contains threads t inside in inl (record { at = at.0; past = omega arith; is = at.1 })
+    by t (inr same) = inr same
 
 module _ (from to : List Status) (threads : List ℕ) (n t : ℕ) (h : CopiedBelow from to threads n) (is : slice_get threads n ≡ Some t) where
   long_by : (o : Option Status) → length (copied_by to t o) ≡ length from
@@ -98,25 +140,22 @@ module _ (from to : List Status) (threads : List ℕ) (n t : ℕ) (h : CopiedBel
   other_there u None other = refl
   other_there u (Some s) other = get_set_other to t u s other
 
-  copied_here : (i u : ℕ) → i < n + 1 → slice_get threads i ≡ Some u → (u ≡ t) ⊎ (u ≢ t) → slice_get (copied_at from to t) u ≡ slice_get from u
-  copied_here i u less at (inl same) =
-      ap (slice_get (copied_at from to t)) same ∙ (same_there (slice_get from t) refl ∙ ap (slice_get from) (sym same))
-  copied_here i u less at (inr other) =
-      other_there u (slice_get from t) other ∙ h.copied i u (below_then threads n t i u is less at other (same_or_not i n)) at
+  later : (u : ℕ) → u ≢ t → (s : StandsFrom threads n u) → (s.at ≡ n) ⊎ (s.at ≢ n) → StandsFrom threads (n + 1) u
+  later u other s (inl same) = absurd (other (same_Some u t (sym s.is ∙ (ap (slice_get threads) same ∙ is))))
+  later u other s (inr apart) = record { at = s.at; past = omega (arith, s.past, apart); is = s.is }
 
-  rest_here : (u : ℕ) (s : Status) → slice_get (copied_at from to t) u ≡ Some s → (u ≡ t) ⊎ (u ≢ t) → (s ≡ status.Absent) ⊎ (slice_get from u ≡ Some s)
-  rest_here u s now (inl same) =
-      inr (ap (slice_get from) same
-      ∙ (sym (same_there (slice_get from t) refl) ∙ (ap (slice_get (copied_at from to t)) (sym same) ∙ now)))
-  rest_here u s now (inr other) = h.rest u s (sym (other_there u (slice_get from t) other) ∙ now)
+  rest_other : (u : ℕ) → u ≢ t → StandsFrom threads n u ⊎ (slice_get to u ≡ slice_get from u)
+      → StandsFrom threads (n + 1) u ⊎ (slice_get (copied_at from to t) u ≡ slice_get from u)
+  rest_other u other (inl s) = inl (later u other s (same_or_not s.at n))
+  rest_other u other (inr same) = inr (other_there u (slice_get from t) other ∙ same)
+
+  rest_here : (u : ℕ) → (u ≡ t) ⊎ (u ≢ t) → StandsFrom threads (n + 1) u ⊎ (slice_get (copied_at from to t) u ≡ slice_get from u)
+  rest_here u (inl same) =
+      inr (ap (slice_get (copied_at from to t)) same ∙ (same_there (slice_get from t) refl ∙ ap (slice_get from) (sym same)))
+  rest_here u (inr other) = rest_other u other (h.rest u)
 
   pub copied_more : CopiedBelow from (copied_at from to t) threads (n + 1)
-  copied_more =
-      record {
-        long = long_by (slice_get from t);
-        copied = λ i u less at. copied_here i u less at (same_or_not u t);
-        rest = λ u s now. rest_here u s now (same_or_not u t);
-      }
+  copied_more = record { long = long_by (slice_get from t); rest = λ u. rest_here u (same_or_not u t) }
 
 same_lists : (xs ys : List Status) → ((t : ℕ) → slice_get xs t ≡ slice_get ys t) → xs ≡ ys
 same_lists [] [] each = refl
@@ -125,30 +164,10 @@ same_lists (x ∷ xs) [] each = let never : Some x ≡ None = each 0 in absurd (
 same_lists (x ∷ xs) (y ∷ ys) each =
     ap (λ v. v ∷ xs) (same_Some x y (each 0)) ∙ ap (λ zs. y ∷ zs) (same_lists xs ys (λ t. each (suc t)))
 
-module _ (from to : List Status) (threads : List ℕ) (n : ℕ) (past : length threads ≤ n) (all : AllListed from threads)
-    (h : CopiedBelow from to threads n) where
-  absent_there : (t : ℕ) (s : Status) → slice_get from t ≡ Some s → ¬ Contains threads t → s ≡ status.Absent
-  absent_there t status.Absent is none = refl
-  absent_there t (status.At n) is none = absurd (none (all.each t (status.At n) is tt))
-  absent_there t (status.Waiting j) is none = absurd (none (all.each t (status.Waiting j) is tt))
-  absent_there t (status.Paused d) is none = absurd (none (all.each t (status.Paused d) is tt))
-  absent_there t status.Ended is none = absurd (none (all.each t status.Ended is tt))
-
-  unlisted : (t : ℕ) → ¬ Contains threads t → (t < length from) ⊎ (length from ≤ t) → slice_get to t ≡ slice_get from t
-  unlisted t none (inr more) = slice_get_past to t (omega (arith, more, h.long)) ∙ sym (slice_get_past from t more)
-  unlisted t none (inl less) =
-      let was : (x : Status) × (slice_get from t ≡ Some x) = slice_get_there from t less in
-      let now : (x : Status) × (slice_get to t ≡ Some x) = slice_get_there to t (omega (arith, less, h.long)) in
-      ⊎_elim
-      (λ absent. now.1 ∙ (ap Some (absent ∙ sym (absent_there t was.0 was.1 none)) ∙ sym was.1))
-      (λ same. now.1 ∙ sym same)
-      (h.rest t now.0 now.1)
-
-  listed : (t : ℕ) → Contains threads t → slice_get to t ≡ slice_get from t
-  listed t inside =
-      let at : (i : ℕ) × (slice_get threads i ≡ Some t) = get_contains threads t inside in
-      h.copied at.0 t (omega (arith, slice_get_within threads at.0 t at.1, past)) at.1
-
-  -- where all that are present are copied, all statuses are the same
-  pub all_copied : to ≡ from
-  all_copied = same_lists to from (λ t. ⊎_elim (listed t) (λ none. unlisted t none (cases_lt t (length from))) (contained threads t))
+-- where all that stood otherwise are copied, all statuses are the same
+pub all_copied : (from to : List Status) (threads : List ℕ) (n : ℕ) → length threads ≤ n → CopiedBelow from to threads n → to ≡ from
+all_copied from to threads n past h = same_lists to from (λ t. by t (h.rest t))
+  where
+    by : (t : ℕ) → StandsFrom threads n t ⊎ (slice_get to t ≡ slice_get from t) → slice_get to t ≡ slice_get from t
+    by t (inl s) = absurd (omega (arith, s.past, past, slice_get_within threads s.at t s.is))
+    by t (inr same) = same

@@ -1,5 +1,5 @@
--- As a tick begins, where all that are present are sorted, everybody is.
-use Rattle.std.proofs.Common.{◌≡◌, ◌≢◌, ℕ, ◌+◌, ◌<◌, ◌≤◌, ◌⊎◌, List, length, Option, Some, None, Contains, slice_get, slice_set, get_or}
+-- As a tick begins, where all that are astir are sorted, everybody is.
+use Rattle.std.proofs.Common.{◌≡◌, ◌≢◌, ℕ, ◌+◌, ◌<◌, ◌≤◌, ◌⊎◌, List, length, Option, Some, None, slice_get, slice_set, get_or}
 use Rattle.std.proofs.Common.{refl, sym, ap, subst, ◌∙◌, inl, inr, ⊎_elim, arith}
 use Rattle.std.proofs.lemmas.Option.{same_Some, slice_get-get_or, slice_get_within}
 use Rattle.buckets.specs.Rows.{Rows, IsIn, AreEmpty}
@@ -10,13 +10,13 @@ use Rattle.sc_graph.specs.declared.tables.Tables.{Tables}
 use Rattle.sc_graph.specs.Program.{Program}
 use Rattle.sc_graph.specs.Control.{status_of, status_enabled}
 use Rattle.sc_graph.specs.Tables.{priority_of}
-use Rattle.sc_graph.specs.Tick.{IsConfiguration, IsPresent}
+use Rattle.sc_graph.specs.Tick.{IsConfiguration}
 use Rattle.sc_graph.specs.Valid.{IsValid}
 use Rattle.tick_laws.proofs.Lists.{same_or_not, get_contains, get_set_same, get_set_other}
 use Rattle.tick_core.specs.Inside.Sorting.{OwnRows, StandSorted, row_at, step_priority, sorted_one}
-use Rattle.tick_core.specs.Inside.There.{AllListed}
+use Rattle.tick_core.specs.Inside.Astir.{IsAstir, AstirListed}
 use Rattle.tick_core.specs.Inside.Waking.{EntersRow, EnteredThose}
-use Rattle.tick_core.proofs.ListedThreads.{listed_of}
+use Rattle.tick_core.proofs.Covered.{astir_of}
 use Rattle.tick_core.proofs.OwnRoom.{kept_there}
 
 pub enters_row : (p : Program) (q : Tables) (c : Control) (t : ℕ) (rows : Rows) → IsValid p q → IsConfiguration p c → OwnRows p q rows → t < length p.threads
@@ -79,10 +79,10 @@ entered_more p q c threads n rows after_rows t h is row =
     placed i u less at below (inr other) = row.others u (h.placed i u (omega (arith, less, other)) at below)
 
 module _ (p : Program) (q : Tables) (c : Control) (threads : List ℕ) (rows : Rows) (n : ℕ) (past : length threads ≤ n)
-    (listed : AllListed c.statuses threads) (h : EnteredThose p q c threads n rows) where
-  placed_there : (t : ℕ) → t < length p.threads → IsPresent (status_of c t) → slice_get rows.classes t ≡ Some (step_priority p q c t)
-  placed_there t below present =
-      let at : (i : ℕ) × (slice_get threads i ≡ Some t) = get_contains threads t (listed_of c threads listed t present) in
+    (listed : AstirListed c.statuses threads) (h : EnteredThose p q c threads n rows) where
+  placed_there : (t : ℕ) → t < length p.threads → IsAstir (status_of c t) → slice_get rows.classes t ≡ Some (step_priority p q c t)
+  placed_there t below astir =
+      let at : (i : ℕ) × (slice_get threads i ≡ Some t) = get_contains threads t (astir_of c threads listed t astir) in
       h.placed at.0 t (omega (arith, slice_get_within threads at.0 t at.1, past)) at.1 below
 
   idle_nowhere : (t : ℕ) → t < length p.threads → step_priority p q c t ≡ None → (o : Option ℕ) → get_or rows.classes t None ≡ o
@@ -97,10 +97,11 @@ module _ (p : Program) (q : Tables) (c : Control) (threads : List ℕ) (rows : R
   placed : (t : ℕ) → t < length p.threads → (s : Status) → status_of c t ≡ s → slice_get rows.classes t ≡ Some (step_priority p q c t)
   placed t below status.Absent is =
       idle_nowhere t below (ap (λ s. row_at (status_enabled p c s) (priority_of q s)) is) (get_or rows.classes t None) refl
-  placed t below status.Ended is = placed_there t below (subst IsPresent (sym is) tt)
-  placed t below (status.At n) is = placed_there t below (subst IsPresent (sym is) tt)
-  placed t below (status.Waiting j) is = placed_there t below (subst IsPresent (sym is) tt)
-  placed t below (status.Paused d) is = placed_there t below (subst IsPresent (sym is) tt)
+  placed t below status.Ended is =
+      idle_nowhere t below (ap (λ s. row_at (status_enabled p c s) (priority_of q s)) is) (get_or rows.classes t None) refl
+  placed t below (status.At n) is = placed_there t below (subst IsAstir (sym is) tt)
+  placed t below (status.Waiting j) is = placed_there t below (subst IsAstir (sym is) tt)
+  placed t below (status.Paused d) is = placed_there t below (subst IsAstir (sym is) tt)
 
   pub all_listed_sorted : StandSorted p q c rows
   all_listed_sorted = record { own_rows = h.own_rows; each = λ t below. placed t below (status_of c t) refl }

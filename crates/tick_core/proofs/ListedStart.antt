@@ -1,12 +1,12 @@
 -- The counts of living children stay as paused threads are woken.
-use Rattle.std.proofs.Common.{◌≡◌, ℕ, zero, suc, List, [], ◌∷◌, map, Option, Some, None, slice_get, unwrap_or, option_map, refl, sym, ap, ◌∙◌}
+use Rattle.std.proofs.Common.{◌≡◌, ℕ, zero, suc, List, [], ◌∷◌, Option, Some, None, slice_get, unwrap_or, option_map, refl, sym, ap, ◌∙◌}
 use Rattle.std.specs.Prelude.{not}
 use Rattle.std.proofs.lemmas.Option.{slice_get-map}
 use Rattle.sc_graph.specs.declared.control.Control.{Control}
 use Rattle.sc_graph.specs.declared.control.Status.{Status}
 use Rattle.sc_graph.specs.declared.control.Status.TheVariants as status
 use Rattle.sc_graph.specs.Program.{Program, entry_of}
-use Rattle.sc_graph.specs.Control.{status_of, has_ended, joined_at}
+use Rattle.sc_graph.specs.Control.{has_ended, joined_at}
 use Rattle.sc_graph.specs.Tick.{Inputs, woken, root_started, statuses_at_start, start}
 use Rattle.tick_core.specs.Inside.Living.{lives, living, CountsLiving}
 use Rattle.tick_core.proofs.LivingChildren.{same_counts}

@@ -1,12 +1,13 @@
--- Where all that are present are woken, everybody is.
+-- Where all that are astir are woken, everybody is.
 use Rattle.std.proofs.Common.{◌≡◌, ◌≢◌, ℕ, zero, suc, ◌+◌, ◌<◌, ◌≤◌, ◌⊎◌, List, [], ◌∷◌, length, map, Option, Some, None, Contains, slice_get, slice_set}
-use Rattle.std.proofs.Common.{option_map, refl, sym, ap, subst, ◌∙◌, inl, inr, arith}
+use Rattle.std.proofs.Common.{option_map, refl, sym, ap, ◌∙◌, inl, inr, arith}
 use Rattle.std.proofs.lemmas.Option.{same_Some, slice_get_within, slice_get-map}
 use Rattle.sc_graph.specs.declared.control.Status.{Status}
 use Rattle.sc_graph.specs.declared.control.Status.TheVariants as status
-use Rattle.sc_graph.specs.Tick.{IsPresent, woken}
+use Rattle.sc_graph.specs.Tick.{woken}
 use Rattle.tick_laws.proofs.Lists.{get_contains, get_set_same, get_set_other, same_or_not, map_some}
-use Rattle.tick_core.specs.Inside.There.{AllListed, woken_by, woken_at, WokenBelow}
+use Rattle.tick_core.specs.Inside.There.{woken_by, woken_at, WokenBelow}
+use Rattle.tick_core.specs.Inside.Astir.{IsAstir, AstirListed}
 
 woken_twice : (s : Status) → woken (woken s) ≡ woken s
 woken_twice status.Absent = refl
@@ -58,14 +59,14 @@ all_fixed [] each = refl
 all_fixed (x ∷ xs) each =
     ap (λ v. v ∷ map woken xs) (each 0 x refl) ∙ ap (λ ys. x ∷ ys) (all_fixed xs (λ t s is. each (suc t) s is))
 
-woken_was_present : (s : Status) (d : ℕ) → woken s ≡ status.At d → IsPresent s
-woken_was_present status.Absent d is = absurd (cc)
-woken_was_present (status.At n) d is = tt
-woken_was_present (status.Waiting j) d is = tt
-woken_was_present (status.Paused n) d is = tt
-woken_was_present status.Ended d is = absurd (cc)
+woken_was_astir : (s : Status) (d : ℕ) → woken s ≡ status.At d → IsAstir s
+woken_was_astir status.Absent d is = absurd (cc)
+woken_was_astir (status.At n) d is = tt
+woken_was_astir (status.Waiting j) d is = tt
+woken_was_astir (status.Paused n) d is = tt
+woken_was_astir status.Ended d is = absurd (cc)
 
-module _ (before after : List Status) (threads : List ℕ) (n : ℕ) (past : length threads ≤ n) (all : AllListed before threads)
+module _ (before after : List Status) (threads : List ℕ) (n : ℕ) (past : length threads ≤ n) (all : AstirListed before threads)
     (h : WokenBelow before after threads n) where
   paused_never : (t d : ℕ) → slice_get after t ≡ Some (status.Paused d) → ⊥
   paused_never t d is =
@@ -73,7 +74,7 @@ module _ (before after : List Status) (threads : List ℕ) (n : ℕ) (past : len
       let was : option_map woken (slice_get before t) ≡ Some (status.At d) =
       sym (slice_get-map woken before t) ∙ (ap (λ xs. slice_get xs t) (sym h.same) ∙ now) in
       let it : (s : Status) × (slice_get before t ≡ Some s) × (woken s ≡ status.At d) = map_some woken (slice_get before t) (status.At d) was in
-      let inside : Contains threads t = all.each t it.0 it.1 (woken_was_present it.0 d it.2) in
+      let inside : Contains threads t = all.each t it.0 it.1 (woken_was_astir it.0 d it.2) in
       let at : (i : ℕ) × (slice_get threads i ≡ Some t) = get_contains threads t inside in
       let fixed : status.At d ≡ status.Paused d = h.awake at.0 t (status.Paused d) (omega (arith, slice_get_within threads at.0 t at.1, past)) at.1 is in cc
 

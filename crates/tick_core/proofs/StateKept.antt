@@ -101,10 +101,10 @@ still_open claims t u a is = go (same_or_not u t)
         absurd cc
     go (inr other) = (other, sym (get_set_other claims t u None other) ∙ is)
 
-abbrev tick : Image → Control → Control → List Entry → List (Option Claim) → InTick
+abbrev pub tick : Image → Control → Control → List Entry → List (Option Claim) → InTick
 tick image begun present history claims = record { image = image; begun = begun; present = present; history = history; claims = claims }
 
-same_tick : (image image' : Image) (begun begun' present present' : Control) (history history' : List Entry) (claims claims' : List (Option Claim)) →
+pub same_tick : (image image' : Image) (begun begun' present present' : Control) (history history' : List Entry) (claims claims' : List (Option Claim)) →
     image ≡ image' → begun ≡ begun' → present ≡ present' → history ≡ history' → claims ≡ claims' →
     tick image begun present history claims ≡ tick image' begun' present' history' claims'
 same_tick image image' begun begun' present present' history history' claims claims' i b p h c =

@@ -229,6 +229,15 @@ alike_behind p q valid c d ok t stepped u other no_parent no_child =
     ∙ alike p q valid c ok t found.0 (what_does p c t found.0 found.1) u other
     (λ some. no_parent (sym (ap (λ x. ended_parent p t (status_of x t)) found.2) ∙ some)) no_child
 
+-- who neither steps nor is a child of the step stands behind it as before
+pub same_behind : (p : Program) (q : Tables) → IsValid p q → (c d : Control) → IsConfiguration p c → (t : ℕ) → step p t c ≡ Some d → (u : ℕ) → u ≢ t
+    → ¬ Contains (children_at p (status_of c t)) u → status_of d u ≡ status_of c u
+same_behind p q valid c d ok t stepped u other no_child =
+    let found : (e : Effect) × (effect p c t ≡ Some e) × (after e c ≡ d) = map_some (λ (e : Effect). after e c) (effect p c t) d stepped in
+    let does : Does p c t found.0 = what_does p c t found.0 found.1 in
+    ap (λ x. status_of x u) (sym found.2)
+    ∙ stands_still p q valid c ok t found.0 does u (λ moves. ⊎_elim other no_child (moved_child p q valid c ok t found.0 does u moves))
+
 -- the children of a step are threads
 pub children_in : (p : Program) → IsFormed p → (s : Status) → All (λ k. k < length p.threads) (children_at p s)
 children_in p formed (status.At n) = at_step (step_at p n) refl

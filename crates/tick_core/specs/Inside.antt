@@ -12,3 +12,4 @@ pub mod ShortCodes
 pub mod Onward
 pub mod Waking
 pub mod There
+pub mod Astir

@@ -45,6 +45,7 @@ impl Given {
         requires places { length self.old ≡ length program.now.variables }
         ensures accepted { IsTrue result ↔ AreAccepted program.now inputs.now }
         ensures given { OnTrue result (Gives program.now.variables inputs.now self.new) }
+        ensures places { length self.new ≡ length self.old }
     {
         give_nothing(&mut self.values);
         take_all(&self.guesses, program, inputs, &mut self.values)
@@ -79,6 +80,7 @@ fn take_all(
     requires none { (x : ℕ) → x < length program.now.variables → slice_get values.old.items x ≡ Some None }
     ensures accepted { IsTrue result ↔ AreAccepted program.now inputs.now }
     ensures given { OnTrue result (Gives program.now.variables inputs.now values.new.items) }
+    ensures places { length values.new.items ≡ length values.old.items }
 {
     let variables = program.variables();
     for at in 0..inputs.len() {

@@ -14,6 +14,7 @@ mod joins;
 mod judging;
 mod kept_claim;
 mod leading;
+mod listed;
 mod living;
 mod onward;
 mod short_codes;

@@ -4,10 +4,13 @@ ghost use Rattle.std.specs.Prelude.{◌≡◌, IfSome, slice_set};
 ghost use Rattle.std.specs.Bool.{OnTrue};
 ghost use Rattle.buckets.specs.Rows.{HasRoom};
 ghost use Rattle.sc_graph.specs.Control.{status_of};
+ghost use Rattle.tick_core.specs.Inside.Astir.{Gains};
+ghost use Rattle.tick_core.specs.Inside.Sorting.{children_at};
 ghost use Rattle.tick_core.specs.Inside.Onward.{MayStep, Goes, LeadsOn, StaysAt, own_row};
 
 use crate::joins::Joins;
 use crate::kept_claim::KeptClaim;
+use crate::listed::Listed;
 use crate::living::count_after;
 use crate::sorting::{children_at, sort_after};
 use crate::stepping::take_step;
@@ -17,7 +20,7 @@ use sc_values::Value;
 
 /// Takes the step of an enabled thread without a claim that stands so, whose code has this value. The counts and rows
 /// are those behind it then: where the step concerns others too, whom it can have made enabled or not is counted and
-/// sorted anew. Gives how the thread stands where it stays in its row, so that it leads on.
+/// sorted anew, and the children whom it forks or leaves are listed. Gives how the thread stands where it stays in its row, so that it leads on.
 #[inline(always)]
 pub(crate) fn step_on(
     joins: &Joins,
@@ -28,6 +31,7 @@ pub(crate) fn step_on(
     control: &mut Control,
     living: &mut Vec<usize>,
     rows: &mut Rows,
+    listed: &mut Listed,
     thread: ThreadId,
     status: Status,
     value: Option<Value>,
@@ -37,6 +41,7 @@ pub(crate) fn step_on(
     requires standing { status ≡ status_of control.old thread }
     ensures goes { Goes program.now tables.now control.old control.new thread claims.now rows.old rows.new
         living.new.items }
+    ensures listed { Gains listed.old (children_at program.now (status_of control.old thread)) listed.new }
     ensures on { IfSome result (LeadsOn program.now tables.now control.old control.new thread rows.old) }
 {
     match take_step(joins, program, control, thread, status, value) {
@@ -53,6 +58,7 @@ pub(crate) fn step_on(
             sort_after(
                 program, tables, control, living, claims, claimed, rows, thread, children,
             );
+            listed.add_all(children);
             None
         }
     }

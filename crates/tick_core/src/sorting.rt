@@ -11,7 +11,7 @@ ghost use Rattle.tick_core.specs.Inside.Sorting.{AreOpen, OwnRows, AreSorted, st
 ghost use Rattle.tick_core.specs.Inside.Sorting.{sorted_parent, ended_parent, sorted_all, children_at, NodePriorities};
 ghost use Rattle.tick_core.specs.Inside.Sorting.{StandSorted};
 ghost use Rattle.buckets.specs.Rows.{AreEmpty};
-ghost use Rattle.tick_core.specs.Inside.There.{AllListed};
+ghost use Rattle.tick_core.specs.Inside.Astir.{AstirListed};
 ghost use Rattle.tick_core.specs.Inside.Waking.{EntersRow};
 
 use crate::joins::Joins;
@@ -215,8 +215,7 @@ pub(crate) fn sort_every(
     rows.settle();
 }
 
-/// Sorts the threads that are listed, as a tick begins without claims: nobody stood in a row, and nobody else is
-/// present.
+/// Sorts the threads that are listed, as a tick begins without claims: nobody stood in a row, and nobody else is astir.
 pub(crate) fn sort_listed(
     program: &Program,
     tables: &Tables,
@@ -228,7 +227,7 @@ pub(crate) fn sort_listed(
     requires counts { CountsLiving program.now control.now living.now }
     requires valid { IsValid program.now tables.now }
     requires configuration { IsConfiguration program.now control.now }
-    requires listed { AllListed control.now.statuses listed.now }
+    requires listed { AstirListed control.now.statuses listed.now }
     requires rows { OwnRows program.now tables.now rows.old }
     requires bare { AreEmpty rows.old }
     ensures { StandSorted program.now tables.now control.now rows.new }

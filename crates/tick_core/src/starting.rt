@@ -4,7 +4,8 @@ ghost use Rattle.std.specs.Prelude.{◌≡◌, IfOk, length, map};
 ghost use Rattle.sc_graph.specs.Tick.{Inputs, AreAccepted, given, value_at_start, values_at_start, woken, root_started};
 ghost use Rattle.sc_graph.specs.Tick.{statuses_at_start, start};
 ghost use Rattle.tick_core.specs.Inside.Given.{HasOwnNames, Gives};
-ghost use Rattle.tick_core.specs.Inside.There.{AllListed, woken_at};
+ghost use Rattle.tick_core.specs.Inside.There.{woken_at};
+ghost use Rattle.tick_core.specs.Inside.Astir.{AstirListed};
 
 use crate::copying::copied;
 use crate::given::Given;
@@ -33,7 +34,7 @@ pub(crate) fn started(
     Ok(control)
 }
 
-/// The same as `start` where all threads that are present are listed: it looks at no other.
+/// The same as `start` where all threads that are astir are listed: it looks at no other.
 pub(crate) fn start_listed(
     program: &Program,
     given: &[Option<Value>],
@@ -42,9 +43,11 @@ pub(crate) fn start_listed(
 )
     requires values { length control.old.variables ≡ length program.now.variables }
     requires given { length given.now ≡ length program.now.variables }
-    requires listed { AllListed control.old.statuses listed.now }
-    ensures { (inputs : Inputs) → Gives program.now.variables inputs given.now
+    requires listed { AstirListed control.old.statuses listed.now }
+    ensures start { (inputs : Inputs) → Gives program.now.variables inputs given.now
         → control.new ≡ start program.now inputs control.old }
+    ensures statuses { control.new.statuses ≡ statuses_at_start program.now control.old.statuses }
+    ensures values { length control.new.variables ≡ length control.old.variables }
 {
     start_values(program.variables(), given, &mut control.variables);
     start_listed_statuses(program, listed, &mut control.statuses);
@@ -65,8 +68,9 @@ pub(crate) fn start(program: &Program, given: &[Option<Value>], control: &mut Co
 fn start_values(variables: &[Variable], given: &[Option<Value>], values: &mut Items<Value>)
     requires values { length values.old ≡ length variables.now }
     requires given { length given.now ≡ length variables.now }
-    ensures { (inputs : Inputs) → Gives variables.now inputs given.now
+    ensures start { (inputs : Inputs) → Gives variables.now inputs given.now
         → values.new ≡ values_at_start inputs variables.now values.old }
+    ensures places { length values.new ≡ length values.old }
 {
     for x in 0..variables.len() {
         let present = values.as_slice()[x];
@@ -99,7 +103,7 @@ fn start_statuses(program: &Program, statuses: &mut Items<Status>)
 }
 
 fn start_listed_statuses(program: &Program, listed: &[ThreadId], statuses: &mut Items<Status>)
-    requires { AllListed statuses.old listed.now }
+    requires { AstirListed statuses.old listed.now }
     ensures { statuses.new ≡ statuses_at_start program.now statuses.old }
 {
     let root = statuses.get(0).copied();
@@ -110,7 +114,7 @@ fn start_listed_statuses(program: &Program, listed: &[ThreadId], statuses: &mut 
 }
 
 fn wake_listed(listed: &[ThreadId], statuses: &mut Items<Status>)
-    requires { AllListed statuses.old listed.now }
+    requires { AstirListed statuses.old listed.now }
     ensures { statuses.new ≡ map woken statuses.old }
 {
     for at in 0..listed.len() {

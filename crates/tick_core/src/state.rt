@@ -17,6 +17,7 @@ ghost use Rattle.tick_core.specs.Turns.{AreReady};
 mod claiming;
 mod ending;
 mod first_rows;
+mod going_on;
 mod listing;
 mod parking;
 mod running;
@@ -29,6 +30,7 @@ use crate::history::Entry;
 use crate::inputs::{Inputs, are_accepted};
 use crate::joins::Joins;
 use crate::kept_claim::KeptClaim;
+use crate::listed::Listed;
 use crate::sorting::rows_of;
 use crate::starting::{start, start_listed};
 use buckets::Rows;
@@ -96,8 +98,8 @@ pub struct TickState<'a> {
     living: Vec<usize>,
     // what was given to the variables
     given: Given,
-    // the threads that were present as the tick began
-    listed: Vec<ThreadId>,
+    // the threads that the next tick has to look at
+    listed: Listed,
 }
 
 impl<'a> Model for TickState<'a> {
@@ -107,7 +109,7 @@ impl<'a> Model for TickState<'a> {
     ghost use Rattle.tick_core.specs.Inside.Joins.{FindsForks};
     ghost use Rattle.tick_core.specs.Inside.Living.{CountsLiving};
     ghost use Rattle.tick_core.specs.Inside.Sorting.{AreSorted};
-    ghost use Rattle.tick_core.specs.Inside.There.{AllListed};
+    ghost use Rattle.tick_core.specs.Inside.Astir.{FitsTick};
     ghost use Rattle.tick_core.specs.Inside.Turns.{OpenAt};
 
     ghost Value = { InTick };
@@ -137,8 +139,7 @@ impl<'a> Model for TickState<'a> {
           claims = s.claims.items;
         }) s.claimed s.level × CountsLiving s.verified.now.program s.present s.living.items
         × (length s.given ≡ length s.verified.now.program.variables)
-        × (length s.verified.now.program.threads ≤ vec_capacity s.listed)
-        × AllListed s.begun.statuses s.listed.items };
+        × FitsTick s.verified.now.program s.begun s.present s.listed };
 }
 
 /// What the ticks of one verified image take over from one another: the image, and the room that they
@@ -227,6 +228,7 @@ impl<'a> TickSpace<'a> {
         let living = vec![in alloc; 0; program.threads().len()]?;
         let given = Given::of(alloc, program)?;
         let listed = Vec::with_capacity(alloc, program.threads().len())?;
+        let places = vec![in alloc; 0; program.threads().len()]?;
         let spare = Control::initial(alloc, program)?;
         let room = ParkedSpace {
             joins,
@@ -238,6 +240,7 @@ impl<'a> TickSpace<'a> {
             given,
             spare,
             listed,
+            places,
         };
         Ok(TickSpace { verified, room })
     }

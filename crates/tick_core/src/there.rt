@@ -1,14 +1,15 @@
 //! The threads that are present as a tick begins, found from the root on: who is absent is never looked at.
 
-ghost use Rattle.std.specs.Prelude.{◌≡◌, ◌≤◌, ◌+◌, ◌++◌, count_by, length, slice_set, vec_capacity};
+ghost use Rattle.std.specs.Prelude.{ℕ, ◌≡◌, ◌<◌, ◌≤◌, ◌+◌, ◌++◌, Contains, List, count_by, length, slice_set};
+ghost use Rattle.std.specs.Prelude.{vec_capacity};
 ghost use Rattle.std.specs.Bool.{OnTrue};
-ghost use Rattle.sc_graph.specs.declared.control.Control.{Control as Configuration};
 ghost use Rattle.sc_graph.specs.Control.{status_of};
 ghost use Rattle.sc_graph.specs.Tick.{IsConfiguration};
 ghost use Rattle.sc_graph.specs.Valid.{IsFormed};
 ghost use Rattle.tick_core.specs.Inside.Joins.{FindsForks};
 ghost use Rattle.tick_core.specs.Inside.Living.{CountsLiving, lives};
 ghost use Rattle.tick_core.specs.Inside.There.{AllListed, AreAbsent, AreListed, children_waited, waited_at, copied_at};
+ghost use Rattle.tick_core.specs.Inside.Astir.{ChangedListed};
 
 use crate::copying::copy_items;
 use crate::joins::Joins;
@@ -132,7 +133,7 @@ fn list_some(control: &Control, threads: &[ThreadId], listed: &mut Vec<ThreadId>
 /// Lists all threads. So many may be listed.
 pub(crate) fn list_everybody(program: &Program, listed: &mut Vec<ThreadId>)
     requires { length program.now.threads ≤ vec_capacity listed.old }
-    ensures listed { (c : Configuration) → IsConfiguration program.now c → AllListed c.statuses listed.new.items }
+    ensures listed { (t : ℕ) → t < length program.now.threads → Contains listed.new.items t }
     ensures room { vec_capacity listed.new ≡ vec_capacity listed.old }
 {
     listed.clear();
@@ -153,11 +154,29 @@ pub(crate) fn clear_listed(listed: &[ThreadId], statuses: &mut Items<Status>)
     }
 }
 
-// Makes these threads stand as in other statuses, in which nobody else is present: where nobody was, all statuses are
-// the same then.
+/// Makes everybody absent, unless all that are present are listed.
+pub(crate) fn clear_unlisted(is_all: bool, statuses: &mut Items<Status>)
+    ensures listed { (threads : List ℕ) → OnTrue is_all (AllListed statuses.old threads)
+        → AllListed statuses.new threads }
+    ensures places { length statuses.new ≡ length statuses.old }
+{
+    if !is_all {
+        clear_all(statuses);
+    }
+}
+
+fn clear_all(statuses: &mut Items<Status>)
+    ensures absent { AreAbsent statuses.new }
+    ensures places { length statuses.new ≡ length statuses.old }
+{
+    for thread in 0..statuses.len() {
+        statuses.set(thread, Status::Absent);
+    }
+}
+
+// Makes these threads stand as in other statuses: where nobody else stood otherwise, all statuses are the same then.
 fn copy_listed(listed: &[ThreadId], from: &[Status], to: &mut Items<Status>)
-    requires listed { AllListed from.now listed.now }
-    requires absent { AreAbsent to.old }
+    requires listed { ChangedListed from.now to.old listed.now }
     requires places { length to.old ≡ length from.now }
     ensures { to.new ≡ from.now }
 {
@@ -167,10 +186,9 @@ fn copy_listed(listed: &[ThreadId], from: &[Status], to: &mut Items<Status>)
     }
 }
 
-/// Makes a configuration in which nobody is present the same as another, in which all that are present are listed.
-pub(crate) fn copy_present(listed: &[ThreadId], from: &Control, to: &mut Control)
-    requires listed { AllListed from.now.statuses listed.now }
-    requires absent { AreAbsent to.old.statuses }
+/// Makes a configuration the same as another, where whoever stands otherwise in it is listed.
+pub(crate) fn copy_changed(listed: &[ThreadId], from: &Control, to: &mut Control)
+    requires listed { ChangedListed from.now.statuses to.old.statuses listed.now }
     requires values { length to.old.variables ≡ length from.now.variables }
     requires statuses { length to.old.statuses ≡ length from.now.statuses }
     ensures { to.new ≡ from.now }

@@ -2,6 +2,8 @@
 
 ghost use Rattle.std.specs.Prelude.{◌≡◌, ◌↔◌, IfOk};
 ghost use Rattle.std.specs.Result.{IsErrOf};
+ghost use Rattle.sc_values.specs.Runs.{IsOver};
+ghost use Rattle.sc_graph.specs.Machine.{machine};
 ghost use Rattle.sc_graph.specs.Tick.{Rests, AreAccepted};
 ghost use Rattle.worker_pool.specs.Ticks.{Ended};
 ghost use Rattle.worker_pool.specs.Inside.Stretches.{EndsTick};
@@ -43,6 +45,33 @@ impl<'r, 'x, J: OfImage, G: Gate> Team<'r, 'x, J, G> {
         ensures refused { IsErrOf result BeginFault.Input ↔ ¬ (AreAccepted J.image.program inputs.now) }
     {
         let state = room.go_on(control, inputs)?;
+        let state = self.complete(rt, scope, alloc, state)?;
+        Ok(state)
+    }
+
+    /// Runs the next tick of the shared image as `tick` does, from where one ended.
+    pub fn go_on<'s, R, E>(
+        &mut self,
+        rt: &'s R,
+        scope: &'s Scope<'s, E>,
+        alloc: Global,
+        state: TickState<'x>,
+        inputs: &Inputs,
+    ) -> Result<TickState<'x>, BeginFault>
+    where
+        R: Wait + Sync,
+        J: Send + Sync + 's,
+        G: Sync + 's,
+        E: 's,
+        'r: 's,
+        'x: 's,
+        requires image { state.image ≡ J.image }
+        requires over { IsOver (machine J.image.program) state.present }
+        ensures ended { IfOk result (Ended J.image inputs.now state.entry.present) }
+        ensures refused { IsErrOf result BeginFault.Input ↔ ¬ (AreAccepted J.image.program inputs.now) }
+    {
+        let mut state = state;
+        state.go_on(inputs)?;
         let state = self.complete(rt, scope, alloc, state)?;
         Ok(state)
     }

@@ -1,5 +1,5 @@
 -- The threads that are present as a tick begins, in a list.
-use Rattle.std.specs.Prelude.{ℕ, ◌≡◌, ◌<◌, ◌⊎◌, Option, Some, None, List, [], Contains, length, map, slice_get, slice_index, slice_set}
+use Rattle.std.specs.Prelude.{ℕ, ◌≡◌, ◌<◌, ◌≤◌, ◌⊎◌, Option, Some, None, List, [], Contains, length, map, slice_get, slice_index, slice_set}
 use Rattle.sc_graph.specs.declared.control.Control.{Control}
 use Rattle.sc_graph.specs.declared.control.Status.{Status}
 use Rattle.sc_graph.specs.declared.control.Status.TheVariants as status
@@ -21,6 +21,10 @@ pub record AreListed (statuses : List Status) (threads : List ℕ) : Type 0 wher
 -- nobody is present
 pub record AreAbsent (statuses : List Status) : Type 0 where
   pub each : (t : ℕ) (s : Status) → slice_get statuses t ≡ Some s → s ≡ status.Absent
+
+-- of the threads below n nobody is present
+pub record AbsentBelow (statuses : List Status) (n : ℕ) : Type 0 where
+  pub each : (t : ℕ) (s : Status) → t < n → slice_get statuses t ≡ Some s → s ≡ status.Absent
 
 -- the children for whom a thread that stands so waits
 abbrev pub children_waited : Program → Status → List ℕ
@@ -77,8 +81,13 @@ copied_by to t (Some s) = slice_set to t s
 abbrev pub copied_at : List Status → List Status → ℕ → List Status
 copied_at from to t = copied_by to t (slice_get from t)
 
--- the threads at places below n in the list stand as in the other statuses, and nobody else is present
+-- thread t stands in the list at a place from n on
+pub record StandsFrom (threads : List ℕ) (n t : ℕ) : Type 0 where
+  pub at : ℕ
+  pub past : n ≤ at
+  pub is : slice_get threads at ≡ Some t
+
+-- whoever does not stand in the list from place n on stands as in the other statuses
 pub record CopiedBelow (from to : List Status) (threads : List ℕ) (n : ℕ) : Type 0 where
   pub long : length to ≡ length from
-  pub copied : (i t : ℕ) → i < n → slice_get threads i ≡ Some t → slice_get to t ≡ slice_get from t
-  pub rest : (t : ℕ) (s : Status) → slice_get to t ≡ Some s → (s ≡ status.Absent) ⊎ (slice_get from t ≡ Some s)
+  pub rest : (t : ℕ) → StandsFrom threads n t ⊎ (slice_get to t ≡ slice_get from t)

@@ -17,12 +17,14 @@ ghost use Rattle.tick_core.specs.Inside.Turns.{DropsClaims, IsNext};
 
 use crate::history::{Entry, Report};
 use crate::kept_claim::KeptClaim;
+use crate::listed::Listed;
 use crate::onward::step_on;
 use crate::short_codes::short_value;
 use crate::sorting::sort_every;
 use crate::state::claiming::close_one;
 use crate::state::{ParkedSpace, TickSpace, TickState};
 use crate::stepping::code_at;
+use crate::there::clear_unlisted;
 use sc_graph::{Control, Status, ThreadId};
 use sc_values::{CheckedCode, Kind, Operands, Value, eval};
 use sqlite_items::Items;
@@ -83,6 +85,7 @@ impl<'a> TickState<'a> {
             &mut self.present,
             &mut self.living,
             &mut self.rows,
+            &mut self.listed,
             thread,
             status,
             value,
@@ -111,6 +114,18 @@ impl<'a> TickState<'a> {
         (present, Report::of(Items::from_vec(history)))
     }
 
+    /// Of a tick that is over: the configuration in which it ended, as of `finish`, from which `go_on` begins the next.
+    pub fn end(&self) -> &Control
+        requires { IsOver (machine self.now.image.program) self.now.present }
+        ensures present { result.now ≡ self.now.present }
+        ensures rests { Rests self.now.image.program result.now }
+        ensures tick { WholeTick self.now.image self.now.begun (threads_of self.now.history) result.now }
+        ensures by_priority { PriorityRun self.now.image.program self.now.image.tables
+            (threads_of self.now.history) self.now.begun result.now }
+    {
+        &self.present
+    }
+
     /// Of a tick that is over: the configuration in which it ended, as of `finish`, and the room for the
     /// next tick of the image. The room keeps that of the history, which is to be read before.
     pub fn hand_over(self) -> (Control, TickSpace<'a>)
@@ -127,7 +142,7 @@ impl<'a> TickState<'a> {
             joins,
             rows,
             variable_kinds,
-            begun,
+            mut begun,
             present,
             history,
             claims,
@@ -137,6 +152,13 @@ impl<'a> TickState<'a> {
             given,
             listed,
         } = self;
+        let Listed {
+            threads,
+            places,
+            is_all,
+            is_whole: _,
+        } = listed;
+        clear_unlisted(is_all, &mut begun.statuses);
         let space = TickSpace {
             verified,
             room: ParkedSpace {
@@ -148,7 +170,8 @@ impl<'a> TickState<'a> {
                 living,
                 given,
                 spare: begun,
-                listed,
+                listed: threads,
+                places,
             },
         };
         (present, space)

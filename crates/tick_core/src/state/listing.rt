@@ -4,16 +4,19 @@ ghost use Rattle.std.specs.Prelude.{◌≡◌};
 ghost use Rattle.std.specs.Bool.{OnTrue};
 ghost use Rattle.buckets.specs.Rows.{AreEmpty};
 ghost use Rattle.sc_graph.specs.Tick.{IsConfiguration};
+ghost use Rattle.sc_graph.specs.Valid.{IsValid};
 ghost use Rattle.tick_core.specs.Again.{begun_again};
 ghost use Rattle.tick_core.specs.Parked.{IsSpaceOf};
 ghost use Rattle.tick_core.specs.State.{BeginsTick};
 ghost use Rattle.tick_core.specs.Inside.Living.{CountsLiving};
-ghost use Rattle.tick_core.specs.Inside.There.{AllListed, AreAbsent, AreListed};
+ghost use Rattle.tick_core.specs.Inside.Sorting.{StandSorted};
+ghost use Rattle.tick_core.specs.Inside.There.{AreAbsent, AreListed};
 
 use crate::copying::copy_into;
+use crate::listed::Listed;
 use crate::sorting::sort_listed;
 use crate::state::{ParkedSpace, TickSpace, TickState};
-use crate::there::{clear_listed, copy_present, list_all, list_everybody};
+use crate::there::{clear_listed, copy_changed, list_all, list_everybody};
 use crate::waking::count_and_sort;
 use sc_graph::{Control, Program};
 use verifier::Verified;
@@ -56,48 +59,20 @@ impl<'a> TickSpace<'a> {
         requires { BeginsTick self.program begun }
         ensures { result ≡ begun_again self.entry begun }
     {
-        let TickSpace {
-            verified,
-            room: ParkedSpace {
-                joins,
-                mut rows,
-                variable_kinds,
-                mut history,
-                claims,
-                mut living,
-                given,
-                spare: mut present,
-                mut listed,
-            },
-        } = self;
+        let TickSpace { verified, mut room } = self;
         let image = verified.image();
         let program = image.program();
-        copy_into(&begun, &mut present);
-        history.clear();
-        list_everybody(program, &mut listed);
+        copy_into(&begun, &mut room.spare);
+        list_everybody(program, &mut room.listed);
         count_and_sort(
-            &joins,
+            &room.joins,
             program,
             image.tables(),
-            &present,
-            &mut living,
-            &mut rows,
+            &room.spare,
+            &mut room.living,
+            &mut room.rows,
         );
-        TickState {
-            verified,
-            joins,
-            rows,
-            variable_kinds,
-            begun,
-            present,
-            history,
-            claims,
-            claimed: 0,
-            level: 0,
-            living,
-            given,
-            listed,
-        }
+        begin_in(verified, room, begun)
     }
 }
 
@@ -110,34 +85,58 @@ pub(super) fn begin_listed<'a>(
 ) -> TickState<'a>
     requires space { IsSpaceOf verified.now room }
     requires begins { BeginsTick verified.now.program begun }
-    requires listed { AllListed begun.statuses room.listed.items }
+    requires listed { AreListed begun.statuses room.listed.items }
     requires counted { CountsLiving verified.now.program begun room.living.items }
     requires bare { AreEmpty room.rows }
     requires absent { AreAbsent room.spare.statuses }
     ensures { result ≡ begun_again verified.now begun }
 {
+    let mut room = room;
+    let image = verified.image();
+    copy_changed(room.listed.as_slice(), &begun, &mut room.spare);
+    sort_listed(
+        image.program(),
+        image.tables(),
+        &room.spare,
+        &room.living,
+        room.listed.as_slice(),
+        &mut room.rows,
+    );
+    begin_in(verified, room, begun)
+}
+
+// Begins a tick again in a room that holds the configuration in which it begins, all of whose threads are counted and
+// sorted, and those that are present listed.
+#[inline(always)]
+fn begin_in<'a>(verified: &'a Verified, room: ParkedSpace, begun: Control) -> TickState<'a>
+    requires space { IsSpaceOf verified.now room }
+    requires valid { IsValid verified.now.program verified.now.tables }
+    requires begins { BeginsTick verified.now.program begun }
+    requires same { room.spare ≡ begun }
+    requires listed { AreListed begun.statuses room.listed.items }
+    requires counted { CountsLiving verified.now.program begun room.living.items }
+    requires sorted { StandSorted verified.now.program verified.now.tables begun room.rows }
+    ensures { result ≡ begun_again verified.now begun }
+{
     let ParkedSpace {
         joins,
-        mut rows,
+        rows,
         variable_kinds,
         mut history,
         claims,
         living,
         given,
-        spare: mut present,
-        listed,
+        spare: present,
+        listed: threads,
+        places,
     } = room;
-    let image = verified.image();
-    copy_present(listed.as_slice(), &begun, &mut present);
     history.clear();
-    sort_listed(
-        image.program(),
-        image.tables(),
-        &present,
-        &living,
-        listed.as_slice(),
-        &mut rows,
-    );
+    let listed = Listed {
+        threads,
+        places,
+        is_whole: true,
+        is_all: true,
+    };
     TickState {
         verified,
         joins,

@@ -29,8 +29,9 @@ pub struct ParkedSpace {
     pub(super) given: Given,
     // a configuration of the program, or like one
     pub(super) spare: Control,
-    // the threads that are present in it, with room for each thread
+    // the threads that are present in it, with room for each thread, and a place for where each one stands there
     pub(super) listed: Vec<ThreadId>,
+    pub(super) places: Vec<usize>,
 }
 
 impl ParkedSpace {

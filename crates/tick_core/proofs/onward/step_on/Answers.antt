@@ -1,7 +1,10 @@
-use Rattle.std.proofs.Common.{refl, sym, subst}
+use Rattle.std.proofs.Common.{◌∙◌, ap, refl, sym, subst}
 use Rattle.std.specs.Bool.{OnTrue}
 use Rattle.tick_core.specs.Inside.Living.{CountsLiving}
 use Rattle.tick_core.specs.Inside.Onward.{StaysAt}
+use Rattle.tick_core.specs.Inside.Astir.{Gains}
+use Rattle.tick_core.specs.Inside.Sorting.{children_at}
+use Rattle.tick_core.proofs.Covered.{gains_nobody}
 use Rattle.tick_core.proofs.LivingChildren.{counts_after}
 use Rattle.tick_core.proofs.NextSteps.{next_room, moves_on, steps_anew, leads_on}
 use Rattle.tick_core.proofs.Unmoved.{stays_configuration, children_in_at}
@@ -62,3 +65,14 @@ returns-in-None-clause-goes c =
     c.args.program.now _ refl refl c.count_after.ensures)
     c.args.status c.children_at-children.result.now c.requires.standing c.children_at-children.ensures c.sort_after.ensures.sorted
     c.sort_after.ensures.rows
+
+pub returns-then-move_on-clause-listed : goal.returns-then-move_on-clause-listed
+returns-then-move_on-clause-listed c = gains_nobody c.args.listed.now _ c.in-Some.ensures.alone.alone
+
+pub returns-else-move_on-clause-listed : goal.returns-else-move_on-clause-listed
+returns-else-move_on-clause-listed c = gains_nobody c.args.listed.now _ c.in-Some.ensures.alone.alone
+
+pub returns-in-None-clause-listed : goal.returns-in-None-clause-listed
+returns-in-None-clause-listed c =
+    subst (λ ks. Gains c.args.listed.now ks c.add_all.new.self)
+    (c.children_at-children.ensures ∙ ap (children_at c.args.program.now) c.requires.standing) c.add_all.ensures

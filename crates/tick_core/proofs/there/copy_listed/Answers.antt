@@ -1,11 +1,11 @@
-use Rattle.std.proofs.Common.{◌≡◌, ◌+◌, Some, slice_get, get_or, refl, sym, subst, arith}
+use Rattle.std.proofs.Common.{◌≡◌, ◌+◌, Some, slice_get, get_or, sym, subst, arith}
 use Rattle.std.proofs.lemmas.Option.{slice_get-get_or}
 use Rattle.tick_core.specs.Inside.There.{CopiedBelow}
 use Rattle.tick_core.proofs.ListedCopied.{copied_none, copied_more, all_copied}
 use Rattle.tick_core.proofs.there.copy_listed.Goals as goal
 
 pub loop-at-init : goal.loop-at-init
-loop-at-init c = copied_none c.args.from.now c.args.to.now c.args.listed.now c.requires.places c.requires.absent
+loop-at-init c = copied_none c.args.from.now c.args.to.now c.args.listed.now c.requires.places c.requires.listed
 
 pub loop-at-preserved : goal.loop-at-preserved
 loop-at-preserved c =
@@ -16,4 +16,4 @@ loop-at-preserved c =
 
 pub returns : goal.returns
 returns c =
-    all_copied c.args.from.now c.loop-at.to c.args.listed.now c.loop-at.at (omega (arith, c.loop-at-test.false)) c.requires.listed c.loop-at.invariant
+    all_copied c.args.from.now c.loop-at.to c.args.listed.now c.loop-at.at (omega (arith, c.loop-at-test.false)) c.loop-at.invariant

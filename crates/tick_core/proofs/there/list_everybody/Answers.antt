@@ -1,5 +1,5 @@
 use Rattle.std.proofs.Common.{Contains, sym, subst, arith}
-use Rattle.tick_core.proofs.ListedThreads.{everybody_listed, push_each}
+use Rattle.tick_core.proofs.ListedThreads.{push_each}
 use Rattle.tick_core.proofs.there.list_everybody.Goals as goal
 
 pub loop-thread-preserved : goal.loop-thread-preserved
@@ -12,6 +12,4 @@ loop-thread-preserved c =
     }
 
 pub returns-clause-listed : goal.returns-clause-listed
-returns-clause-listed c = λ d ok.
-    everybody_listed c.args.program.now d c.loop-thread.listed.items ok
-    (λ t below. c.loop-thread.invariant.each t (omega (arith, below, c.loop-thread-test.false, c.thread_count-thread-end.ensures.count)))
+returns-clause-listed c = λ t below. c.loop-thread.invariant.each t (omega (arith, below, c.loop-thread-test.false, c.thread_count-thread-end.ensures.count))

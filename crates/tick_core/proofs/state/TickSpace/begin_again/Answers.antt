@@ -1,14 +1,12 @@
-use Rattle.std.proofs.Common.{◌∙◌, None, length, arith, refl, ap, sym, subst}
-use Rattle.std.proofs.lemmas.List.{length-map}
+use Rattle.std.proofs.Common.{◌<◌, ◌∙◌, length, arith, ap, sym, subst}
 use Rattle.sc_graph.specs.Tick.{IsConfiguration}
 use Rattle.sc_graph.specs.Valid.{IsValid}
+use Rattle.sc_graph.specs.declared.control.Control.{Control}
 use Rattle.tick_core.specs.State.{BeginsTick}
 use Rattle.tick_core.specs.Inside.Living.{CountsLiving}
 use Rattle.tick_core.specs.Inside.Sorting.{OwnRows, StandSorted}
-use Rattle.tick_core.specs.Inside.There.{AllListed}
-use Rattle.tick_core.proofs.StateKept.{holds_begun, no_claims_at}
-use Rattle.tick_core.proofs.Counts.{sorted_free, none_open_at}
-use Rattle.tick_core.proofs.Opened.{none_counted}
+use Rattle.tick_core.specs.Inside.There.{AllListed, AreListed}
+use Rattle.tick_core.proofs.Covered.{everybody_there}
 use Rattle.tick_core.proofs.StartKept.{begins_configuration}
 use Rattle.tick_core.proofs.state.TickSpace.begin_again.Goals as goal
 
@@ -41,37 +39,53 @@ count_and_sort-requires-clause-rows c =
     (subst (λ q. OwnRows c.self.inside.verified.now.program q c.self.inside.room.rows)
     (sym (c.tables.ensures.value ∙ ap (λ i. i.tables) c.image-image.ensures.value)) c.self.invariant.rows)
 
-pub invariant_of-result : goal.invariant_of-result
-invariant_of-result c =
-    let begins : BeginsTick c.self.inside.verified.now.program c.args.begun =
-    subst (λ i. BeginsTick i.program c.args.begun) (sym c.self.view_is) c.requires in (
-      holds_begun c.self.inside.verified.now begins.resting begins.inputs _ c.image-image.ensures.valid begins.rests
-          (record {
-            accepted = begins.accepted;
-            image_is = refl;
-            begun_is = begins.is;
-            present_is = c.copy_into.ensures ∙ begins.is;
-            no_step = c.clear.ensures.items;
-            claims_are = c.self.invariant.no_claim;
-          }),
-      c.self.invariant.kinds_are,
-      omega (arith, c.self.invariant.history, c.clear.ensures.capacity),
-      c.self.invariant.forks,
-      sorted_free c.self.inside.verified.now.program c.self.inside.verified.now.tables c.copy_into.new.to c.self.inside.room.claims.items
-          c.count_and_sort.new.rows
-          (ap length c.self.invariant.no_claim ∙ length-map c.self.inside.verified.now.program.threads (λ _. None))
-          (none_counted c.self.inside.room.claims.items
-          (no_claims_at c.self.inside.verified.now.program.threads c.self.inside.room.claims.items c.self.invariant.no_claim))
-          (subst (λ q. StandSorted c.self.inside.verified.now.program q c.copy_into.new.to c.count_and_sort.new.rows)
-          (c.tables.ensures.value ∙ ap (λ i. i.tables) c.image-image.ensures.value)
-          (subst (λ p. StandSorted p c.tables.result.now c.copy_into.new.to c.count_and_sort.new.rows)
-          (c.program-program.ensures ∙ ap (λ i. i.program) c.image-image.ensures.value) c.count_and_sort.ensures.sorted)),
-      none_open_at _ 0 (no_claims_at c.self.inside.verified.now.program.threads c.self.inside.room.claims.items c.self.invariant.no_claim),
-      subst (λ p. CountsLiving p c.copy_into.new.to c.count_and_sort.new.counts.items)
-          (c.program-program.ensures ∙ ap (λ i. i.program) c.image-image.ensures.value) c.count_and_sort.ensures.counted,
-      c.self.invariant.given,
-      omega (arith, c.self.invariant.listed, c.list_everybody.ensures.room),
-      subst (λ p. IsConfiguration p c.args.begun → AllListed c.args.begun.statuses c.list_everybody.new.listed.items)
-          (c.program-program.ensures ∙ ap (λ i. i.program) c.image-image.ensures.value) (c.list_everybody.ensures.listed c.args.begun)
-          (begins_configuration c.self.inside.verified.now c.args.begun c.image-image.ensures.valid begins),
-    )
+pub begin_in-requires-clause-begins : goal.begin_in-requires-clause-begins
+begin_in-requires-clause-begins c = subst (λ i. BeginsTick i.program c.args.begun) (sym c.self.view_is) c.requires
+
+pub begin_in-requires-clause-listed : goal.begin_in-requires-clause-listed
+begin_in-requires-clause-listed c =
+    let p_is = c.program-program.ensures ∙ ap (λ i. i.program) c.image-image.ensures.value in
+    let begins : BeginsTick c.self.inside.verified.now.program c.args.begun = subst (λ i. BeginsTick i.program c.args.begun) (sym c.self.view_is) c.requires in
+    everybody_there c.self.inside.verified.now.program c.self.inside.verified.now.tables c.image-image.ensures.valid c.args.begun
+    c.list_everybody.new.listed.items (begins_configuration c.self.inside.verified.now c.args.begun c.image-image.ensures.valid begins)
+    (λ t below. c.list_everybody.ensures.listed t (subst (λ p. t < length p.threads) (sym p_is) below))
+
+pub begin_in-requires-clause-counted : goal.begin_in-requires-clause-counted
+begin_in-requires-clause-counted c =
+    let p_is = c.program-program.ensures ∙ ap (λ i. i.program) c.image-image.ensures.value in
+    subst (λ d. CountsLiving c.self.inside.verified.now.program d c.count_and_sort.new.counts.items) c.copy_into.ensures
+    (subst (λ p. CountsLiving p c.copy_into.new.to c.count_and_sort.new.counts.items) p_is c.count_and_sort.ensures.counted)
+
+pub begin_in-requires-clause-sorted : goal.begin_in-requires-clause-sorted
+begin_in-requires-clause-sorted c =
+    let p_is = c.program-program.ensures ∙ ap (λ i. i.program) c.image-image.ensures.value in
+    let q_is = c.tables.ensures.value ∙ ap (λ i. i.tables) c.image-image.ensures.value in
+    subst (λ d. StandSorted c.self.inside.verified.now.program c.self.inside.verified.now.tables d c.count_and_sort.new.rows) c.copy_into.ensures
+    (subst (λ q. StandSorted c.self.inside.verified.now.program q c.copy_into.new.to c.count_and_sort.new.rows) q_is
+    (subst (λ p. StandSorted p c.tables.result.now c.copy_into.new.to c.count_and_sort.new.rows) p_is c.count_and_sort.ensures.sorted))
+
+pub begin_in-requires-clause-space : goal.begin_in-requires-clause-space
+begin_in-requires-clause-space c =
+    let p_is = c.program-program.ensures ∙ ap (λ i. i.program) c.image-image.ensures.value in
+    let q_is = c.tables.ensures.value ∙ ap (λ i. i.tables) c.image-image.ensures.value in
+    let begins : BeginsTick c.self.inside.verified.now.program c.args.begun = subst (λ i. BeginsTick i.program c.args.begun) (sym c.self.view_is) c.requires in
+    let ok = begins_configuration c.self.inside.verified.now c.args.begun c.image-image.ensures.valid begins in
+    let listed : AreListed c.args.begun.statuses c.list_everybody.new.listed.items =
+    everybody_there c.self.inside.verified.now.program c.self.inside.verified.now.tables c.image-image.ensures.valid c.args.begun
+    c.list_everybody.new.listed.items ok (λ t below. c.list_everybody.ensures.listed t (subst (λ p. t < length p.threads) (sym p_is) below)) in
+    record {
+      kinds_are = c.self.invariant.kinds_are;
+      no_claim = c.self.invariant.no_claim;
+      forks = c.self.invariant.forks;
+      rows = subst (λ q. OwnRows c.self.inside.verified.now.program q c.count_and_sort.new.rows) q_is
+          (subst (λ p. OwnRows p c.tables.result.now c.count_and_sort.new.rows) p_is c.count_and_sort.ensures.sorted.own_rows);
+      history = c.self.invariant.history;
+      living = c.count_and_sort.ensures.counted.long ∙ ap (λ p. length p.threads) p_is;
+      given = c.self.invariant.given;
+      listed = omega (arith, c.self.invariant.listed, c.list_everybody.ensures.room);
+      present = subst (λ (d : Control). AllListed d.statuses c.list_everybody.new.listed.items) (sym c.copy_into.ensures) listed.all;
+      spare = record {
+        values = ap (λ (d : Control). length d.variables) c.copy_into.ensures ∙ ok.values;
+        statuses = ap (λ (d : Control). length d.statuses) c.copy_into.ensures ∙ ok.threads;
+      };
+    }

@@ -2,12 +2,14 @@ use Rattle.std.proofs.Common.{◌∙◌, length, length-set, refl, sym, ap, subs
 use Rattle.std.specs.Prelude.{IfSome, count_by, is_some}
 use Rattle.sc_graph.specs.Control.{status_of}
 use Rattle.tick_laws.proofs.Lists.{get_set_same}
-use Rattle.tick_core.specs.Inside.Sorting.{AreSorted}
+use Rattle.tick_core.specs.Inside.Astir.{Gains}
+use Rattle.tick_core.specs.Inside.Sorting.{AreSorted, children_at}
 use Rattle.tick_core.specs.Inside.Onward.{MayStep, Goes, LeadsOn}
 use Rattle.tick_core.specs.Inside.Work.{value_at}
 use Rattle.tick_core.specs.State.{InTick}
 use Rattle.tick_core.proofs.StateKept.{configuration, leads_at, step_is_defined, has_room, has_place, kept_advanced}
 use Rattle.tick_core.proofs.Counts.{open_advanced}
+use Rattle.tick_core.proofs.Covered.{fits_stepped}
 use Rattle.tick_core.proofs.LeadingThreads.{leads_next}
 use Rattle.tick_core.proofs.state.TickState.advance.Goals as goal
 
@@ -86,8 +88,11 @@ invariant_of-self c =
           c.close_one.ensures.counted,
       steps.counts,
       c.self.invariant.7,
-      c.self.invariant.8,
-      c.self.invariant.9,
+      fits_stepped c.self.inside.verified.now.program c.self.inside.verified.now.tables c.self.invariant.0.valid c.self.inside.present
+          c.step_on-next.new.control (configuration _ c.self.invariant.0) c.args.thread leads.enabled steps.stepped c.self.inside.begun c.self.inside.listed
+          c.step_on-next.new.listed c.self.invariant.8
+          (subst (λ p. Gains c.self.inside.listed (children_at p (status_of c.self.inside.present c.args.thread)) c.step_on-next.new.listed) program_is
+          c.step_on-next.ensures.listed),
     )
 
 pub returns-clause-next : goal.returns-clause-next

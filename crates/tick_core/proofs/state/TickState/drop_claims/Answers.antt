@@ -43,7 +43,6 @@ invariant_of-self c = (
   c.self.invariant.6,
   c.self.invariant.7,
   c.self.invariant.8,
-  c.self.invariant.9,
 )
 
 pub returns-else-self-gt0 : goal.returns-else-self-gt0

@@ -1,4 +1,4 @@
-use Rattle.std.proofs.Common.{ap, refl}
+use Rattle.std.proofs.Common.{◌∙◌, ap, refl}
 use Rattle.tick_core.proofs.StateKept.{finished, none_open}
 use Rattle.tick_core.proofs.StartKept.{begun_places}
 use Rattle.tick_core.proofs.state.TickState.hand_over.Goals as goal
@@ -13,9 +13,12 @@ invariant_of-space c =
       history = c.self.invariant.2;
       living = c.self.invariant.6.long;
       given = c.self.invariant.7;
-      listed = c.self.invariant.8;
-      present = c.self.invariant.9;
-      spare = begun_places _ c.self.invariant.0;
+      listed = c.self.invariant.8.room;
+      present = c.clear_unlisted.ensures.listed c.self.inside.listed.threads.items c.self.invariant.8.all;
+      spare = record {
+        values = (begun_places _ c.self.invariant.0).values;
+        statuses = c.clear_unlisted.ensures.places ∙ (begun_places _ c.self.invariant.0).statuses;
+      };
     }
 
 pub returns-clause-rests : goal.returns-clause-rests
