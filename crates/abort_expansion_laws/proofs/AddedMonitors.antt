@@ -11,12 +11,12 @@ use Rattle.core_charts.specs.declared.region.Transition.{Transition}
 use Rattle.chart_machine.specs.declared.table.Table.{Table}
 use Rattle.chart_machine.specs.declared.table.TablePosition.{TablePosition}
 use Rattle.chart_machine.specs.Table.{states_in, region_numbers, side_by_side}
-use Rattle.chart_machine.specs.Table.{piece_of_region as table_of_region}
+use Rattle.chart_machine.specs.Table.{subtree_of_region as table_of_region}
 use Rattle.abort_expansion.specs.declared.flags.Flags.{Flags}
 use Rattle.abort_expansion.specs.Superstates.{watched, monitor, monitor_transitions}
 use Rattle.abort_expansion.specs.Expansion.{piece_of_region}
 use Rattle.chart_machine_laws.specs.Tree.{around}
-use Rattle.chart_machine_laws.proofs.RowsOfPieces.{Holds, AllSized}
+use Rattle.chart_machine_laws.proofs.RowsOfSubtrees.{Holds, AllSized}
 use Rattle.abort_expansion_laws.proofs.SideRows.{side_head}
 use Rattle.abort_expansion_laws.proofs.Walked.{ValuesAt}
 use Rattle.abort_expansion_laws.proofs.RowsOfForks.{region_around, MonitorRows, monitor_rows, monitor_sized}

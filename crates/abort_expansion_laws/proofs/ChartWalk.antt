@@ -18,8 +18,8 @@ use Rattle.core_charts.specs.Rules.{IsState, IsRegion, AreRegions, has_regions, 
 use Rattle.core_charts.specs.Tests.{is_strong, is_weak, is_join}
 use Rattle.chart_machine.specs.declared.table.RegionRow.{RegionRow}
 use Rattle.chart_machine.specs.declared.table.TablePosition.{TablePosition}
-use Rattle.chart_machine.specs.Table.{Piece, side_by_side, behind, in_region, rows_of_state_at, with_region, next_behind, past_states, within, inside_region}
-use Rattle.chart_machine.specs.Table.{regions_in_initial, state_numbers, region_piece, state_piece, piece_of_region, piece_of_state}
+use Rattle.chart_machine.specs.Table.{Subtree, side_by_side, behind, in_region, rows_of_state_at, with_region, next_behind, past_states, within, inside_region}
+use Rattle.chart_machine.specs.Table.{regions_in_initial, state_numbers, region_subtree, state_subtree, subtree_of_region, subtree_of_state}
 use Rattle.chart_machine_laws.proofs.TableTrees.{NoneInitial, OnceInitial}
 use Rattle.abort_expansion.specs.Flags.{has_join}
 use Rattle.core_charts.specs.Aborts.{has_strong, has_weak, has_aborts}
@@ -43,8 +43,8 @@ count (s ∷ states) = cond (is_first s) (1 + count states) (count states)
 count_is : (states : List State) → count states ≡ count_by is_first states
 count_is states = is_count_by count is_first refl (λ x ys. refl) states
 
-first_is : (s : State) → (piece_of_state s).is_initial ≡ is_first s
-first_is s = ap (λ p. p.is_initial) (fold_out-State Piece Piece region_piece state_piece s)
+first_is : (s : State) → (subtree_of_state s).is_initial ≡ is_first s
+first_is s = ap (λ p. p.is_initial) (fold_out-State Subtree Subtree region_subtree state_subtree s)
 
 none_if : (b : Bool) (n : ℕ) → cond b (1 + n) n ≡ 0 → (b ≡ false) × (n ≡ 0)
 none_if true n e = absurd (omega (e, arith))
@@ -142,15 +142,15 @@ regions_walk f variables (suc levels) regions rules =
 abbrev pub HasState : RegionRow → Type 0
 HasState row = (s : ℕ) × ((more : List ℕ) × (row.states ≡ s ∷ more))
 
-abbrev AllHave : Piece → Type 0
+abbrev AllHave : Subtree → Type 0
 AllHave p = (at : TablePosition) → Each HasState (p.parts at).regions
 
-side_have : (pieces : List Piece) → Each AllHave pieces → (at : TablePosition) → Each HasState (side_by_side pieces at).regions
+side_have : (pieces : List Subtree) → Each AllHave pieces → (at : TablePosition) → Each HasState (side_by_side pieces at).regions
 side_have [] have at = tt
 side_have (p ∷ pieces) have at =
     each_append HasState (p.parts at).regions (side_by_side pieces (behind p at)).regions (have.0 at) (side_have pieces have.1 (behind p at))
 
-inner_have : (pieces : List Piece) → Each AllHave pieces → (next : ℕ) (at : TablePosition) →
+inner_have : (pieces : List Subtree) → Each AllHave pieces → (next : ℕ) (at : TablePosition) →
     Each HasState (in_region pieces next at).first × Each HasState (in_region pieces next at).others
 inner_have [] have next at = (tt, tt)
 inner_have (p ∷ pieces) have next at =
@@ -164,42 +164,42 @@ inner_have (p ∷ pieces) have next at =
     by_first true first others = (each_append HasState (p.parts at).regions _ (have.0 at) first, others)
     by_first false first others = (first, each_append HasState (p.parts (with_region next at)).regions _ (have.0 (with_region next at)) others)
 
-state_has : (s : State) → Each AllHave (map piece_of_region (out-State s).regions) → AllHave (piece_of_state s)
-state_has s have = subst AllHave (sym (fold_out-State Piece Piece region_piece state_piece s))
-    (λ at. side_have (map piece_of_region (out-State s).regions) have (within at))
+state_has : (s : State) → Each AllHave (map subtree_of_region (out-State s).regions) → AllHave (subtree_of_state s)
+state_has s have = subst AllHave (sym (fold_out-State Subtree Subtree region_subtree state_subtree s))
+    (λ at. side_have (map subtree_of_region (out-State s).regions) have (within at))
 
 region_has : (r : Region) (s : State) (others : List State) → (out-Region r).states ≡ s ∷ others → Each AllHave (pieces_of (out-Region r).states) →
-    AllHave (piece_of_region r)
-region_has r s others some have = subst AllHave (sym (fold_out-Region Piece Piece region_piece state_piece r)) opened
+    AllHave (subtree_of_region r)
+region_has r s others some have = subst AllHave (sym (fold_out-Region Subtree Subtree region_subtree state_subtree r)) opened
   where
     numbers : (at : TablePosition) → HasState (record { around = at.around; states = state_numbers (pieces_of (out-Region r).states) at.state })
     numbers at =
         subst (λ zs. HasState (record { around = at.around; states = state_numbers (pieces_of zs) at.state })) (sym some) (at.state, (_, refl))
 
-    opened : AllHave (region_piece (record { name = (out-Region r).name; states = (pieces_of (out-Region r).states) }))
+    opened : AllHave (region_subtree (record { name = (out-Region r).name; states = (pieces_of (out-Region r).states) }))
     opened at =
         let inner = inner_have (pieces_of (out-Region r).states) have (suc at.region + regions_in_initial (pieces_of (out-Region r).states))
         (inside_region at) in
         (numbers at, each_append HasState _ _ inner.0 inner.1)
 
-each_map : {A : Type 0} (f : A → Piece) (P : Piece → Type 0) (xs : List A) → ((i : ℕ) (x : A) → slice_get xs i ≡ Some x → P (f x)) → Each P (map f xs)
+each_map : {A : Type 0} (f : A → Subtree) (P : Subtree → Type 0) (xs : List A) → ((i : ℕ) (x : A) → slice_get xs i ≡ Some x → P (f x)) → Each P (map f xs)
 each_map f P [] h = tt
 each_map f P (x ∷ xs) h = (h 0 x refl, each_map f P xs (λ i y at. h (suc i) y at))
 
 pub regions_have : (f : Features) (variables : List Variable) (levels : ℕ) (regions : List Region) → AreRegions f variables levels regions →
-    Each AllHave (map piece_of_region regions)
-regions_have f variables zero regions rules = subst (λ rs. Each AllHave (map piece_of_region rs)) (sym rules) tt
+    Each AllHave (map subtree_of_region regions)
+regions_have f variables zero regions rules = subst (λ rs. Each AllHave (map subtree_of_region rs)) (sym rules) tt
 regions_have f variables (suc levels) regions rules =
-    each_map piece_of_region AllHave regions (λ i r at. one r (rules.each i r at) (λ rs inner. regions_have f variables levels rs inner))
+    each_map subtree_of_region AllHave regions (λ i r at. one r (rules.each i r at) (λ rs inner. regions_have f variables levels rs inner))
   where
     one : (r : Region) → IsRegion f variables (AreRegions f variables levels) r →
-        ((rs : List Region) → AreRegions f variables levels rs → Each AllHave (map piece_of_region rs)) → AllHave (piece_of_region r)
+        ((rs : List Region) → AreRegions f variables levels rs → Each AllHave (map subtree_of_region rs)) → AllHave (subtree_of_region r)
     one r rules inner =
         let states : List State = (out-Region r).states in
         let some = some_state states (count_is states ∙ rules.one_initial) in
         region_has r some.0 some.1.0 some.1.1
-        (each_map piece_of_state AllHave states (λ j s is. state_has s (inner (out-State s).regions (rules.states j s is).regions)))
+        (each_map subtree_of_state AllHave states (λ j s is. state_has s (inner (out-State s).regions (rules.states j s is).regions)))
 
 pub rows_have : (f : Features) (variables : List Variable) (levels : ℕ) (regions : List Region) → AreRegions f variables levels regions → (at : TablePosition) →
-    Each HasState (side_by_side (map piece_of_region regions) at).regions
-rows_have f variables levels regions rules at = side_have (map piece_of_region regions) (regions_have f variables levels regions rules) at
+    Each HasState (side_by_side (map subtree_of_region regions) at).regions
+rows_have f variables levels regions rules at = side_have (map subtree_of_region regions) (regions_have f variables levels regions rules) at

@@ -19,9 +19,9 @@ use Rattle.chart_machine.specs.declared.table.StateRow.{StateRow}
 use Rattle.chart_machine.specs.declared.table.SubtreeRows.{SubtreeRows}
 use Rattle.chart_machine.specs.declared.table.StatesRows.{StatesRows}
 use Rattle.chart_machine.specs.declared.table.TablePosition.{TablePosition}
-use Rattle.chart_machine.specs.Table.{Piece, side_by_side, behind, within, come_to, entered_state, is_superstate, state_piece, rows_of_state_at}
-use Rattle.chart_machine.specs.Table.{with_region, past_states, next_behind, in_region, regions_in_initial, inside_region, region_piece}
-use Rattle.chart_machine.specs.Table.{piece_of_region, piece_of_state, whole, table, table_of, state_at}
+use Rattle.chart_machine.specs.Table.{Subtree, side_by_side, behind, within, come_to, entered_state, is_superstate, state_subtree, rows_of_state_at}
+use Rattle.chart_machine.specs.Table.{with_region, past_states, next_behind, in_region, regions_in_initial, inside_region, region_subtree}
+use Rattle.chart_machine.specs.Table.{subtree_of_region, subtree_of_state, whole, table, table_of, state_at}
 use Rattle.chart_machine_laws.proofs.SoundRows.{each_map}
 
 module _ (Fits : Move → Type 0) where
@@ -42,10 +42,10 @@ module _ (Fits : Move → Type 0) (ends : (r : ℕ) → Fits (to r at.Ended)) (t
   abbrev InnerEnter : StatesRows → Type 0
   InnerEnter inner = Each Row inner.states × Each Fits inner.entered
 
-  abbrev PieceEnters : Piece → Type 0
+  abbrev PieceEnters : Subtree → Type 0
   PieceEnters p = (here : TablePosition) → PartsEnter (p.parts here)
 
-  side_enters : (ps : List Piece) → Each PieceEnters ps → (here : TablePosition) → PartsEnter (side_by_side ps here)
+  side_enters : (ps : List Subtree) → Each PieceEnters ps → (here : TablePosition) → PartsEnter (side_by_side ps here)
   side_enters [] h here = (tt, tt)
   side_enters (p ∷ ps) h here =
       let first : PartsEnter (p.parts here) = h.0 here in
@@ -65,18 +65,18 @@ module _ (Fits : Move → Type 0) (ends : (r : ℕ) → Fits (to r at.Ended)) (t
   entered_comes false true here ts opened openings =
       come_enters here.holder here.state (at_once (strong_aborts ts)) (first_closing_tests ts) opened openings
 
-  state_enters : (s : State-F Piece Piece) → Each PieceEnters s.regions → PieceEnters (state_piece s)
+  state_enters : (s : State-F Subtree Subtree) → Each PieceEnters s.regions → PieceEnters (state_subtree s)
   state_enters s inner here =
       let inside : PartsEnter (side_by_side s.regions (within here)) = side_enters s.regions inner (within here) in
       let entered : Each Fits (entered_state s.is_final (is_superstate s.regions) here s.transitions (side_by_side s.regions (within here)).entered) =
       entered_comes s.is_final (is_superstate s.regions) here s.transitions (side_by_side s.regions (within here)).entered inside.1 in
       ((record { entered = entered; opened = inside.1 }, inside.0), entered)
 
-  alone_enters : (b : Bool) (p : Piece) → PieceEnters p → (next : ℕ) (here : TablePosition) → InnerEnter (rows_of_state_at b p.parts next here)
+  alone_enters : (b : Bool) (p : Subtree) → PieceEnters p → (next : ℕ) (here : TablePosition) → InnerEnter (rows_of_state_at b p.parts next here)
   alone_enters true p h next here = h here
   alone_enters false p h next here = ((h (with_region next here)).0, tt)
 
-  inner_enters : (ps : List Piece) → Each PieceEnters ps → (next : ℕ) (here : TablePosition) → InnerEnter (in_region ps next here)
+  inner_enters : (ps : List Subtree) → Each PieceEnters ps → (next : ℕ) (here : TablePosition) → InnerEnter (in_region ps next here)
   inner_enters [] h next here = (tt, tt)
   inner_enters (p ∷ ps) h next here =
       let a : StatesRows = rows_of_state_at p.is_initial p.parts next here in
@@ -85,44 +85,44 @@ module _ (Fits : Move → Type 0) (ends : (r : ℕ) → Fits (to r at.Ended)) (t
       let rest : InnerEnter b = inner_enters ps h.1 (next_behind p next) (past_states p.states here) in
       (each_append Row a.states b.states first.0 rest.0, each_append Fits a.entered b.entered first.1 rest.1)
 
-  region_enters : (r : Region-F Piece Piece) → Each PieceEnters r.states → PieceEnters (region_piece r)
+  region_enters : (r : Region-F Subtree Subtree) → Each PieceEnters r.states → PieceEnters (region_subtree r)
   region_enters r h here = inner_enters r.states h (suc here.region + regions_in_initial r.states) (inside_region here)
 
   -- ---- charts
 
   module _ (variables : List Variable) where
     state_of : (f : Features) (levels count : ℕ) → ((regions : List Region) → AreRegions f variables levels regions →
-        Each (λ r. PieceEnters (piece_of_region r)) regions) →
-        (s : State) → IsState f variables (AreRegions f variables levels) count s → PieceEnters (piece_of_state s)
+        Each (λ r. PieceEnters (subtree_of_region r)) regions) →
+        (s : State) → IsState f variables (AreRegions f variables levels) count s → PieceEnters (subtree_of_state s)
     state_of f levels count inner s rules =
-        subst PieceEnters (sym (fold_out-State Piece Piece region_piece state_piece s))
+        subst PieceEnters (sym (fold_out-State Subtree Subtree region_subtree state_subtree s))
         (state_enters (record {
           name = (out-State s).name;
           is_initial = (out-State s).is_initial;
           is_final = (out-State s).is_final;
-          regions = map piece_of_region (out-State s).regions;
+          regions = map subtree_of_region (out-State s).regions;
           transitions = (out-State s).transitions;
-        }) (each_map PieceEnters piece_of_region (out-State s).regions (inner (out-State s).regions rules.regions)))
+        }) (each_map PieceEnters subtree_of_region (out-State s).regions (inner (out-State s).regions rules.regions)))
 
     region_of : (f : Features) (levels : ℕ) → ((regions : List Region) → AreRegions f variables levels regions →
-        Each (λ r. PieceEnters (piece_of_region r)) regions) →
-        (r : Region) → IsRegion f variables (AreRegions f variables levels) r → PieceEnters (piece_of_region r)
+        Each (λ r. PieceEnters (subtree_of_region r)) regions) →
+        (r : Region) → IsRegion f variables (AreRegions f variables levels) r → PieceEnters (subtree_of_region r)
     region_of f levels inner r rules =
-        subst PieceEnters (sym (fold_out-Region Piece Piece region_piece state_piece r))
-        (region_enters (record { name = (out-Region r).name; states = map piece_of_state (out-Region r).states })
-        (each_map PieceEnters piece_of_state (out-Region r).states
-        (each_of (λ s. PieceEnters (piece_of_state s)) (out-Region r).states (λ i s is. state_of f levels _ inner s (rules.states i s is)))))
+        subst PieceEnters (sym (fold_out-Region Subtree Subtree region_subtree state_subtree r))
+        (region_enters (record { name = (out-Region r).name; states = map subtree_of_state (out-Region r).states })
+        (each_map PieceEnters subtree_of_state (out-Region r).states
+        (each_of (λ s. PieceEnters (subtree_of_state s)) (out-Region r).states (λ i s is. state_of f levels _ inner s (rules.states i s is)))))
 
     regions_of : (f : Features) (levels : ℕ) (regions : List Region) → AreRegions f variables levels regions →
-        Each (λ r. PieceEnters (piece_of_region r)) regions
-    regions_of f zero regions rules = subst (λ rs. Each (λ r. PieceEnters (piece_of_region r)) rs) (sym rules) tt
+        Each (λ r. PieceEnters (subtree_of_region r)) regions
+    regions_of f zero regions rules = subst (λ rs. Each (λ r. PieceEnters (subtree_of_region r)) rs) (sym rules) tt
     regions_of f (suc levels) regions rules =
-        each_of (λ r. PieceEnters (piece_of_region r)) regions (λ i r is. region_of f levels (regions_of f levels) r (rules.each i r is))
+        each_of (λ r. PieceEnters (subtree_of_region r)) regions (λ i r is. region_of f levels (regions_of f levels) r (rules.each i r is))
 
     regions_enter : (f : Features) (levels : ℕ) (regions : List Region) → AreRegions f variables levels regions →
         Each Row (table_of variables regions).states × Each Fits (table_of variables regions).opened
     regions_enter f levels regions rules =
-        side_enters (map piece_of_region regions) (each_map PieceEnters piece_of_region regions (regions_of f levels regions rules)) whole
+        side_enters (map subtree_of_region regions) (each_map PieceEnters subtree_of_region regions (regions_of f levels regions rules)) whole
 
   one_of : (rows : List StateRow) (n : ℕ) (d : StateRow) → Each Row rows → Row d → Row (unwrap_or (slice_get rows n) d)
   one_of [] n d h k = k

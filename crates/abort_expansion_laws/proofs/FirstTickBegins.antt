@@ -9,7 +9,7 @@ use Rattle.core_charts.specs.Rules.{IsChart}
 use Rattle.chart_machine.specs.declared.standing.Configuration.{Configuration}
 use Rattle.chart_machine.specs.declared.table.Table.{Table}
 use Rattle.chart_machine.specs.declared.standing.Standing.TheVariants as at
-use Rattle.chart_machine.specs.Table.{table, region_numbers, piece_of_region}
+use Rattle.chart_machine.specs.Table.{table, region_numbers, subtree_of_region}
 use Rattle.chart_machine.specs.Turns.{standing_of}
 use Rattle.chart_machine.specs.Machine.{machine, initial, start}
 use Rattle.abort_expansion.specs.Expansion.{expanded}
@@ -90,8 +90,8 @@ module _ (c : Chart) (rules : IsChart features.Extended c) (core_rules : IsChart
     where
       by_regions : (regions : List Region) → c.regions ≡ regions → Contains (tops c rules) 1
       by_regions [] none = absurd (rules.some_region none)
-      by_regions (r ∷ regions) some = subst (λ zs. Contains (region_numbers (map piece_of_region zs) 1) 1) (sym some)
-          (head_in 1 (region_numbers (map piece_of_region regions) (1 + (piece_of_region r).regions)))
+      by_regions (r ∷ regions) some = subst (λ zs. Contains (region_numbers (map subtree_of_region zs) 1) 1) (sym some)
+          (head_in 1 (region_numbers (map subtree_of_region regions) (1 + (subtree_of_region r).regions)))
 
       among : Contains (tops c rules) 1
       among = by_regions c.regions refl

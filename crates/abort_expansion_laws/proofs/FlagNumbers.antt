@@ -6,7 +6,7 @@ use Rattle.std.proofs.lemmas.Bool.Decides.{Decides-eqb}
 use Rattle.core_charts.specs.declared.region.Region.{Region}
 use Rattle.core_charts.specs.declared.region.Region.TheFolds.{fold_out-Region}
 use Rattle.core_charts.specs.declared.region.Transition.{Transition}
-use Rattle.chart_machine.specs.Table.{Piece, region_numbers, region_piece, state_piece, piece_of_region as table_of_region}
+use Rattle.chart_machine.specs.Table.{Subtree, region_numbers, region_subtree, state_subtree, subtree_of_region as table_of_region}
 use Rattle.chart_machine_laws.proofs.LyingIn.{none_in, head_in, head_or_tail}
 use Rattle.abort_expansion.specs.declared.flags.Flags.{Flags}
 use Rattle.abort_expansion.specs.Flags.{counts, given, one, flags_of}
@@ -32,7 +32,7 @@ other_number n m ne = by_case (nat_eq n m) refl
 
 -- the regions of a superstate have different numbers
 pub some_regions : (r : Region) → 0 < (table_of_region r).regions
-some_regions r = subst (λ p. 0 < p.regions) (sym (fold_out-Region Piece Piece region_piece state_piece r)) (omega arith)
+some_regions r = subst (λ p. 0 < p.regions) (sym (fold_out-Region Subtree Subtree region_subtree state_subtree r)) (omega arith)
 
 pub numbers_high : (regions : List Region) (n r : ℕ) → Contains (region_numbers (map table_of_region regions) n) r → n ≤ r
 numbers_high [] n r h = absurd (none_in r h)

@@ -3,13 +3,13 @@ use Rattle.std.proofs.Common.{◌≡◌, ℕ, ◌+◌, Bool, true, false, List, 
 use Rattle.chart_machine.specs.declared.table.Table.{Table}
 use Rattle.chart_machine.specs.declared.table.TablePosition.{TablePosition}
 use Rattle.chart_machine.specs.declared.table.StatesRows.{StatesRows}
-use Rattle.chart_machine.specs.Table.{Piece, states_in, with_region, past_states, rows_of_state_at, next_behind, in_region, followed_by}
-use Rattle.chart_machine_laws.proofs.RowsOfPieces.{StatesAt, RegionsAt, Holds, states_from, states_first, states_second, regions_from, regions_first}
-use Rattle.chart_machine_laws.proofs.RowsOfPieces.{regions_second, IsSized, AllSized}
+use Rattle.chart_machine.specs.Table.{Subtree, states_in, with_region, past_states, rows_of_state_at, next_behind, in_region, followed_by}
+use Rattle.chart_machine_laws.proofs.RowsOfSubtrees.{StatesAt, RegionsAt, Holds, states_from, states_first, states_second, regions_from, regions_first}
+use Rattle.chart_machine_laws.proofs.RowsOfSubtrees.{regions_second, IsSized, AllSized}
 use Rattle.chart_machine_laws.proofs.TableTrees.{NoneInitial, OnceInitial, none_first}
 
 -- the number of the next region behind the states that are not initial
-abbrev pub next_past : List Piece → ℕ → ℕ
+abbrev pub next_past : List Subtree → ℕ → ℕ
 next_past [] next = next
 next_past (p ∷ pieces) next = next_past pieces (next_behind p next)
 
@@ -18,12 +18,12 @@ abbrev pub position_of : Bool → ℕ → TablePosition → TablePosition
 position_of initial next at = record at { region = if initial then at.region else next }
 
 module _ (k : Table) where
-  pub record InRegionAt (pieces : List Piece) (next : ℕ) (at : TablePosition) : Type 0 where
+  pub record InRegionAt (pieces : List Subtree) (next : ℕ) (at : TablePosition) : Type 0 where
     pub states : StatesAt k at.state (in_region pieces next at).states
     pub first : RegionsAt k at.region (in_region pieces next at).first
     pub others : RegionsAt k next (in_region pieces next at).others
 
-  module _ (p : Piece) (next : ℕ) (at : TablePosition) (rest : StatesRows) where
+  module _ (p : Subtree) (next : ℕ) (at : TablePosition) (rest : StatesRows) where
     one_there : (b : Bool) → StatesAt k at.state (followed_by (rows_of_state_at b p.parts next at) rest).states →
         RegionsAt k at.region (followed_by (rows_of_state_at b p.parts next at) rest).first →
         RegionsAt k next (followed_by (rows_of_state_at b p.parts next at) rest).others → Holds k (position_of b next at) (p.parts (position_of b next at))
@@ -60,13 +60,13 @@ module _ (k : Table) where
         )
 
   -- the first of them
-  pub first_holds : (p : Piece) (pieces : List Piece) (next : ℕ) (at : TablePosition) → InRegionAt (p ∷ pieces) next at →
+  pub first_holds : (p : Subtree) (pieces : List Subtree) (next : ℕ) (at : TablePosition) → InRegionAt (p ∷ pieces) next at →
       Holds k (position_of p.is_initial next at) (p.parts (position_of p.is_initial next at))
   first_holds p pieces next at h =
       one_there p next at (in_region pieces (next_behind p next) (past_states p.states at)) p.is_initial h.states h.first h.others
 
   -- those behind it
-  pub rest_holds : (p : Piece) (pieces : List Piece) (next : ℕ) (at : TablePosition) → IsSized p → OnceInitial (p ∷ pieces) →
+  pub rest_holds : (p : Subtree) (pieces : List Subtree) (next : ℕ) (at : TablePosition) → IsSized p → OnceInitial (p ∷ pieces) →
       InRegionAt (p ∷ pieces) next at → InRegionAt pieces (next_behind p next) (past_states p.states at)
   rest_holds p pieces next at sized once h =
       let rest : StatesRows = in_region pieces (next_behind p next) (past_states p.states at) in
@@ -75,7 +75,7 @@ module _ (k : Table) where
       record { states = parts.0; first = parts.1; others = parts.2 }
 
   -- those behind a few
-  pub more_hold : (xs ys : List Piece) (next : ℕ) (at : TablePosition) → AllSized xs → OnceInitial (xs ++ ys) → InRegionAt (xs ++ ys) next at →
+  pub more_hold : (xs ys : List Subtree) (next : ℕ) (at : TablePosition) → AllSized xs → OnceInitial (xs ++ ys) → InRegionAt (xs ++ ys) next at →
       InRegionAt ys (next_past xs next) (past_states (states_in xs) at)
   more_hold [] ys next at sized once h = subst (λ n. InRegionAt ys next (record at { state = n })) (no_more at.state) h
     where
@@ -90,14 +90,14 @@ module _ (k : Table) where
 
 -- ---- of states side by side at most one is initial
 
-pub none_append : (xs ys : List Piece) → NoneInitial xs → NoneInitial ys → NoneInitial (xs ++ ys)
+pub none_append : (xs ys : List Subtree) → NoneInitial xs → NoneInitial ys → NoneInitial (xs ++ ys)
 none_append [] ys none more = more
 none_append (x ∷ xs) ys none more = (none.0, none_append xs ys none.1 more)
 
-pub once_append : (xs ys : List Piece) → OnceInitial xs → NoneInitial ys → OnceInitial (xs ++ ys)
+pub once_append : (xs ys : List Subtree) → OnceInitial xs → NoneInitial ys → OnceInitial (xs ++ ys)
 once_append [] ys once none = no_once ys none
   where
-    no_once : (ys : List Piece) → NoneInitial ys → OnceInitial ys
+    no_once : (ys : List Subtree) → NoneInitial ys → OnceInitial ys
     no_once [] none = tt
     no_once (y ∷ ys) none = (λ initial. absurd (never y.is_initial none.0 initial), no_once ys none.1)
       where
@@ -106,7 +106,7 @@ once_append [] ys once none = no_once ys none
         never false e f = absurd cc
 once_append (x ∷ xs) ys once none = (λ initial. none_append xs ys (once.0 initial) none, once_append xs ys once.1 none)
 
-pub none_once : (xs ys : List Piece) → NoneInitial xs → OnceInitial ys → OnceInitial (xs ++ ys)
+pub none_once : (xs ys : List Subtree) → NoneInitial xs → OnceInitial ys → OnceInitial (xs ++ ys)
 none_once [] ys none once = once
 none_once (x ∷ xs) ys none once = (λ initial. absurd (never x.is_initial none.0 initial), none_once xs ys none.1 once)
   where

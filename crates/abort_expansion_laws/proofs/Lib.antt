@@ -1,4 +1,5 @@
 pub mod Commuting
+pub mod FreeFlags
 pub mod StagesKept
 pub mod Supplying
 pub mod Simulation
@@ -118,8 +119,6 @@ pub mod TableEnds
 pub mod RowsOfCharts
 pub mod FlagNumbers
 pub mod MoreRows
-pub mod FlatStates
-pub mod FlatLayered
 pub mod OpenedInside
 pub mod WokenConfigurations
 pub mod TickStarts
@@ -206,7 +205,6 @@ pub mod LeavesFollowed
 pub mod WeakTestReady
 pub mod StrongTestReady
 pub mod StepsByCase
-pub mod ApartTicks
 pub mod HasLooked
 pub mod LooksBefore
 pub mod LookDropped

@@ -6,8 +6,8 @@ use Rattle.core_charts.specs.declared.region.Region.TheOpen.{State-F}
 use Rattle.core_charts.specs.declared.region.Region.TheViews.{roll-Region, roll-State}
 use Rattle.core_charts.specs.declared.region.Region.TheFolds.{fold-roll-Region, fold-roll-State}
 use Rattle.core_charts.specs.declared.region.State.{State}
-use Rattle.chart_machine.specs.Table.{Piece, region_piece, state_piece, piece_of_region, piece_of_state, states_in}
-use Rattle.chart_machine_laws.proofs.RowsOfPieces.{IsSized, AllSized, state_sized, region_sized}
+use Rattle.chart_machine.specs.Table.{Subtree, region_subtree, state_subtree, subtree_of_region, subtree_of_state, states_in}
+use Rattle.chart_machine_laws.proofs.RowsOfSubtrees.{IsSized, AllSized, state_sized, region_sized}
 use Rattle.abort_expansion_laws.specs.StateNames.{StateOfText, all_in, is_some, told_of_region, told_of_state, states_of_region, states_of_state, StandsFor}
 
 module _ {A : Type 0} (told : A → List StateOfText) where
@@ -15,7 +15,7 @@ module _ {A : Type 0} (told : A → List StateOfText) where
   told_append [] ys = refl
   told_append (x ∷ xs) ys = ap (λ those. told x ++ those) (told_append xs ys) ∙ sym (append_assoc (told x) (all_in (map told xs)) (all_in (map told ys)))
 
-module _ {A : Type 0} (piece : A → Piece) where
+module _ {A : Type 0} (piece : A → Subtree) where
   pub sized_append : (xs ys : List A) → AllSized (map piece xs) → AllSized (map piece ys) → AllSized (map piece (xs ++ ys))
   sized_append [] ys h k = k
   sized_append (x ∷ xs) ys h k = (h.0, sized_append xs ys h.1 k)
@@ -43,18 +43,18 @@ module _ (those : List StateOfText) where
   as_many (x ∷ xs) [] h = absurd h
   as_many (x ∷ xs) (m ∷ ms) h = ap suc (as_many xs ms h.1)
 
-  pub record Mapped (A : Type 0) (told : A → List StateOfText) (piece : A → Piece) (made : List A) (ms : List (Option ℕ)) : Type 0 where
+  pub record Mapped (A : Type 0) (told : A → List StateOfText) (piece : A → Subtree) (made : List A) (ms : List (Option ℕ)) : Type 0 where
     pub named : EachStandsFor (all_in (map told made)) ms
     pub sized : AllSized (map piece made)
     pub many : states_in (map piece made) ≡ length ms
 
   abbrev pub MappedStates : List State → List (Option ℕ) → Type 0
-  MappedStates = Mapped State states_of_state piece_of_state
+  MappedStates = Mapped State states_of_state subtree_of_state
 
   abbrev pub MappedRegions : List Region → List (Option ℕ) → Type 0
-  MappedRegions = Mapped Region states_of_region piece_of_region
+  MappedRegions = Mapped Region states_of_region subtree_of_region
 
-  pub mapped_append : (A : Type 0) (told : A → List StateOfText) (piece : A → Piece) (xs ys : List A) (ms ns : List (Option ℕ)) →
+  pub mapped_append : (A : Type 0) (told : A → List StateOfText) (piece : A → Subtree) (xs ys : List A) (ms ns : List (Option ℕ)) →
       Mapped A told piece xs ms → Mapped A told piece ys ns → Mapped A told piece (xs ++ ys) (ms ++ ns)
   mapped_append A told piece xs ys ms ns h k = record {
     named = subst (λ those. EachStandsFor those (ms ++ ns)) (sym (told_append told xs ys))
@@ -71,24 +71,24 @@ module _ (those : List StateOfText) where
         subst (λ xs. EachStandsFor (xs ++ []) (m ∷ ms)) (sym (fold-roll-State (List StateOfText) (List StateOfText) told_of_region told_of_state s))
         (subst (λ xs. EachStandsFor xs (m ∷ ms)) (sym (append-nil (row ∷ all_in (map states_of_region s.regions)))) own);
     sized = (subst IsSized (sym rolled) (state_sized layer k.sized), tt);
-    many = let own : (piece_of_state (roll-State s)).states ≡ suc (states_in (map piece_of_region s.regions)) = ap (λ p. p.states) rolled in
+    many = let own : (subtree_of_state (roll-State s)).states ≡ suc (states_in (map subtree_of_region s.regions)) = ap (λ p. p.states) rolled in
         omega (arith, own, k.many);
   }
     where
       row : StateOfText
       row = record { name = s.name; is_superstate = is_some (map states_of_region s.regions) }
 
-      layer : State-F Piece Piece
+      layer : State-F Subtree Subtree
       layer = record {
         name = s.name;
         is_initial = s.is_initial;
         is_final = s.is_final;
-        regions = map piece_of_region s.regions;
+        regions = map subtree_of_region s.regions;
         transitions = s.transitions;
       }
 
-      rolled : piece_of_state (roll-State s) ≡ state_piece layer
-      rolled = fold-roll-State Piece Piece region_piece state_piece s
+      rolled : subtree_of_state (roll-State s) ≡ state_subtree layer
+      rolled = fold-roll-State Subtree Subtree region_subtree state_subtree s
 
   -- a simple one
   pub simple_mapped : (s : State-F Region State) (m : Option ℕ) → StandsFor those s.name m → s.regions ≡ [] → MappedStates (roll-State s ∷ []) (m ∷ [])
@@ -102,15 +102,15 @@ module _ (those : List StateOfText) where
     named = subst (λ xs. EachStandsFor (xs ++ []) ms)
         (sym (fold-roll-Region (List StateOfText) (List StateOfText) told_of_region told_of_state (record { name = name; states = states })))
         (subst (λ xs. EachStandsFor xs ms) (sym (append-nil _)) k.named);
-    sized = (subst IsSized (sym rolled) (region_sized (record { name = name; states = map piece_of_state states }) k.sized), tt);
-    many = let own : (piece_of_region (roll-Region (record { name = name; states = states }))).states ≡ states_in (map piece_of_state states) =
+    sized = (subst IsSized (sym rolled) (region_sized (record { name = name; states = map subtree_of_state states }) k.sized), tt);
+    many = let own : (subtree_of_region (roll-Region (record { name = name; states = states }))).states ≡ states_in (map subtree_of_state states) =
         ap (λ p. p.states) rolled in omega (arith, own, k.many);
   }
     where
-      rolled : piece_of_region (roll-Region (record { name = name; states = states })) ≡
-          region_piece (record { name = name; states = map piece_of_state states })
-      rolled = fold-roll-Region Piece Piece region_piece state_piece (record { name = name; states = states })
+      rolled : subtree_of_region (roll-Region (record { name = name; states = states })) ≡
+          region_subtree (record { name = name; states = map subtree_of_state states })
+      rolled = fold-roll-Region Subtree Subtree region_subtree state_subtree (record { name = name; states = states })
 
   -- none of nothing
-  pub none_mapped : (A : Type 0) (told : A → List StateOfText) (piece : A → Piece) → Mapped A told piece [] []
+  pub none_mapped : (A : Type 0) (told : A → List StateOfText) (piece : A → Subtree) → Mapped A told piece [] []
   none_mapped A told piece = record { named = tt; sized = tt; many = refl }

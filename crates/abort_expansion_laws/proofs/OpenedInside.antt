@@ -20,16 +20,17 @@ use Rattle.chart_machine.specs.declared.standing.Standing.TheVariants as at
 use Rattle.chart_machine.specs.declared.standing.Move.{Move}
 use Rattle.chart_machine.specs.declared.table.Table.{Table}
 use Rattle.chart_machine.specs.declared.table.TablePosition.{TablePosition}
-use Rattle.chart_machine.specs.Table.{Piece, table, whole, state_at, region_at, state_numbers, side_by_side, behind, within, inside_region, states_in}
+use Rattle.chart_machine.specs.Table.{Subtree, table, whole, state_at, region_at, state_numbers, side_by_side, behind, within, inside_region, states_in}
 use Rattle.chart_machine.specs.Table.{next_behind, past_states}
-use Rattle.chart_machine.specs.Table.{regions_in_initial, rows_of_state_at, in_region, come_to, region_piece, state_piece, piece_of_region, piece_of_state}
+use Rattle.chart_machine.specs.Table.{regions_in_initial, rows_of_state_at, in_region, come_to, region_subtree}
+use Rattle.chart_machine.specs.Table.{state_subtree, subtree_of_region, subtree_of_state}
 use Rattle.chart_machine.specs.Table.{entered_state, is_superstate}
 use Rattle.chart_machine.specs.Steps.{moved}
 use Rattle.chart_machine_laws.specs.Tree.{around, holder}
 use Rattle.abort_expansion_laws.specs.CoreRows.{own}
 use Rattle.chart_machine_laws.proofs.LyingIn.{none_in, head_in, tail_in, head_or_tail}
 use Rattle.chart_machine_laws.proofs.SoundRows.{each_filter}
-use Rattle.chart_machine_laws.proofs.RowsOfPieces.{Holds, IsSized, AllSized, state_sized, region_sized, side_states}
+use Rattle.chart_machine_laws.proofs.RowsOfSubtrees.{Holds, IsSized, AllSized, state_sized, region_sized, side_states}
 use Rattle.chart_machine_laws.proofs.TableTrees.{OnceInitial}
 use Rattle.chart_machine_laws.proofs.ChartTables.{holds_whole}
 use Rattle.abort_expansion_laws.proofs.Leaving.{at_number, set_other}
@@ -69,12 +70,12 @@ module _ (k : Table) where
   fewer xs ys ms into h = each_more (MoveIn xs) (MoveIn ys) ms (λ m inner. ((λ o has. inner.0 o (into o has)), inner.1)) h
 
   record RegionMoves (r : Region) : Type 0 where
-    enters : (a : TablePosition) → Holds k a ((piece_of_region r).parts a) → MovesIn a.around ((piece_of_region r).parts a).entered
-    opens : (a : TablePosition) → Holds k a ((piece_of_region r).parts a) → Range OpensInside a.state (a.state + (piece_of_region r).states)
-    sized : IsSized (piece_of_region r)
+    enters : (a : TablePosition) → Holds k a ((subtree_of_region r).parts a) → MovesIn a.around ((subtree_of_region r).parts a).entered
+    opens : (a : TablePosition) → Holds k a ((subtree_of_region r).parts a) → Range OpensInside a.state (a.state + (subtree_of_region r).states)
+    sized : IsSized (subtree_of_region r)
 
   -- of a state of a region with so many states
-  record StateMovesBy (n : ℕ) (p : Piece) : Type 0 where
+  record StateMovesBy (n : ℕ) (p : Subtree) : Type 0 where
     enters : (a : TablePosition) → Holds k a (p.parts a) → around k a.holder ≡ a.around → length (region_at k a.holder).states ≡ n →
         MovesIn a.around (p.parts a).entered
     opens : (a : TablePosition) → Holds k a (p.parts a) → around k a.holder ≡ a.around → length (region_at k a.holder).states ≡ n →
@@ -82,60 +83,63 @@ module _ (k : Table) where
     sized : IsSized p
 
   abbrev StateMoves : ℕ → State → Type 0
-  StateMoves n s = StateMovesBy n (piece_of_state s)
+  StateMoves n s = StateMovesBy n (subtree_of_state s)
 
-  sized_regions : (regions : List Region) → Each RegionMoves regions → AllSized (map piece_of_region regions)
+  sized_regions : (regions : List Region) → Each RegionMoves regions → AllSized (map subtree_of_region regions)
   sized_regions [] each = tt
   sized_regions (r ∷ regions) each = (each.0.sized, sized_regions regions each.1)
 
-  sized_states : (n : ℕ) (states : List State) → Each (StateMoves n) states → AllSized (map piece_of_state states)
+  sized_states : (n : ℕ) (states : List State) → Each (StateMoves n) states → AllSized (map subtree_of_state states)
   sized_states n [] each = tt
   sized_states n (s ∷ states) each = (each.0.sized, sized_states n states each.1)
 
-  side_enters : (regions : List Region) → Each RegionMoves regions → (a : TablePosition) → Holds k a (side_by_side (map piece_of_region regions) a) →
-      MovesIn a.around (side_by_side (map piece_of_region regions) a).entered
+  side_enters : (regions : List Region) → Each RegionMoves regions → (a : TablePosition) → Holds k a (side_by_side (map subtree_of_region regions) a) →
+      MovesIn a.around (side_by_side (map subtree_of_region regions) a).entered
   side_enters [] each a holds = tt
   side_enters (r ∷ regions) each a holds =
-      each_append (MoveIn a.around) ((piece_of_region r).parts a).entered _ (each.0.enters a (side_head k (piece_of_region r)
-      (map piece_of_region regions) a holds))
-      (side_enters regions each.1 (behind (piece_of_region r) a)
-      (side_tail k (piece_of_region r) (map piece_of_region regions) a each.0.sized holds))
+      each_append (MoveIn a.around) ((subtree_of_region r).parts a).entered _ (each.0.enters a (side_head k (subtree_of_region r)
+      (map subtree_of_region regions) a holds))
+      (side_enters regions each.1 (behind (subtree_of_region r) a)
+      (side_tail k (subtree_of_region r) (map subtree_of_region regions) a each.0.sized holds))
 
-  side_opens : (regions : List Region) → Each RegionMoves regions → (a : TablePosition) → Holds k a (side_by_side (map piece_of_region regions) a) →
-      Range OpensInside a.state (a.state + states_in (map piece_of_region regions))
+  side_opens : (regions : List Region) → Each RegionMoves regions → (a : TablePosition) → Holds k a (side_by_side (map subtree_of_region regions) a) →
+      Range OpensInside a.state (a.state + states_in (map subtree_of_region regions))
   side_opens [] each a holds = range_none OpensInside a.state (a.state + 0) (omega arith)
   side_opens (r ∷ regions) each a holds =
-      let p : Piece = piece_of_region r in
-      range_to OpensInside a.state ((a.state + p.states) + states_in (map piece_of_region regions)) (a.state + states_in (p ∷ map piece_of_region regions))
+      let p : Subtree = subtree_of_region r in
+      range_to OpensInside a.state ((a.state + p.states) + states_in (map subtree_of_region regions)) (a.state + states_in (p ∷ map subtree_of_region regions))
       (omega arith)
-      (range_both OpensInside a.state (a.state + p.states) ((a.state + p.states) + states_in (map piece_of_region regions))
-      (each.0.opens a (side_head k p (map piece_of_region regions) a holds))
-      (side_opens regions each.1 (behind p a) (side_tail k p (map piece_of_region regions) a each.0.sized holds)))
+      (range_both OpensInside a.state (a.state + p.states) ((a.state + p.states) + states_in (map subtree_of_region regions))
+      (each.0.opens a (side_head k p (map subtree_of_region regions) a holds))
+      (side_opens regions each.1 (behind p a) (side_tail k p (map subtree_of_region regions) a each.0.sized holds)))
 
-  inner_enters : (n : ℕ) (states : List State) → Each (StateMoves n) states → (a : TablePosition) (next : ℕ) → InRegionAt k (map piece_of_state states) next a →
-      OnceInitial (map piece_of_state states) → around k a.holder ≡ a.around → length (region_at k a.holder).states ≡ n →
-      MovesIn a.around (in_region (map piece_of_state states) next a).entered
+  inner_enters : (n : ℕ) (states : List State) → Each (StateMoves n) states → (a : TablePosition) (next : ℕ) →
+      InRegionAt k (map subtree_of_state states) next a →
+      OnceInitial (map subtree_of_state states) → around k a.holder ≡ a.around → length (region_at k a.holder).states ≡ n →
+      MovesIn a.around (in_region (map subtree_of_state states) next a).entered
   inner_enters n [] each a next rows once around_it size = tt
   inner_enters n (s ∷ states) each a next rows once around_it size =
-      let p : Piece = piece_of_state s in
-      let ps : List Piece = map piece_of_state states in
+      let p : Subtree = subtree_of_state s in
+      let ps : List Subtree = map subtree_of_state states in
       by_first p.is_initial (first_holds k p ps next a rows)
       (inner_enters n states each.1 (past_states p.states a) (next_behind p next) (rest_holds k p ps next a each.0.sized once rows) once.1 around_it size)
     where
-      by_first : (b : Bool) → Holds k (position_of b next a) ((piece_of_state s).parts (position_of b next a)) →
-          MovesIn a.around (in_region (map piece_of_state states) (next_behind (piece_of_state s) next) (past_states (piece_of_state s).states a)).entered →
-          MovesIn a.around ((rows_of_state_at b (piece_of_state s).parts next a).entered
-          ++ (in_region (map piece_of_state states) (next_behind (piece_of_state s) next) (past_states (piece_of_state s).states a)).entered)
-      by_first true holds rest = each_append (MoveIn a.around) ((piece_of_state s).parts a).entered _ (each.0.enters a holds around_it size) rest
+      by_first : (b : Bool) → Holds k (position_of b next a) ((subtree_of_state s).parts (position_of b next a)) →
+          MovesIn a.around (in_region (map subtree_of_state states) (next_behind (subtree_of_state s) next)
+          (past_states (subtree_of_state s).states a)).entered →
+          MovesIn a.around ((rows_of_state_at b (subtree_of_state s).parts next a).entered
+          ++ (in_region (map subtree_of_state states) (next_behind (subtree_of_state s) next) (past_states (subtree_of_state s).states a)).entered)
+      by_first true holds rest = each_append (MoveIn a.around) ((subtree_of_state s).parts a).entered _ (each.0.enters a holds around_it size) rest
       by_first false holds rest = rest
 
-  inner_opens : (n : ℕ) (states : List State) → Each (StateMoves n) states → (a : TablePosition) (next : ℕ) → InRegionAt k (map piece_of_state states) next a →
-      OnceInitial (map piece_of_state states) → around k a.holder ≡ a.around → length (region_at k a.holder).states ≡ n →
-      Range OpensInside a.state (a.state + states_in (map piece_of_state states))
+  inner_opens : (n : ℕ) (states : List State) → Each (StateMoves n) states → (a : TablePosition) (next : ℕ) →
+      InRegionAt k (map subtree_of_state states) next a →
+      OnceInitial (map subtree_of_state states) → around k a.holder ≡ a.around → length (region_at k a.holder).states ≡ n →
+      Range OpensInside a.state (a.state + states_in (map subtree_of_state states))
   inner_opens n [] each a next rows once around_it size = range_none OpensInside a.state (a.state + 0) (omega arith)
   inner_opens n (s ∷ states) each a next rows once around_it size =
-      let p : Piece = piece_of_state s in
-      let ps : List Piece = map piece_of_state states in
+      let p : Subtree = subtree_of_state s in
+      let ps : List Subtree = map subtree_of_state states in
       range_to OpensInside a.state ((a.state + p.states) + states_in ps) (a.state + states_in (p ∷ ps)) (omega arith)
       (range_both OpensInside a.state (a.state + p.states) ((a.state + p.states) + states_in ps)
       (each.0.opens (position_of p.is_initial next a) (first_holds k p ps next a rows) around_it size)
@@ -143,14 +147,14 @@ module _ (k : Table) where
 
   module _ (name : List ℕ) (initial final : Bool) (regions : List Region) (all : List Transition) (each : Each RegionMoves regions) (n : ℕ)
       (in_range : Each (λ (t : Transition). t.target < n) all) where
-    abbrev layer : Piece
-    layer = state_piece (record { name = name; is_initial = initial; is_final = final; regions = map piece_of_region regions; transitions = all })
+    abbrev layer : Subtree
+    layer = state_subtree (record { name = name; is_initial = initial; is_final = final; regions = map subtree_of_region regions; transitions = all })
 
     own_move : (a : TablePosition) → around k a.holder ≡ a.around → (o : ℕ) → Contains a.around o → Contains (around k a.holder) o
     own_move a around_it o h = subst (λ zs. Contains zs o) (sym around_it) h
 
     opened_in : (a : TablePosition) → Holds k a (layer.parts a) →
-        MovesIn (a.state ∷ a.around) (side_by_side (map piece_of_region regions) (within a)).entered
+        MovesIn (a.state ∷ a.around) (side_by_side (map subtree_of_region regions) (within a)).entered
     opened_in a holds = side_enters regions each (within a) (record { states = holds.states.1; regions = holds.regions })
 
     -- a selection of the tests leads where all of them do
@@ -199,22 +203,22 @@ module _ (k : Table) where
     layer_moves =
         record {
           enters = λ a holds around_it size.
-              entered_in a around_it final (is_superstate (map piece_of_region regions)) (side_by_side (map piece_of_region regions) (within a)).entered
+              entered_in a around_it final (is_superstate (map subtree_of_region regions)) (side_by_side (map subtree_of_region regions) (within a)).entered
               (lead_here a holds size) (opened_in a holds);
           opens = λ a holds around_it size.
-              range_more OpensInside a.state (a.state + suc (states_in (map piece_of_region regions)))
+              range_more OpensInside a.state (a.state + suc (states_in (map subtree_of_region regions)))
               (record {
                 moves =
                     subst (MovesIn (a.state ∷ [])) (sym (ap (λ z. z.opened) holds.states.0))
-                    (fewer (a.state ∷ a.around) (a.state ∷ []) (side_by_side (map piece_of_region regions) (within a)).entered (only_head a)
+                    (fewer (a.state ∷ a.around) (a.state ∷ []) (side_by_side (map subtree_of_region regions) (within a)).entered (only_head a)
                     (opened_in a holds));
-                entry = entry_of k a final (map piece_of_region regions) all (side_by_side (map piece_of_region regions) (within a)).entered holds.states.0;
+                entry = entry_of k a final (map subtree_of_region regions) all (side_by_side (map subtree_of_region regions) (within a)).entered holds.states.0;
                 targets = subst (λ ts. Each (Leads a.state) ts) (sym (ap (λ z. z.transitions) holds.states.0)) (lead_here a holds size);
               })
-              (range_to OpensInside (suc a.state) (suc a.state + states_in (map piece_of_region regions)) (a.state + suc (states_in
-              (map piece_of_region regions)))
+              (range_to OpensInside (suc a.state) (suc a.state + states_in (map subtree_of_region regions)) (a.state + suc (states_in
+              (map subtree_of_region regions)))
               (omega arith) (side_opens regions each (within a) (record { states = holds.states.1; regions = holds.regions })));
-          sized = state_sized (record { name = name; is_initial = initial; is_final = final; regions = map piece_of_region regions; transitions = all })
+          sized = state_sized (record { name = name; is_initial = initial; is_final = final; regions = map subtree_of_region regions; transitions = all })
               (sized_regions regions each);
         }
 
@@ -222,17 +226,17 @@ module _ (k : Table) where
       StateMoves n s
   state_moves n s each in_range =
       let o = out-State s in
-      subst (StateMovesBy n) (sym (fold_out-State Piece Piece region_piece state_piece s))
+      subst (StateMovesBy n) (sym (fold_out-State Subtree Subtree region_subtree state_subtree s))
       (layer_moves o.name o.is_initial o.is_final o.regions o.transitions each n in_range)
 
-  numbers_length : (ps : List Piece) (n : ℕ) → length (state_numbers ps n) ≡ length ps
+  numbers_length : (ps : List Subtree) (n : ℕ) → length (state_numbers ps n) ≡ length ps
   numbers_length [] n = refl
   numbers_length (p ∷ ps) n = ap suc (numbers_length ps (n + p.states))
 
-  abbrev layer_of : Region → Region-F Piece Piece
-  layer_of r = record { name = (out-Region r).name; states = map piece_of_state (out-Region r).states }
+  abbrev layer_of : Region → Region-F Subtree Subtree
+  layer_of r = record { name = (out-Region r).name; states = map subtree_of_state (out-Region r).states }
 
-  region_moves : (r : Region) → OnceInitial (map piece_of_state (out-Region r).states) →
+  region_moves : (r : Region) → OnceInitial (map subtree_of_state (out-Region r).states) →
       Each (StateMoves (length (out-Region r).states)) (out-Region r).states → RegionMoves r
   region_moves r once each =
       record {
@@ -240,28 +244,28 @@ module _ (k : Table) where
             subst (λ p. MovesIn a.around (p.parts a).entered) (sym is)
             (let rows = region_rows k (layer_of r) a sized (subst (λ p. Holds k a (p.parts a)) is holds) in
             inner_enters (length (out-Region r).states) (out-Region r).states each (inside_region a)
-            (suc a.region + regions_in_initial (map piece_of_state (out-Region r).states)) rows.1 once (ap (λ z. z.around) rows.0) (counted a rows.0));
+            (suc a.region + regions_in_initial (map subtree_of_state (out-Region r).states)) rows.1 once (ap (λ z. z.around) rows.0) (counted a rows.0));
         opens = λ a holds.
             subst (λ p. Range OpensInside a.state (a.state + p.states)) (sym is)
             (let rows = region_rows k (layer_of r) a sized (subst (λ p. Holds k a (p.parts a)) is holds) in
             inner_opens (length (out-Region r).states) (out-Region r).states each (inside_region a)
-            (suc a.region + regions_in_initial (map piece_of_state (out-Region r).states)) rows.1 once (ap (λ z. z.around) rows.0)
+            (suc a.region + regions_in_initial (map subtree_of_state (out-Region r).states)) rows.1 once (ap (λ z. z.around) rows.0)
             (counted a rows.0));
         sized = subst IsSized (sym is) (region_sized (layer_of r) sized);
       }
     where
-      is : piece_of_region r ≡ region_piece (layer_of r)
-      is = fold_out-Region Piece Piece region_piece state_piece r
+      is : subtree_of_region r ≡ region_subtree (layer_of r)
+      is = fold_out-Region Subtree Subtree region_subtree state_subtree r
 
       counted : (a : TablePosition) → region_at k a.region ≡ record {
         around = a.around;
-        states = state_numbers (map piece_of_state (out-Region r).states) a.state;
+        states = state_numbers (map subtree_of_state (out-Region r).states) a.state;
       } → length (region_at k a.region).states ≡ length (out-Region r).states
       counted a is_row =
           ap (λ z. length z.states) is_row ∙
-          (numbers_length (map piece_of_state (out-Region r).states) a.state ∙ length-map (out-Region r).states piece_of_state)
+          (numbers_length (map subtree_of_state (out-Region r).states) a.state ∙ length-map (out-Region r).states subtree_of_state)
 
-      sized : AllSized (map piece_of_state (out-Region r).states)
+      sized : AllSized (map subtree_of_state (out-Region r).states)
       sized = sized_states (length (out-Region r).states) (out-Region r).states each
 
   regions_move : (f : Features) (variables : List Variable) (levels : ℕ) (regions : List Region) → AreRegions f variables levels regions →
@@ -284,8 +288,8 @@ module _ (k : Table) where
 opens_within : (f : Features) (c : Chart) → IsChart f c → (s : ℕ) → s < length (table c).states → OpensInside (table c) s
 opens_within f c rules s lt =
     let each : Each (RegionMoves (table c)) c.regions = regions_move (table c) f c.variables depth_limit c.regions rules.regions in
-    let size : length (table c).states ≡ states_in (map piece_of_region c.regions) =
-    side_states (map piece_of_region c.regions) whole (sized_regions (table c) c.regions each) in
+    let size : length (table c).states ≡ states_in (map subtree_of_region c.regions) =
+    side_states (map subtree_of_region c.regions) whole (sized_regions (table c) c.regions each) in
     side_opens (table c) c.regions each whole (holds_whole c.variables c.regions) s (omega arith) (omega (lt, size, arith))
 
 -- so what is not inside stays where it is

@@ -23,7 +23,7 @@ use Rattle.abort_expansion.specs.Expansion.{expanded}
 use Rattle.abort_expansion_laws.specs.Ticks.{Keeps}
 use Rattle.abort_expansion_laws.specs.Preemption.{chart_machine, SeenAlike}
 use Rattle.abort_expansion_laws.specs.Segments.{Follows, EachMay}
-use Rattle.abort_expansion_laws.specs.Stages.{Entry, Silent, EachFits, EachSpared}
+use Rattle.abort_expansion_laws.specs.Stages.{Entry, Silent, EachSpared}
 use Rattle.abort_expansion_laws.proofs.FreshInside.{nobody_there}
 use Rattle.abort_expansion_laws.proofs.ListsOfTicks.{KeepsTicks, ticks_kept}
 use Rattle.abort_expansion_laws.proofs.Owed.{Started, first_tick, later_tick}
@@ -75,7 +75,7 @@ module _ (c : Chart) (rules : IsChart features.Extended c) (core_rules : IsChart
     pub spared : (inputs : Inputs) (before d : Configuration) → Accepted inputs → Rests d → RestsAlike before d → (stages : FlagStages c rules core_rules)
         (log : List Entry) (e : Configuration) →
         Follows (machine core) (ticks.corr_at c rules core_rules stages) Told (start core inputs d) log e →
-        EachFits (ticks.corr_at c rules core_rules stages) log → EachSpared (ticks.corr_at c rules core_rules stages) log
+        EachSpared (ticks.corr_at c rules core_rules stages) log
 
   module _ (Accepted : Inputs → Type 0) (Told : Configuration → Entry → Type 0)
       (told : (d : Configuration) (t : ℕ) (stage : Option (ℕ × ℕ)) (a : Access) → Told d (Silent t stage a))
@@ -85,7 +85,7 @@ module _ (c : Chart) (rules : IsChart features.Extended c) (core_rules : IsChart
       pub rests : spares.Rests d
       pub holds : Holds before
 
-    started : (inputs : Inputs) (before d : Configuration) → RestsAlike before d →
+    pub started : (inputs : Inputs) (before d : Configuration) → RestsAlike before d →
         Started k core (ticks.i c rules core_rules) (start k inputs before) (start core inputs d)
     started inputs before d (inl (first, core_first)) = first_tick inputs (ap (start k inputs) first) (ap (start core inputs) core_first)
     started inputs before d (inr rested) = later_tick inputs before d rested.rests refl refl
@@ -105,7 +105,7 @@ module _ (c : Chart) (rules : IsChart features.Extended c) (core_rules : IsChart
     tick_kept stages May followed inputs before last d accepted both ends each =
         let t = ticks.tick_followed c rules core_rules stages May Told told Holds kept followed (start k inputs before) last (start core inputs d)
         (started inputs before d both.alike) (kept.starts inputs before both.holds)
-        (spares.spared inputs before d accepted both.rests both.alike stages) ends each in
+        (λ log e follows fits. spares.spared inputs before d accepted both.rests both.alike stages log e follows) ends each in
         (t.0, t.1, record { alike = inr t.2; rests = spares.goes_on inputs d t.0 accepted both.rests t.1; holds = t.3 })
 
     -- where each step is followed

@@ -72,8 +72,6 @@ pub use Rattle.abort_expansion_laws.proofs.WalkRegion.{walk_region}
 pub use Rattle.abort_expansion_laws.proofs.ChartWalk.{regions_walk, rows_have}
 pub use Rattle.abort_expansion_laws.proofs.RowsOfCharts.{rows_of_chart}
 pub use Rattle.abort_expansion_laws.proofs.MoreRows.{map_of_chart, opening_rows, counter_rows}
-pub use Rattle.abort_expansion_laws.proofs.FlatStates.{flat_inside}
-pub use Rattle.abort_expansion_laws.proofs.FlatLayered.{flat_charts_are_layered}
 pub use Rattle.abort_expansion_laws.proofs.MonitorLooks.{looked_before}
 pub use Rattle.abort_expansion_laws.proofs.LooksBefore.{looked_first}
 pub use Rattle.abort_expansion_laws.proofs.FrontFirst.{front_first}
@@ -137,10 +135,8 @@ pub use Rattle.abort_expansion_laws.proofs.QuietAtStart.{starts_low}
 pub use Rattle.abort_expansion_laws.proofs.TickFollowed.{tick_followed}
 pub use Rattle.abort_expansion_laws.proofs.TestsSpared.{tests_are_spared}
 pub use Rattle.abort_expansion_laws.proofs.PreemptionFollows.{preemption_follows}
-pub use Rattle.abort_expansion_laws.proofs.PreemptionKept.{preemption_kept}
 pub use Rattle.abort_expansion_laws.proofs.FlagStages.{early_fits, outer_fits}
-pub use Rattle.abort_expansion_laws.proofs.StepsByCase.{step_followed, each_step_followed, steps_followed, preemption_holds}
-pub use Rattle.abort_expansion_laws.proofs.ApartTicks.{apart_ticks_are_kept}
+pub use Rattle.abort_expansion_laws.proofs.StepsByCase.{step_followed, each_step_followed}
 pub use Rattle.abort_expansion_laws.proofs.StepsReady.{steps_ready, ticks_ready}
 pub use Rattle.abort_expansion_laws.proofs.MonitorsReady.{get_ready}
 pub use Rattle.abort_expansion_laws.proofs.ChecksNext.{region_next, monitor_next}

@@ -21,7 +21,7 @@ use Rattle.abort_expansion_laws.specs.CoreRows.{own, IsState, IsSuper, Images, f
 use Rattle.abort_expansion_laws.specs.CoreRows.{WatcherImage}
 use Rattle.abort_expansion_laws.proofs.TablesCorrespond.{contains_map}
 use Rattle.abort_expansion_laws.proofs.Walked.{World, StateImage, images_of, RegionFits, StateFits, FlagsFit, WatcherFits, Origin, thread, watcher, OwnerFits}
-use Rattle.abort_expansion_laws.proofs.Walked.{past_thread, thread_by, IsFlag}
+use Rattle.abort_expansion_laws.proofs.Walked.{past_thread, thread_by, IsFlag, CoreSort}
 use Rattle.abort_expansion_laws.proofs.WalkedWhole.{world, facts, chart_size, core_size, image_past, owner_else}
 use Rattle.abort_expansion_laws.proofs.TableEnds.{first_state, no_holder_past, no_entered_past, no_states_past, any_first}
 use Rattle.abort_expansion_laws.proofs.TableEnds.{given_some, given_is}
@@ -66,7 +66,10 @@ module _ (c : Chart) (rules : IsChart features.Extended c) (core_rules : IsChart
       let is : first.0 < length core.states =
       ⊎_elim (λ lt. lt) (λ past. let none : t ≡ 0 = sym held ∙ no_holder_past core first.0 past in absurd (omega (none, there.0, arith)))
       (within_or_past first.0 (length core.states)) in
-      subst (Origin w) held ((facts c rules).core_states first.0 (omega arith) (omega (is, core_size c rules, arith)))
+      subst (Origin w) held ((facts c rules).core_states first.0 (omega arith) (omega (is, core_size c rules, arith))).origin
+
+  pub core_sort : (n : ℕ) → IsState core n → CoreSort w n
+  core_sort n is = ((facts c rules).core_states n (omega arith) (omega (is, core_size c rules, arith))).sort
 
   -- ---- numbers without a state or a region
 

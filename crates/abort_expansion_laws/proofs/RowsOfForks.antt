@@ -12,15 +12,15 @@ use Rattle.chart_machine.specs.declared.standing.Move.{Move}
 use Rattle.chart_machine.specs.declared.table.StatesRows.{StatesRows}
 use Rattle.chart_machine.specs.declared.table.Table.{Table}
 use Rattle.chart_machine.specs.declared.table.TablePosition.{TablePosition}
-use Rattle.chart_machine.specs.Table.{Piece, state_at, region_at, states_in, regions_in, region_numbers, state_numbers, within, inside_region, side_by_side}
-use Rattle.chart_machine.specs.Table.{regions_in_initial, in_region, region_piece, state_piece, is_superstate, past_states, next_behind}
-use Rattle.chart_machine.specs.Table.{piece_of_region as table_of_region, piece_of_state as table_of_state}
+use Rattle.chart_machine.specs.Table.{Subtree, state_at, region_at, states_in, regions_in, region_numbers, state_numbers, within, inside_region, side_by_side}
+use Rattle.chart_machine.specs.Table.{regions_in_initial, in_region, region_subtree, state_subtree, is_superstate, past_states, next_behind}
+use Rattle.chart_machine.specs.Table.{subtree_of_region as table_of_region, subtree_of_state as table_of_state}
 use Rattle.chart_machine.specs.Steps.{to}
 use Rattle.abort_expansion.specs.declared.flags.Flags.{Flags}
 use Rattle.abort_expansion.specs.Flags.{watching_name, abandoned_name, monitor_name}
 use Rattle.abort_expansion.specs.Superstates.{monitor, monitor_transitions}
 use Rattle.chart_machine_laws.specs.Tree.{around}
-use Rattle.chart_machine_laws.proofs.RowsOfPieces.{Holds, IsSized, AllSized, regions_first, regions_second, regions_from, inner_first, region_sized}
+use Rattle.chart_machine_laws.proofs.RowsOfSubtrees.{Holds, IsSized, AllSized, regions_first, regions_second, regions_from, inner_first, region_sized}
 use Rattle.chart_machine_laws.proofs.TableTrees.{OnceInitial}
 use Rattle.abort_expansion_laws.specs.CoreRows.{simple_row, fork_row}
 use Rattle.abort_expansion_laws.proofs.SimpleRows.{rolled, rolled_piece}
@@ -29,7 +29,7 @@ use Rattle.abort_expansion_laws.proofs.WalkSimple.{one_row, one_sized, one_begin
 
 -- ---- a region: its row, and its states
 
-pub region_rows : (k : Table) (r : Region-F Piece Piece) (b : TablePosition) → AllSized r.states → Holds k b ((region_piece r).parts b) →
+pub region_rows : (k : Table) (r : Region-F Subtree Subtree) (b : TablePosition) → AllSized r.states → Holds k b ((region_subtree r).parts b) →
     (region_at k b.region ≡ record { around = b.around; states = state_numbers r.states b.state })
     × InRegionAt k r.states (suc b.region + regions_in_initial r.states) (inside_region b)
 region_rows k r b sized h =
@@ -48,21 +48,21 @@ region_rows k r b sized h =
 -- what is around a region
 pub region_around : (k : Table) (r : Region) (b : TablePosition) → Holds k b ((table_of_region r).parts b) → around k b.region ≡ b.around
 region_around k r b h =
-    let opened : Holds k b ((region_piece (record { name = (out-Region r).name; states = map table_of_state (out-Region r).states })).parts b) =
-    subst (λ p. Holds k b (p.parts b)) (fold_out-Region Piece Piece region_piece state_piece r) h in
+    let opened : Holds k b ((region_subtree (record { name = (out-Region r).name; states = map table_of_state (out-Region r).states })).parts b) =
+    subst (λ p. Holds k b (p.parts b)) (fold_out-Region Subtree Subtree region_subtree state_subtree r) h in
     ap (λ z. z.around) opened.regions.0
 
 -- ---- a superstate of the core chart, which has no aborts
 
-pub some_regions : (pieces : List Piece) (n x : ℕ) (xs : List ℕ) → region_numbers pieces n ≡ x ∷ xs → is_superstate pieces ≡ true
+pub some_regions : (pieces : List Subtree) (n x : ℕ) (xs : List ℕ) → region_numbers pieces n ≡ x ∷ xs → is_superstate pieces ≡ true
 some_regions [] n x xs e = absurd cc
 some_regions (p ∷ pieces) n x xs e = refl
 
 module _ (core : Table) (name : List ℕ) (begins : Bool) (regions : List Region) (all : List Transition) (some : is_superstate
     (map table_of_region regions) ≡ true)
     (no_strong : strong_aborts all ≡ []) (no_weak : weak_aborts all ≡ []) (position : TablePosition) where
-  abbrev layer : Piece
-  layer = state_piece (record { name = name; is_initial = begins; is_final = false; regions = map table_of_region regions; transitions = all })
+  abbrev layer : Subtree
+  layer = state_subtree (record { name = name; is_initial = begins; is_final = false; regions = map table_of_region regions; transitions = all })
 
   abbrev opened : List Move
   opened = (side_by_side (map table_of_region regions) (within position)).entered
@@ -99,14 +99,14 @@ module _ (s : ℕ) (flags_around : List Flags) (flags : Flags) (own : List Trans
   abbrev pub watched_state : State
   watched_state = rolled abandoned_name false true [] []
 
-  abbrev states : List Piece
+  abbrev states : List Subtree
   states = table_of_state watching ∷ table_of_state watched_state ∷ []
 
-  abbrev inner : Region-F Piece Piece
+  abbrev inner : Region-F Subtree Subtree
   inner = record { name = monitor_name s; states = states }
 
-  monitor_piece : table_of_region (monitor s flags_around flags own) ≡ region_piece inner
-  monitor_piece = fold-roll-Region Piece Piece region_piece state_piece (record { name = monitor_name s; states = watching ∷ watched_state ∷ [] })
+  monitor_piece : table_of_region (monitor s flags_around flags own) ≡ region_subtree inner
+  monitor_piece = fold-roll-Region Subtree Subtree region_subtree state_subtree (record { name = monitor_name s; states = watching ∷ watched_state ∷ [] })
 
   all_sized : AllSized states
   all_sized =
@@ -129,11 +129,11 @@ module _ (s : ℕ) (flags_around : List Flags) (flags : Flags) (own : List Trans
       to b.region (at.Trying b.state (at_once (monitor_transitions flags_around flags own))) ∷ []
   monitor_entered b =
       ap (λ p. (p.parts b).entered) monitor_piece ∙
-      (ap (λ p. ((region_piece (record { name = monitor_name s; states = p ∷ table_of_state watched_state ∷ [] })).parts b).entered)
+      (ap (λ p. ((region_subtree (record { name = monitor_name s; states = p ∷ table_of_state watched_state ∷ [] })).parts b).entered)
       (rolled_piece watching_name true false [] (monitor_transitions flags_around flags own)) ∙
-      ap (λ p. ((region_piece (record {
+      ap (λ p. ((region_subtree (record {
         name = monitor_name s;
-        states = state_piece (record {
+        states = state_subtree (record {
           name = watching_name;
           is_initial = true;
           is_final = false;
@@ -149,6 +149,7 @@ module _ (s : ℕ) (flags_around : List Flags) (flags : Flags) (own : List Trans
     pub row : state_at core b.state ≡ simple_row b.region b.state (monitor_transitions flags_around flags own)
     pub ended : (state_at core (b.state + (table_of_state watching).states)).entered ≡ to b.region at.Ended ∷ []
     pub ended_held : (state_at core (b.state + (table_of_state watching).states)).holder ≡ b.region
+    pub ended_bare : (state_at core (b.state + (table_of_state watching).states)).transitions ≡ []
 
   pub monitor_rows : (core : Table) (b : TablePosition) → Holds core b ((table_of_region (monitor s flags_around flags own)).parts b) → MonitorRows core b
   monitor_rows core b h =
@@ -164,4 +165,5 @@ module _ (s : ℕ) (flags_around : List Flags) (flags : Flags) (own : List Trans
             rows.1).states.0;
         ended = ap (λ z. z.entered) ended.states.0;
         ended_held = ap (λ z. z.holder) ended.states.0;
+        ended_bare = ap (λ z. z.transitions) ended.states.0;
       }

@@ -6,12 +6,12 @@ use Rattle.chart_machine.specs.declared.table.RegionRow.{RegionRow}
 use Rattle.chart_machine.specs.declared.table.Table.{Table}
 use Rattle.chart_machine.specs.declared.table.TablePosition.{TablePosition}
 use Rattle.chart_machine.specs.declared.table.SubtreeRows.{SubtreeRows}
-use Rattle.chart_machine.specs.Table.{Piece, states_in, regions_in, behind, side_by_side, region_numbers}
-use Rattle.chart_machine_laws.proofs.RowsOfPieces.{StatesAt, RegionsAt, Holds, states_from, states_first, states_second, regions_from, regions_first}
-use Rattle.chart_machine_laws.proofs.RowsOfPieces.{regions_second, IsSized, AllSized}
+use Rattle.chart_machine.specs.Table.{Subtree, states_in, regions_in, behind, side_by_side, region_numbers}
+use Rattle.chart_machine_laws.proofs.RowsOfSubtrees.{StatesAt, RegionsAt, Holds, states_from, states_first, states_second, regions_from, regions_first}
+use Rattle.chart_machine_laws.proofs.RowsOfSubtrees.{regions_second, IsSized, AllSized}
 
 -- behind all of these
-abbrev pub past_side : List Piece → TablePosition → TablePosition
+abbrev pub past_side : List Subtree → TablePosition → TablePosition
 past_side pieces at = record at { state = at.state + states_in pieces; region = at.region + regions_in pieces }
 
 module _ (k : Table) where
@@ -25,7 +25,7 @@ module _ (k : Table) where
   regions_join n (x ∷ xs) ys h more =
       (h.0, regions_join (suc n) xs ys h.1 (regions_from k (n + suc (length xs)) (suc n + length xs) ys (omega arith) more))
 
-  holds_to : (pieces : List Piece) (at : TablePosition) (s u r q : ℕ) → s ≡ u → r ≡ q →
+  holds_to : (pieces : List Subtree) (at : TablePosition) (s u r q : ℕ) → s ≡ u → r ≡ q →
       Holds k (record at { state = s; region = r }) (side_by_side pieces (record at { state = s; region = r })) →
       Holds k (record at { state = u; region = q }) (side_by_side pieces (record at { state = u; region = q }))
   holds_to pieces at s u r q e f h =
@@ -33,7 +33,7 @@ module _ (k : Table) where
       (subst (λ n. Holds k (record at { state = n; region = r }) (side_by_side pieces (record at { state = n; region = r }))) e h)
 
   -- of the first piece, and of those behind it
-  pub side_head : (p : Piece) (pieces : List Piece) (at : TablePosition) → Holds k at (side_by_side (p ∷ pieces) at) → Holds k at (p.parts at)
+  pub side_head : (p : Subtree) (pieces : List Subtree) (at : TablePosition) → Holds k at (side_by_side (p ∷ pieces) at) → Holds k at (p.parts at)
   side_head p pieces at h =
       let rest : SubtreeRows = side_by_side pieces (behind p at) in
       record {
@@ -41,7 +41,7 @@ module _ (k : Table) where
         regions = regions_first k at.region (p.parts at).regions rest.regions h.regions;
       }
 
-  pub side_tail : (p : Piece) (pieces : List Piece) (at : TablePosition) → IsSized p → Holds k at (side_by_side (p ∷ pieces) at) →
+  pub side_tail : (p : Subtree) (pieces : List Subtree) (at : TablePosition) → IsSized p → Holds k at (side_by_side (p ∷ pieces) at) →
       Holds k (behind p at) (side_by_side pieces (behind p at))
   side_tail p pieces at sized h =
       let rest : SubtreeRows = side_by_side pieces (behind p at) in
@@ -55,7 +55,7 @@ module _ (k : Table) where
       }
 
   -- the same of a few pieces
-  pub side_second : (xs ys : List Piece) (at : TablePosition) → AllSized xs → Holds k at (side_by_side (xs ++ ys) at) →
+  pub side_second : (xs ys : List Subtree) (at : TablePosition) → AllSized xs → Holds k at (side_by_side (xs ++ ys) at) →
       Holds k (past_side xs at) (side_by_side ys (past_side xs at))
   side_second [] ys at sized h = holds_to ys at at.state (at.state + 0) at.region (at.region + 0) (omega arith) (omega arith) h
   side_second (x ∷ xs) ys at sized h =
@@ -63,7 +63,7 @@ module _ (k : Table) where
       (at.region + (x.regions + regions_in xs)) (omega arith) (omega arith)
       (side_second xs ys (behind x at) sized.1 (side_tail x (xs ++ ys) at sized.0 h))
 
-  pub side_first : (xs ys : List Piece) (at : TablePosition) → AllSized xs → Holds k at (side_by_side (xs ++ ys) at) → Holds k at (side_by_side xs at)
+  pub side_first : (xs ys : List Subtree) (at : TablePosition) → AllSized xs → Holds k at (side_by_side (xs ++ ys) at) → Holds k at (side_by_side xs at)
   side_first [] ys at sized h = record { states = tt; regions = tt }
   side_first (x ∷ xs) ys at sized h =
       let own = side_head x (xs ++ ys) at h in
@@ -80,12 +80,12 @@ module _ (k : Table) where
 
 -- ---- what is entered
 
-entered_there : (ys : List Piece) (at : TablePosition) (s u r q : ℕ) → s ≡ u → r ≡ q →
+entered_there : (ys : List Subtree) (at : TablePosition) (s u r q : ℕ) → s ≡ u → r ≡ q →
     (side_by_side ys (record at { state = s; region = r })).entered ≡ (side_by_side ys (record at { state = u; region = q })).entered
 entered_there ys at s u r q e f =
     ap (λ n. (side_by_side ys (record at { state = n; region = r })).entered) e ∙ ap (λ n. (side_by_side ys (record at { state = u; region = n })).entered) f
 
-pub side_entered : (xs ys : List Piece) (at : TablePosition) →
+pub side_entered : (xs ys : List Subtree) (at : TablePosition) →
     (side_by_side (xs ++ ys) at).entered ≡ (side_by_side xs at).entered ++ (side_by_side ys (past_side xs at)).entered
 side_entered [] ys at = entered_there ys at at.state (at.state + 0) at.region (at.region + 0) (omega arith) (omega arith)
 side_entered (x ∷ xs) ys at =
@@ -98,19 +98,19 @@ side_entered (x ∷ xs) ys at =
 
 -- ---- how many there are, and their numbers
 
-pub states_append : (xs ys : List Piece) → states_in (xs ++ ys) ≡ states_in xs + states_in ys
+pub states_append : (xs ys : List Subtree) → states_in (xs ++ ys) ≡ states_in xs + states_in ys
 states_append [] ys = omega arith
 states_append (x ∷ xs) ys = omega (arith, states_append xs ys)
 
-pub regions_append : (xs ys : List Piece) → regions_in (xs ++ ys) ≡ regions_in xs + regions_in ys
+pub regions_append : (xs ys : List Subtree) → regions_in (xs ++ ys) ≡ regions_in xs + regions_in ys
 regions_append [] ys = omega arith
 regions_append (x ∷ xs) ys = omega (arith, regions_append xs ys)
 
-pub sized_append : (xs ys : List Piece) → AllSized xs → AllSized ys → AllSized (xs ++ ys)
+pub sized_append : (xs ys : List Subtree) → AllSized xs → AllSized ys → AllSized (xs ++ ys)
 sized_append [] ys h more = more
 sized_append (x ∷ xs) ys h more = (h.0, sized_append xs ys h.1 more)
 
-pub numbers_append : (xs ys : List Piece) (n : ℕ) → region_numbers (xs ++ ys) n ≡ region_numbers xs n ++ region_numbers ys (n + regions_in xs)
+pub numbers_append : (xs ys : List Subtree) (n : ℕ) → region_numbers (xs ++ ys) n ≡ region_numbers xs n ++ region_numbers ys (n + regions_in xs)
 numbers_append [] ys n = subst (λ m. region_numbers ys n ≡ region_numbers ys m) (no_more n) refl
   where
     no_more : (n : ℕ) → n ≡ n + 0

@@ -7,28 +7,28 @@ use Rattle.core_charts.specs.declared.region.Region.TheViews.{roll-State}
 use Rattle.core_charts.specs.declared.region.Region.TheFolds.{fold-roll-State}
 use Rattle.chart_machine.specs.declared.table.Table.{Table}
 use Rattle.chart_machine.specs.declared.table.TablePosition.{TablePosition}
-use Rattle.chart_machine.specs.Table.{Piece, region_piece, state_piece, piece_of_region, piece_of_state, state_at}
-use Rattle.chart_machine_laws.proofs.RowsOfPieces.{Holds}
+use Rattle.chart_machine.specs.Table.{Subtree, region_subtree, state_subtree, subtree_of_region, subtree_of_state, state_at}
+use Rattle.chart_machine_laws.proofs.RowsOfSubtrees.{Holds}
 use Rattle.abort_expansion_laws.specs.CoreRows.{simple_row}
 
 module _ (name : List ℕ) (begins ends : Bool) (regions : List Region) (all : List Transition) where
   abbrev pub rolled : State
   rolled = roll-State (record { name = name; is_initial = begins; is_final = ends; regions = regions; transitions = all })
 
-  pub rolled_piece : piece_of_state rolled ≡ state_piece (record {
+  pub rolled_piece : subtree_of_state rolled ≡ state_subtree (record {
     name = name;
     is_initial = begins;
     is_final = ends;
     regions =
-        map piece_of_region regions;
+        map subtree_of_region regions;
     transitions = all;
   })
-  rolled_piece = fold-roll-State Piece Piece region_piece state_piece (record
+  rolled_piece = fold-roll-State Subtree Subtree region_subtree state_subtree (record
       { name = name; is_initial = begins; is_final = ends; regions = regions; transitions = all })
 
 -- a simple state
 pub simple_local : (core : Table) (name : List ℕ) (begins : Bool) (all : List Transition) (b : TablePosition) →
-    Holds core b ((piece_of_state (rolled name begins false [] all)).parts b) →
+    Holds core b ((subtree_of_state (rolled name begins false [] all)).parts b) →
     state_at core b.state ≡ simple_row b.holder b.state all
 simple_local core name begins all b holds =
     (subst (λ p. Holds core b (p.parts b)) (rolled_piece name begins false [] all) holds).states.0

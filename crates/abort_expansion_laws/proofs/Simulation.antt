@@ -9,23 +9,23 @@ use Rattle.abort_expansion_laws.proofs.StagesKept.{stages_kept}
 pub use Rattle.abort_expansion_laws.specs.Segments.{threads, Follows, Segment, EachMay, Simulation}
 
 module _ (n : Machine) (k : Correspondence) (Told : n.Configuration → Entry → Type 0) where
-  follows_replay : (log : List Entry) (d e : n.Configuration) → Follows n k Told d log e → replay n (threads k log) d ≡ Some e
+  pub follows_replay : (log : List Entry) (d e : n.Configuration) → Follows n k Told d log e → replay n (threads k log) d ≡ Some e
   follows_replay [] d e follows = ap Some follows
   follows_replay (y ∷ log) d e follows = ap (option_and_then (replay n (threads k log))) follows.2.1 ∙ follows_replay log follows.2.0 e follows.2.2
 
-  follows_acts : (log : List Entry) (d e : n.Configuration) → Follows n k Told d log e → acts n (threads k log) d ≡ core_log k log
+  pub follows_acts : (log : List Entry) (d e : n.Configuration) → Follows n k Told d log e → acts n (threads k log) d ≡ core_log k log
   follows_acts [] d e follows = refl
   follows_acts (y ∷ log) d e follows =
       let rest : acts_after n (acts n (threads k log)) (n.step (core_act k y).thread d) ≡ core_log k log =
       ap (acts_after n (acts n (threads k log))) follows.2.1 ∙ follows_acts log follows.2.0 e follows.2.2 in
       rw (rest, sym follows.0) refl
 
-  follows_on : (log more : List Entry) (d e f : n.Configuration) → Follows n k Told d log e → Follows n k Told e more f → Follows n k Told d (log ++ more) f
+  pub follows_on : (log more : List Entry) (d e f : n.Configuration) → Follows n k Told d log e → Follows n k Told e more f → Follows n k Told d (log ++ more) f
   follows_on [] more d e f first then_more = subst (λ z. Follows n k Told z more f) (sym first) then_more
   follows_on (y ∷ log) more d e f first then_more =
       (first.0, first.1, (first.2.0, first.2.1, follows_on log more first.2.0 e f first.2.2 then_more))
 
-  chart_on : (log more : List Entry) → chart_log (log ++ more) ≡ chart_log log ++ chart_log more
+  pub chart_on : (log more : List Entry) → chart_log (log ++ more) ≡ chart_log log ++ chart_log more
   chart_on [] more = refl
   chart_on (Image r a ∷ log) more = ap (λ z. record { thread = r; access = a } ∷ z) (chart_on log more)
   chart_on (Watched r g stage a ∷ log) more = ap (λ z. record { thread = r; access = a } ∷ z) (chart_on log more)

@@ -1,4 +1,4 @@
--- The core's log is admissible where the chart's is, and stages never fall.
+-- The core's log is admissible where the chart's is, and stages never fall. At which stage flags are written that only their holder reads is free.
 use Rattle.std.proofs.Common.{◌≡◌, ◌≢◌, ℕ, ◌<◌, ◌≤◌, ◌⊎◌, List, [], ◌∷◌, refl, sym, ap, subst, ◌∙◌, arith, inl, inr, Option, Some}
 use Rattle.std.proofs.lemmas.Bool.{cases_eq}
 use Rattle.sc_values.specs.declared.operator.Combination.{Combination}
@@ -6,11 +6,12 @@ use Rattle.sc_values.specs.Access.{Access, Nothing, Precedes, init_update, init_
 use Rattle.sc_values.specs.Runs.{IsOrdered}
 use Rattle.sc_values.proofs.Order.{Clear, EachIsOpen, Orderly, admissible_from_orderly, orderly_from_admissible}
 use Rattle.abort_expansion_laws.specs.Stages.{Entry, Image, Watched, Silent, Correspondence, IsCorrespondence, Meet, Inner, core_act, core_log, chart_log}
-use Rattle.abort_expansion_laws.specs.Stages.{Touches, InitsFlag, UpdatesFlag, ReaderOf, ReadsFlag, IsSilent, Fits, EachFits, HasStage, ReachedAfter, Climbs}
+use Rattle.abort_expansion_laws.specs.Stages.{Touches, UpdatesFlag, ReaderOf, EachFits, HasStage, ReachedAfter, Climbs}
 use Rattle.abort_expansion_laws.specs.Stages.{NoneReached, Overwrites, IsSpared, EachSpared}
 use Rattle.abort_expansion_laws.proofs.Commuting.{plain_second, plain_first, sharing_none}
+use Rattle.abort_expansion_laws.proofs.FreeFlags.{InitsFreely, ReadsFreely, IsSilentFreely, FitsFreely, EachFitsFreely, NoneFree, each_fits_none}
 
-module _ (k : Correspondence) (is : IsCorrespondence k) where
+module _ (k : Correspondence) (is : IsCorrespondence k) (IsFree : ℕ → Type 0) where
   abbrev Closed : Entry → (ℕ → Type 0) → ℕ → Type 0
   Closed y IsOpen t = IsOpen t × ((core_act k y).thread ≢ t)
 
@@ -36,7 +37,7 @@ module _ (k : Correspondence) (is : IsCorrespondence k) where
   module _ (r t : ℕ) (a : Access) (Watching : Type 0)
       (apart : (q b : ℕ) → k.CoreApart t (k.thread_of q) b → (Watching × ((b ≡ k.thread_of r) × k.Inside q r)) ⊎ Meet k r q b)
       (plain : Watching → a.writes ≡ Nothing) (own : (x : ℕ) → Touches a x → x < k.declared) where
-    clear_after : (log : List Entry) (InChart InCore : ℕ → Type 0) (Reached : ℕ → ℕ → Type 0) → EachFits k log →
+    clear_after : (log : List Entry) (InChart InCore : ℕ → Type 0) (Reached : ℕ → ℕ → Type 0) → EachFitsFreely k IsFree log →
         Clear k.ChartApart (record { thread = r; access = a }) InChart (chart_log log) → Climbs k Reached log → Kept r InChart InCore Reached →
         (Watching → InCore (k.thread_of r) → IsSpared k r a log) → Clear k.CoreApart (record { thread = t; access = a }) InCore (core_log k log)
     clear_after [] InChart InCore Reached fits clear climbs kept spared = tt
@@ -99,7 +100,7 @@ module _ (k : Correspondence) (is : IsCorrespondence k) where
   no_home x t u c met e (inl also) = is.not_from_itself t c (subst (λ v. k.CoreApart t v c) (also ∙ sym e) met)
   no_home x t u c met e (inr inner) = is.not_from_home x u c inner (subst (λ v. k.CoreApart v u c) e met)
 
-  inits_inner : (t : ℕ) (at : Option (ℕ × ℕ)) (x : ℕ) → InitsFlag k t at x → (t ≡ k.home x) ⊎ Inner k x t
+  inits_inner : (t : ℕ) (at : Option (ℕ × ℕ)) (x : ℕ) → InitsFreely k IsFree t at x → (t ≡ k.home x) ⊎ Inner k x t
   inits_inner t at x (inl e) = inl e
   inits_inner t at x (inr w) = inr (inl w.1)
 
@@ -107,13 +108,13 @@ module _ (k : Correspondence) (is : IsCorrespondence k) where
   reader_inner t x (inl w) = inl w.1
   reader_inner t x (inr w) = inr w.1
 
-  reads_inner : (t : ℕ) (at : Option (ℕ × ℕ)) (x : ℕ) → ReadsFlag k t at x → (t ≡ k.home x) ⊎ Inner k x t
+  reads_inner : (t : ℕ) (at : Option (ℕ × ℕ)) (x : ℕ) → ReadsFreely k IsFree t at x → (t ≡ k.home x) ⊎ Inner k x t
   reads_inner t at x (inl e) = inl e
   reads_inner t at x (inr w) = inr (reader_inner t x w.0)
 
   -- two steps without counterpart, the first of which is seen by the second: it may precede it
-  module _ (t u c : ℕ) (at at' : Option (ℕ × ℕ)) (a b : Access) (first : IsSilent k t at a) (second : IsSilent k u at' b) (met : k.CoreApart t u c)
-      (climbs : (h s s' : ℕ) → c ≡ h → at ≡ Some (h, s) → at' ≡ Some (h, s') → s ≤ s') where
+  module _ (t u c : ℕ) (at at' : Option (ℕ × ℕ)) (a b : Access) (first : IsSilentFreely k IsFree t at a) (second : IsSilentFreely k IsFree u at' b)
+      (met : k.CoreApart t u c) (climbs : (h s s' : ℕ) → c ≡ h → at ≡ Some (h, s) → at' ≡ Some (h, s') → s ≤ s') where
     back : k.CoreApart u t c
     back = is.swapped t u c met
 
@@ -121,24 +122,25 @@ module _ (k : Correspondence) (is : IsCorrespondence k) where
     falls : (x s : ℕ) → c ≡ k.home x → at ≡ Some (k.home x, s) → k.written_at x < s → at' ≡ Some (k.home x, k.written_at x) → ⊥
     falls x s e mine after its = let wrong : s ≤ k.written_at x = climbs (k.home x) s (k.written_at x) e mine its in absurd (omega (wrong, after, arith))
 
-    no_init_read : (x : ℕ) → InitsFlag k u at' x → ReadsFlag k t at x → ⊥
+    no_init_read : (x : ℕ) → InitsFreely k IsFree u at' x → ReadsFreely k IsFree t at x → ⊥
     no_init_read x (inl e) r = no_home x u t c back e (reads_inner t at x r)
     no_init_read x (inr w) (inl e) = no_home x t u c met e (inr (inl w.1))
-    no_init_read x (inr w) (inr (inl v, s)) = let one = w.0 in let other = v.0 in absurd (cc)
-    no_init_read x (inr w) (inr (inr v, s)) =
-        falls x s.0 (is.watcher_by_home x t c v.1 (subst (λ z. k.CoreApart z t c) w.1 back)) s.1 s.2 w.2
+    no_init_read x (inr w) (inr (inl v, s, bound)) = let one = w.0 in let other = v.0 in absurd (cc)
+    no_init_read x (inr (plain, mine, inl free)) (inr (inr v, s, bound)) = bound free
+    no_init_read x (inr (plain, mine, inr staged)) (inr (inr v, s, bound)) =
+        falls x s.0 (is.watcher_by_home x t c v.1 (subst (λ z. k.CoreApart z t c) mine back)) s.1 s.2 staged
 
-    no_update_read : (x : ℕ) (f : Combination) → UpdatesFlag k u at' x f → ReadsFlag k t at x → ⊥
+    no_update_read : (x : ℕ) (f : Combination) → UpdatesFlag k u at' x f → ReadsFreely k IsFree t at x → ⊥
     no_update_read x f w (inl e) = no_home x t u c met e (inr (inr w.2))
-    no_update_read x f w (inr (inl v, s)) =
+    no_update_read x f w (inr (inl v, s, bound)) =
         falls x s.0 (is.watcher_by_home x u c w.2 (subst (λ z. k.CoreApart z u c) v.1 met)) s.1 s.2 w.3
-    no_update_read x f w (inr (inr v, s)) = let one = w.0 in let other = v.0 in absurd (cc)
+    no_update_read x f w (inr (inr v, s, bound)) = let one = w.0 in let other = v.0 in absurd (cc)
 
-    no_init_update : (x : ℕ) (f : Combination) → InitsFlag k u at' x → UpdatesFlag k t at x f → ⊥
+    no_init_update : (x : ℕ) (f : Combination) → InitsFreely k IsFree u at' x → UpdatesFlag k t at x f → ⊥
     no_init_update x f (inl e) w = no_home x u t c back e (inr (inr w.2))
     no_init_update x f (inr v) w = let one = w.0 in let other = v.0 in absurd (cc)
 
-    no_two_inits : (x : ℕ) → InitsFlag k t at x → InitsFlag k u at' x → ⊥
+    no_two_inits : (x : ℕ) → InitsFreely k IsFree t at x → InitsFreely k IsFree u at' x → ⊥
     no_two_inits x (inl e) j = no_home x t u c met e (inits_inner u at' x j)
     no_two_inits x i (inl e) = no_home x u t c back e (inits_inner t at x i)
     no_two_inits x (inr v) (inr w) = is.not_from_itself t c (subst (λ z. k.CoreApart t z c) (w.1 ∙ sym v.1) met)
@@ -156,8 +158,8 @@ module _ (k : Correspondence) (is : IsCorrespondence k) where
     flags_may = record { no_order = flags_order; no_clash = flags_clash }
 
   -- a step without counterpart may precede all that come after it
-  silent_after : (t : ℕ) (at : Option (ℕ × ℕ)) (a : Access) → IsSilent k t at a → (log : List Entry) (InCore : ℕ → Type 0) (Reached : ℕ → ℕ → Type 0) →
-      EachFits k log → Climbs k Reached log → ((h s : ℕ) → at ≡ Some (h, s) → InCore h → Reached h s) →
+  silent_after : (t : ℕ) (at : Option (ℕ × ℕ)) (a : Access) → IsSilentFreely k IsFree t at a → (log : List Entry) (InCore : ℕ → Type 0)
+      (Reached : ℕ → ℕ → Type 0) → EachFitsFreely k IsFree log → Climbs k Reached log → ((h s : ℕ) → at ≡ Some (h, s) → InCore h → Reached h s) →
       Clear k.CoreApart (record { thread = t; access = a }) InCore (core_log k log)
   silent_after t at a fit [] InCore Reached fits climbs seen = tt
   silent_after t at a fit (y ∷ log) InCore Reached fits climbs seen = (
@@ -168,9 +170,8 @@ module _ (k : Correspondence) (is : IsCorrespondence k) where
       apart_from : (b : Access) → ((x : ℕ) → Touches b x → x < k.declared) → MayPrecede a b
       apart_from b own = sharing_none a b (λ x flag its. let m = own x its in let n = fit.flags x flag in absurd (omega (m, n, arith)))
 
-      by_entry : (y : Entry) → Fits k y → ((h s s' : ℕ) → Reached h s → HasStage k y h s' → s ≤ s') → (c : ℕ) → k.CoreApart t (core_act k y).thread c →
-          InCore c →
-          MayPrecede a (core_act k y).access
+      by_entry : (y : Entry) → FitsFreely k IsFree y → ((h s s' : ℕ) → Reached h s → HasStage k y h s' → s ≤ s') → (c : ℕ) →
+          k.CoreApart t (core_act k y).thread c → InCore c → MayPrecede a (core_act k y).access
       by_entry (Image q b) its first c met is_open = apart_from b its
       by_entry (Watched q g stage b) its first c met is_open = plain_second a b its.writes_nothing
       by_entry (Silent u at' b) its first c met is_open =
@@ -181,7 +182,7 @@ module _ (k : Correspondence) (is : IsCorrespondence k) where
   abbrev Goes : Entry → List Entry → (ℕ → ℕ → Type 0) → Type 0
   Goes y log Reached = Clear k.CoreApart (core_act k y) EachIsOpen (core_log k log)
 
-  core_orderly : (log : List Entry) (Reached : ℕ → ℕ → Type 0) → EachFits k log → EachSpared k log → Climbs k Reached log →
+  core_orderly : (log : List Entry) (Reached : ℕ → ℕ → Type 0) → EachFitsFreely k IsFree log → EachSpared k log → Climbs k Reached log →
       Orderly k.ChartApart (chart_log log) → Orderly k.CoreApart (core_log k log)
   core_orderly [] Reached fits spared climbs orderly = tt
   core_orderly (Image r a ∷ log) Reached fits spared climbs orderly = (
@@ -211,8 +212,13 @@ module _ (k : Correspondence) (is : IsCorrespondence k) where
   )
 
   -- the core's log is admissible where the chart's is
-  pub stages_kept : (log : List Entry) → EachFits k log → EachSpared k log → Climbs k NoneReached log → IsOrdered k.ChartApart (chart_log log) →
-      IsOrdered k.CoreApart (core_log k log)
-  stages_kept log fits spared climbs ordered =
+  pub stages_kept_freely : (log : List Entry) → EachFitsFreely k IsFree log → EachSpared k log → Climbs k NoneReached log →
+      IsOrdered k.ChartApart (chart_log log) → IsOrdered k.CoreApart (core_log k log)
+  stages_kept_freely log fits spared climbs ordered =
       admissible_from_orderly k.CoreApart (core_log k log)
       (core_orderly log NoneReached fits spared climbs (orderly_from_admissible k.ChartApart (chart_log log) ordered))
+
+-- so it is where no stage is free
+pub stages_kept : (k : Correspondence) → IsCorrespondence k → (log : List Entry) → EachFits k log → EachSpared k log → Climbs k NoneReached log →
+    IsOrdered k.ChartApart (chart_log log) → IsOrdered k.CoreApart (core_log k log)
+stages_kept k is log fits spared climbs ordered = stages_kept_freely k is NoneFree log (each_fits_none k log fits) spared climbs ordered

@@ -7,7 +7,7 @@ use Rattle.chart_machine.specs.declared.standing.Move.{Move}
 use Rattle.chart_machine.specs.declared.table.StateRow.{StateRow}
 use Rattle.chart_machine.specs.declared.table.Table.{Table}
 use Rattle.chart_machine.specs.declared.table.TablePosition.{TablePosition}
-use Rattle.chart_machine.specs.Table.{Piece, state_at, region_numbers, entered_state, is_superstate, come_to}
+use Rattle.chart_machine.specs.Table.{Subtree, state_at, region_numbers, entered_state, is_superstate, come_to}
 use Rattle.chart_machine.specs.Steps.{to}
 use Rattle.chart_machine_laws.specs.Tree.{holder}
 use Rattle.abort_expansion_laws.specs.CoreRows.{own}
@@ -20,7 +20,7 @@ pub data Entry (k : Table) (s : ℕ) : Type 0 where
   entry_opens : (state_at k s).regions ≢ [] → at_once (strong_aborts (own k s)) ≡ [] →
       (state_at k s).entered ≡ to (holder k s) (at.Within s (first_closing_tests (own k s))) ∷ (state_at k s).opened → Entry k s
 
-abbrev row_of : TablePosition → Bool → List Piece → List Transition → List Move → StateRow
+abbrev row_of : TablePosition → Bool → List Subtree → List Transition → List Move → StateRow
 row_of a final pieces all opened =
     record {
       holder = a.holder;
@@ -31,7 +31,7 @@ row_of a final pieces all opened =
     }
 
 module _ (k : Table) (a : TablePosition) (all : List Transition) (opened : List Move) where
-  of_superstate : (p : Piece) (pieces : List Piece) → state_at k a.state ≡ row_of a false (p ∷ pieces) all opened →
+  of_superstate : (p : Subtree) (pieces : List Subtree) → state_at k a.state ≡ row_of a false (p ∷ pieces) all opened →
       (strong : List Transition) → at_once (strong_aborts all) ≡ strong → Entry k a.state
   of_superstate p pieces is strong e = by_strong strong e
     where
@@ -53,13 +53,13 @@ module _ (k : Table) (a : TablePosition) (all : List Transition) (opened : List 
           (ap (λ zs. come_to a.holder a.state zs (first_closing_tests all) opened) e ∙
           sym (ap (λ z. to z.holder (at.Entering a.state (t ∷ tests)) ∷ []) is)))
 
-  of_row : (final : Bool) (pieces : List Piece) → state_at k a.state ≡ row_of a final pieces all opened → Entry k a.state
+  of_row : (final : Bool) (pieces : List Subtree) → state_at k a.state ≡ row_of a final pieces all opened → Entry k a.state
   of_row true pieces is = entry_ends (ap (λ z. z.entered) is ∙ sym (ap (λ z. to z.holder at.Ended ∷ []) is))
   of_row false [] is =
       entry_tries (ap (λ z. z.regions) is)
       (ap (λ z. z.entered) is ∙ sym (ap (λ z. to z.holder (at.Trying a.state (at_once z.transitions)) ∷ []) is))
   of_row false (p ∷ pieces) is = of_superstate p pieces is (at_once (strong_aborts all)) refl
 
-pub entry_of : (k : Table) (a : TablePosition) (final : Bool) (pieces : List Piece) (all : List Transition) (opened : List Move) →
+pub entry_of : (k : Table) (a : TablePosition) (final : Bool) (pieces : List Subtree) (all : List Transition) (opened : List Move) →
     state_at k a.state ≡ row_of a final pieces all opened → Entry k a.state
 entry_of k a final pieces all opened is = of_row k a all opened final pieces is

@@ -9,7 +9,7 @@ use Rattle.sc_text.proofs.EachItem.{Each}
 use Rattle.core_charts.specs.declared.region.State.{State}
 use Rattle.chart_machine.specs.declared.table.RegionRow.{RegionRow}
 use Rattle.chart_machine.specs.declared.table.Table.{Table}
-use Rattle.chart_machine.specs.Table.{Piece, region_at}
+use Rattle.chart_machine.specs.Table.{Subtree, region_at}
 use Rattle.chart_machine.specs.Table.{state_numbers}
 use Rattle.chart_machine_laws.specs.Tree.{IsThere, holder}
 use Rattle.chart_machine_laws.proofs.ChartTables.{within_or_past}
@@ -74,6 +74,6 @@ pub begins_where : (counter : Option ℕ) (pieces : List StatePiece) → begins_
 begins_where (Some x) pieces h = h
 begins_where None pieces h = absurd cc
 
-pub first_number : (pieces : List Piece) (n q x : ℕ) → slice_get (state_numbers pieces n) q ≡ Some x → unwrap_or (slice_get (state_numbers pieces n) 0) 0 ≡ n
+pub first_number : (pieces : List Subtree) (n q x : ℕ) → slice_get (state_numbers pieces n) q ≡ Some x → unwrap_or (slice_get (state_numbers pieces n) 0) 0 ≡ n
 first_number [] n q x e = absurd (none-some x e)
 first_number (p ∷ pieces) n q x e = refl

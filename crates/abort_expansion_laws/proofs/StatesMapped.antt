@@ -17,7 +17,7 @@ use Rattle.core_charts.specs.Aborts.{has_aborts}
 use Rattle.core_charts.specs.Rules.{IsRegion, AreRegions, depth_limit}
 use Rattle.scl_graph_laws.proofs.Segments.{StandAt, stand_from, stand_first, stand_second, stand_all}
 use Rattle.chart_machine.specs.Table as tables
-use Rattle.chart_machine_laws.proofs.RowsOfPieces.{side_states}
+use Rattle.chart_machine_laws.proofs.RowsOfSubtrees.{side_states}
 use Rattle.abort_expansion.specs.declared.flags.Flags.{Flags}
 use Rattle.abort_expansion.specs.declared.places.RegionPlaces.{RegionPlaces}
 use Rattle.abort_expansion.specs.declared.pieces.StatePieces.{StatePieces}
@@ -124,12 +124,12 @@ module _ (those : List StateOfText) where
       Here (all_in (map states_of_region regions)) at →
       MappedRegions those (expanded_regions (map piece_of_region regions) around counter at).regions
       (expanded_regions (map piece_of_region regions) around counter at).stands_for
-  regions_mapped [] h around counter at here = none_mapped those Region states_of_region tables.piece_of_region
+  regions_mapped [] h around counter at here = none_mapped those Region states_of_region tables.subtree_of_region
   regions_mapped (r ∷ regions) h around counter at here =
       let next : NextNumbers = past_region (weak_around around) (piece_of_region r) at in
       let own : Regions = (piece_of_region r).made around counter at in
       let rest : Regions = expanded_regions (map piece_of_region regions) around counter next in
-      mapped_append those Region states_of_region tables.piece_of_region own.regions rest.regions own.stands_for rest.stands_for
+      mapped_append those Region states_of_region tables.subtree_of_region own.regions rest.regions own.stands_for rest.stands_for
       (h.0.mapped around counter at (here_first (states_of_region r) (all_in (map states_of_region regions)) at here))
       (regions_mapped regions h.1 around counter next
       (here_second (states_of_region r) (all_in (map states_of_region regions)) at next (omega (arith, h.0.many)) (omega (arith, h.0.numbered)) here))
@@ -142,10 +142,10 @@ module _ (those : List StateOfText) where
 
   watched_mapped : (b : Bool) (s : ℕ) (around : List Flags) (flags : Flags) (own : List Transition) →
       MappedRegions those (watched b (monitor s around flags own)) (if b then None ∷ None ∷ [] else [])
-  watched_mapped false s around flags own = none_mapped those Region states_of_region tables.piece_of_region
+  watched_mapped false s around flags own = none_mapped those Region states_of_region tables.subtree_of_region
   watched_mapped true s around flags own =
       region_mapped those _ _ (None ∷ None ∷ [])
-      (mapped_append those State states_of_state tables.piece_of_state (_ ∷ []) (abandoned ∷ []) (None ∷ []) (None ∷ [])
+      (mapped_append those State states_of_state tables.subtree_of_state (_ ∷ []) (abandoned ∷ []) (None ∷ []) (None ∷ [])
       (simple_mapped those _ None (watches refl) refl) (simple_mapped those _ None (leaves refl) refl))
 
   -- a superstate of this row, where it stands, over what is inside it
@@ -156,9 +156,9 @@ module _ (those : List StateOfText) where
         (forked x.name own around flags inside to place begins at).stands_for
     forked_mapped place begins =
         let more : List (Option ℕ) = if has_aborts own then None ∷ None ∷ [] else [] in
-        mapped_append those State states_of_state tables.piece_of_state (_ ∷ []) (_ ∷ []) (Some at.state ∷ (inside.stands_for ++ more)) (Some at.state ∷ [])
+        mapped_append those State states_of_state tables.subtree_of_state (_ ∷ []) (_ ∷ []) (Some at.state ∷ (inside.stands_for ++ more)) (Some at.state ∷ [])
         (state_mapped those _ (Some at.state) (inside.stands_for ++ more) (itself at.state x there refl)
-        (mapped_append those Region states_of_region tables.piece_of_region inside.regions (watched (has_aborts own) (monitor at.superstate around flags own))
+        (mapped_append those Region states_of_region tables.subtree_of_region inside.regions (watched (has_aborts own) (monitor at.superstate around flags own))
         inside.stands_for more mapped (watched_mapped (has_aborts own) at.superstate around flags own)))
         (simple_mapped those _ (Some at.state) (continues at.state x there super (ap continuation_name counted)) refl)
 
@@ -172,7 +172,7 @@ module _ (those : List StateOfText) where
     superstate_mapped false false regions place begins = forked_mapped place begins
     superstate_mapped false true regions place begins =
         let more : StatePieces = forked x.name own around flags inside to (suc place) false at in
-        mapped_append those State states_of_state tables.piece_of_state (_ ∷ []) more.states (Some at.state ∷ []) more.stands_for
+        mapped_append those State states_of_state tables.subtree_of_state (_ ∷ []) more.states (Some at.state ∷ []) more.stands_for
         (simple_mapped those _ (Some at.state) (prepares at.state x there super (ap preparation_name counted)) refl) (forked_mapped (suc place) false)
 
   simple_made : (x : StateOfText) (at : NextNumbers) → slice_get those at.state ≡ Some x → (final : Bool) (own : List Transition) (around : List Flags)
@@ -253,13 +253,13 @@ module _ (those : List StateOfText) where
       Here (all_in (map states_of_state states)) at →
       MappedStates those (expanded_states anew (map piece_of_state states) around to place at).states
       (expanded_states anew (map piece_of_state states) around to place at).stands_for
-  states_mapped anew [] h around to place at here = none_mapped those State states_of_state tables.piece_of_state
+  states_mapped anew [] h around to place at here = none_mapped those State states_of_state tables.subtree_of_state
   states_mapped anew (s ∷ states) h around to place at here =
       let p : StatePiece = piece_of_state s in
       let next : NextNumbers = past_state (weak_around around) p at in
       let own : StatePieces = p.made around to place (p.is_initial && not anew) at in
       let rest : StatePieces = expanded_states anew (map piece_of_state states) around to (place + p.width around) next in
-      mapped_append those State states_of_state tables.piece_of_state own.states rest.states own.stands_for rest.stands_for
+      mapped_append those State states_of_state tables.subtree_of_state own.states rest.states own.stands_for rest.stands_for
       (h.0.mapped around to place (p.is_initial && not anew) at (here_first (states_of_state s) (all_in (map states_of_state states)) at here))
       (states_mapped anew states h.1 around to (place + p.width around) next
       (here_second (states_of_state s) (all_in (map states_of_state states)) at next (omega (arith, h.0.many)) (omega (arith, h.0.numbered)) here))
@@ -290,11 +290,11 @@ module _ (those : List StateOfText) where
       MappedStates those (new_initial b counter target number).states (new_initial b counter target number).stands_for
   new_initial_mapped true counter target number there =
       let x = there refl in simple_mapped those _ (Some number) (starts number x.0 x.1 refl) refl
-  new_initial_mapped false counter target number there = none_mapped those State states_of_state tables.piece_of_state
+  new_initial_mapped false counter target number there = none_mapped those State states_of_state tables.subtree_of_state
 
   left_behind_mapped : (b : Bool) → MappedStates those (left_behind b).states (left_behind b).stands_for
   left_behind_mapped true = simple_mapped those _ None (leaves refl) refl
-  left_behind_mapped false = none_mapped those State states_of_state tables.piece_of_state
+  left_behind_mapped false = none_mapped those State states_of_state tables.subtree_of_state
 
   begins_where : (counter : Option ℕ) (pieces : List StatePiece) → begins_anew counter pieces ≡ true →
       list_any (λ s. s.is_initial && s.is_final) pieces ≡ true
@@ -311,11 +311,11 @@ module _ (those : List StateOfText) where
       let first : StatePieces = new_initial anew counter (initial_place pieces around begin) (initial_number pieces at.state) in
       let text : StatePieces = expanded_states anew pieces around (region_places pieces around counter begin) begin at in
       let last : StatePieces = left_behind (aborts_around around) in
-      mapped_append those State states_of_state tables.piece_of_state first.states (text.states ++ last.states) first.stands_for
+      mapped_append those State states_of_state tables.subtree_of_state first.states (text.states ++ last.states) first.stands_for
       (text.stands_for ++ last.stands_for)
       (new_initial_mapped anew counter (initial_place pieces around begin) (initial_number pieces at.state)
       (λ yes. initial_there states h (begins_where counter pieces yes) at.state here.stand))
-      (mapped_append those State states_of_state tables.piece_of_state text.states last.states text.stands_for last.stands_for
+      (mapped_append those State states_of_state tables.subtree_of_state text.states last.states text.stands_for last.stands_for
       (states_mapped anew states h around (region_places pieces around counter begin) begin at here) (left_behind_mapped (aborts_around around)))
 
   pub region_is_mapped : (r : Region) → EachMapped (out-Region r).states → RegionIsMapped (piece_of_region r) (states_of_region r)
@@ -367,7 +367,7 @@ states_mapped_all c rules =
     let mapped : MappedRegions those (expanded c).regions (state_map c) =
     regions_mapped those c.regions (all_mapped those features.Extended c.variables depth_limit c.regions rules.regions) [] None (whole (length c.variables))
     (record { stand = stand_all those; counted = refl }) in (
-      sym (side_states (map tables.piece_of_region (expanded c).regions) tables.whole mapped.sized ∙ mapped.many),
+      sym (side_states (map tables.subtree_of_region (expanded c).regions) tables.whole mapped.sized ∙ mapped.many),
       as_many those (states_of (expanded c)) (state_map c) mapped.named,
       entry_stands those (states_of (expanded c)) (state_map c) mapped.named,
     )

@@ -1,8 +1,6 @@
--- Each step of a chart is followed, by where its region stands and how its first test comes out; so, of weakly layered charts, the law of the
--- expansion.
+-- Each step of a chart is followed, by where its region stands and how its first test comes out.
 use Rattle.std.proofs.Common.{◌≡◌, ℕ, ◌⊎◌, inl, inr, Bool, true, false, Option, Some, None, List, [], ◌∷◌}
 use Rattle.std.proofs.Common.{option_map, if◌then◌else◌, Contains, refl, sym, ap, subst, ◌∙◌}
-use Rattle.sc_graph.specs.Tick.{AreAccepted}
 use Rattle.core_charts.specs.declared.features.Features.TheVariants as features
 use Rattle.core_charts.specs.declared.region.Effect.{Effect}
 use Rattle.core_charts.specs.declared.region.Transition.{Transition}
@@ -20,9 +18,6 @@ use Rattle.chart_machine_laws.specs.Tree.{around, holder}
 use Rattle.core_charts.specs.Aborts.{has_weak}
 use Rattle.chart_machine.specs.Steps.{to, verdict, tested, taken, step, change_of, entering_on, guarding_on}
 use Rattle.abort_expansion.specs.Expansion.{expanded}
-use Rattle.abort_expansion_laws.specs.Layered.{IsWeaklyLayered}
-use Rattle.abort_expansion_laws.specs.Preemption.{chart_machine, SeenAlike, HasImage}
-use Rattle.abort_expansion_laws.specs.Ticks.{Keeps}
 use Rattle.abort_expansion_laws.specs.Stages.{Entry}
 use Rattle.abort_expansion_laws.specs.CoreRows.{own, Images}
 use Rattle.abort_expansion_laws.specs.Related.{Related}
@@ -30,15 +25,12 @@ use Rattle.abort_expansion_laws.proofs.CasesFollowed as one
 use Rattle.abort_expansion_laws.proofs.KnownVariables.{Stepped, stepped}
 use Rattle.abort_expansion_laws.proofs.LeavesFollowed as leave
 use Rattle.abort_expansion_laws.proofs.OwnTests.{OwnTests, IsOwn}
-use Rattle.abort_expansion_laws.proofs.PreemptionKept.{ToldHere, preemption_kept}
+use Rattle.abort_expansion_laws.proofs.PreemptionKept.{ToldHere}
 use Rattle.abort_expansion_laws.proofs.RowsOfCharts as whole
 use Rattle.abort_expansion_laws.proofs.TestTargets.{ends_untested}
-use Rattle.abort_expansion_laws.proofs.TickFollowed as ticks
 use Rattle.abort_expansion_laws.proofs.StrongTestReady.{strong_ready}
 use Rattle.abort_expansion_laws.proofs.WeakTestReady as ready
-use Rattle.abort_expansion_laws.proofs.FlagStages.{FlagStages, WeakFits, usual, early_stages, outer_fits}
-use Rattle.abort_expansion_laws.proofs.TickRows.{start_rows}
-use Rattle.abort_expansion_laws.proofs.MoreRows.{weak_at}
+use Rattle.abort_expansion_laws.proofs.FlagStages.{FlagStages, WeakFits, early_stages, outer_fits}
 
 module _ (c : Chart) (rules : IsChart features.Extended c) (core_rules : IsChart features.Core (expanded c)) (stages : FlagStages c rules core_rules)
   where
@@ -149,23 +141,3 @@ module _ (c : Chart) (rules : IsChart features.Extended c) (core_rules : IsChart
   each_step_followed now d related owns r next goes =
       step_followed c rules core_rules (early_stages c rules core_rules (around (table c) r)) now d related owns r next goes
       (λ s t tests stands weak holds held has. outer_fits c rules core_rules r s held)
-
-  -- in a weakly layered chart each one is followed as flags are written
-  module _ (layered : IsWeaklyLayered c) where
-    pub steps_followed : ticks.StepsFollowed c rules core_rules (usual c rules core_rules) (λ now r. Unit {0}) (OwnTests (table c))
-        (ToldHere c rules core_rules)
-    steps_followed now d related owns r next may goes =
-        step_followed c rules core_rules (usual c rules core_rules) now d related owns r next goes
-        (λ s t tests stands weak holds held has.
-        record {
-          own_two = λ x flag. weak_at c rules core_rules s x flag;
-          outer_zero = λ u x outer flag.
-              let wrong : true ≡ false =
-              sym has
-              ∙ layered.weak_apart u s (subst (λ q. Contains (around (table c) q) u) (sym held) outer) ((start_rows c rules core_rules).weak_for u x flag) in
-              absurd cc;
-        })
-
-    -- the law of the expansion
-    pub preemption_holds : (image : HasImage c) → Keeps (chart_machine c) (chart_machine (expanded c)) (AreAccepted image.program) (SeenAlike c)
-    preemption_holds image = preemption_kept c rules core_rules image steps_followed

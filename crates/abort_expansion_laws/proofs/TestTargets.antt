@@ -18,10 +18,10 @@ use Rattle.core_charts.specs.Tests.{is_join}
 use Rattle.core_charts.specs.Rules.{IsChart, IsRegion, IsState, AreRegions, depth_limit}
 use Rattle.chart_machine.specs.declared.table.Table.{Table}
 use Rattle.chart_machine.specs.declared.table.TablePosition.{TablePosition}
-use Rattle.chart_machine.specs.Table.{Piece, table, whole, region_at, side_by_side, behind, within, inside_region, states_in, next_behind}
-use Rattle.chart_machine.specs.Table.{past_states, state_numbers, regions_in_initial, region_piece, state_piece, piece_of_region, piece_of_state}
+use Rattle.chart_machine.specs.Table.{Subtree, table, whole, region_at, side_by_side, behind, within, inside_region, states_in, next_behind}
+use Rattle.chart_machine.specs.Table.{past_states, state_numbers, regions_in_initial, region_subtree, state_subtree, subtree_of_region, subtree_of_state}
 use Rattle.chart_machine_laws.specs.Tree.{holder}
-use Rattle.chart_machine_laws.proofs.RowsOfPieces.{Holds, IsSized, AllSized, state_sized, region_sized, side_states}
+use Rattle.chart_machine_laws.proofs.RowsOfSubtrees.{Holds, IsSized, AllSized, state_sized, region_sized, side_states}
 use Rattle.chart_machine_laws.proofs.TableTrees.{OnceInitial}
 use Rattle.chart_machine_laws.proofs.ChartTables.{holds_whole, within_or_past}
 use Rattle.abort_expansion_laws.specs.CoreRows.{own}
@@ -32,7 +32,7 @@ use Rattle.abort_expansion_laws.proofs.RowsOfForks.{region_rows}
 use Rattle.abort_expansion_laws.proofs.ChartWalk.{one_state_begins}
 use Rattle.abort_expansion_laws.proofs.QuietBegins.{no_tests_past}
 
-numbers_count : (ps : List Piece) (n : ℕ) → length (state_numbers ps n) ≡ length ps
+numbers_count : (ps : List Subtree) (n : ℕ) → length (state_numbers ps n) ≡ length ps
 numbers_count [] n = refl
 numbers_count (p ∷ ps) n = ap suc (numbers_count ps (n + p.states))
 
@@ -45,43 +45,43 @@ module _ (k : Table) where
   TargetsThere s = (t : Transition) → Contains (own k s) t → Keeps (length (region_at k (holder k s)).states) t
 
   record RegionLeads (r : Region) : Type 0 where
-    leads : (a : TablePosition) → Holds k a ((piece_of_region r).parts a) → Range TargetsThere a.state (a.state + (piece_of_region r).states)
-    sized : IsSized (piece_of_region r)
+    leads : (a : TablePosition) → Holds k a ((subtree_of_region r).parts a) → Range TargetsThere a.state (a.state + (subtree_of_region r).states)
+    sized : IsSized (subtree_of_region r)
 
   -- of a state of a region with so many states
-  record StateLeads (count : ℕ) (p : Piece) : Type 0 where
+  record StateLeads (count : ℕ) (p : Subtree) : Type 0 where
     leads : (a : TablePosition) → Holds k a (p.parts a) → length (region_at k a.holder).states ≡ count → Range TargetsThere a.state (a.state + p.states)
     sized : IsSized p
 
   abbrev Leads : ℕ → State → Type 0
-  Leads count s = StateLeads count (piece_of_state s)
+  Leads count s = StateLeads count (subtree_of_state s)
 
-  sized_regions : (regions : List Region) → Each RegionLeads regions → AllSized (map piece_of_region regions)
+  sized_regions : (regions : List Region) → Each RegionLeads regions → AllSized (map subtree_of_region regions)
   sized_regions [] each = tt
   sized_regions (r ∷ regions) each = (each.0.sized, sized_regions regions each.1)
 
-  sized_states : (count : ℕ) (states : List State) → Each (Leads count) states → AllSized (map piece_of_state states)
+  sized_states : (count : ℕ) (states : List State) → Each (Leads count) states → AllSized (map subtree_of_state states)
   sized_states count [] each = tt
   sized_states count (s ∷ states) each = (each.0.sized, sized_states count states each.1)
 
-  side_leads : (regions : List Region) → Each RegionLeads regions → (a : TablePosition) → Holds k a (side_by_side (map piece_of_region regions) a) →
-      Range TargetsThere a.state (a.state + states_in (map piece_of_region regions))
+  side_leads : (regions : List Region) → Each RegionLeads regions → (a : TablePosition) → Holds k a (side_by_side (map subtree_of_region regions) a) →
+      Range TargetsThere a.state (a.state + states_in (map subtree_of_region regions))
   side_leads [] each a holds = range_none TargetsThere a.state (a.state + 0) (omega arith)
   side_leads (r ∷ regions) each a holds =
-      let p : Piece = piece_of_region r in
-      range_to TargetsThere a.state ((a.state + p.states) + states_in (map piece_of_region regions)) (a.state + states_in (p ∷ map piece_of_region regions))
+      let p : Subtree = subtree_of_region r in
+      range_to TargetsThere a.state ((a.state + p.states) + states_in (map subtree_of_region regions)) (a.state + states_in (p ∷ map subtree_of_region regions))
       (omega arith)
-      (range_both TargetsThere a.state (a.state + p.states) ((a.state + p.states) + states_in (map piece_of_region regions))
-      (each.0.leads a (side_head k p (map piece_of_region regions) a holds))
-      (side_leads regions each.1 (behind p a) (side_tail k p (map piece_of_region regions) a each.0.sized holds)))
+      (range_both TargetsThere a.state (a.state + p.states) ((a.state + p.states) + states_in (map subtree_of_region regions))
+      (each.0.leads a (side_head k p (map subtree_of_region regions) a holds))
+      (side_leads regions each.1 (behind p a) (side_tail k p (map subtree_of_region regions) a each.0.sized holds)))
 
   inner_leads : (count : ℕ) (states : List State) → Each (Leads count) states → (a : TablePosition) (next : ℕ) →
-      InRegionAt k (map piece_of_state states) next a → OnceInitial (map piece_of_state states) → length (region_at k a.holder).states ≡ count →
-      Range TargetsThere a.state (a.state + states_in (map piece_of_state states))
+      InRegionAt k (map subtree_of_state states) next a → OnceInitial (map subtree_of_state states) → length (region_at k a.holder).states ≡ count →
+      Range TargetsThere a.state (a.state + states_in (map subtree_of_state states))
   inner_leads count [] each a next rows once many = range_none TargetsThere a.state (a.state + 0) (omega arith)
   inner_leads count (s ∷ states) each a next rows once many =
-      let p : Piece = piece_of_state s in
-      let ps : List Piece = map piece_of_state states in
+      let p : Subtree = subtree_of_state s in
+      let ps : List Subtree = map subtree_of_state states in
       range_to TargetsThere a.state ((a.state + p.states) + states_in ps) (a.state + states_in (p ∷ ps)) (omega arith)
       (range_both TargetsThere a.state (a.state + p.states) ((a.state + p.states) + states_in ps)
       (each.0.leads (position_of p.is_initial next a) (first_holds k p ps next a rows) many)
@@ -89,8 +89,8 @@ module _ (k : Table) where
 
   module _ (name : List ℕ) (initial final : Bool) (regions : List Region) (all : List Transition) (each : Each RegionLeads regions)
       (count : ℕ) (lead : (t : Transition) → Contains all t → Keeps count t) where
-    abbrev layer : Piece
-    layer = state_piece (record { name = name; is_initial = initial; is_final = final; regions = map piece_of_region regions; transitions = all })
+    abbrev layer : Subtree
+    layer = state_subtree (record { name = name; is_initial = initial; is_final = final; regions = map subtree_of_region regions; transitions = all })
 
     own_leads : (a : TablePosition) → Holds k a (layer.parts a) → length (region_at k a.holder).states ≡ count → TargetsThere a.state
     own_leads a holds many t h =
@@ -102,11 +102,11 @@ module _ (k : Table) where
     layer_leads =
         record {
           leads = λ a holds many.
-              range_more TargetsThere a.state (a.state + suc (states_in (map piece_of_region regions))) (own_leads a holds many)
-              (range_to TargetsThere (suc a.state) (suc a.state + states_in (map piece_of_region regions)) (a.state + suc (states_in
-              (map piece_of_region regions)))
+              range_more TargetsThere a.state (a.state + suc (states_in (map subtree_of_region regions))) (own_leads a holds many)
+              (range_to TargetsThere (suc a.state) (suc a.state + states_in (map subtree_of_region regions)) (a.state + suc (states_in
+              (map subtree_of_region regions)))
               (omega arith) (side_leads regions each (within a) (record { states = holds.states.1; regions = holds.regions })));
-          sized = state_sized (record { name = name; is_initial = initial; is_final = final; regions = map piece_of_region regions; transitions = all })
+          sized = state_sized (record { name = name; is_initial = initial; is_final = final; regions = map subtree_of_region regions; transitions = all })
               (sized_regions regions each);
         }
 
@@ -114,13 +114,13 @@ module _ (k : Table) where
       ((t : Transition) → Contains (out-State s).transitions t → Keeps count t) → Leads count s
   state_leads count s each lead =
       let o = out-State s in
-      subst (StateLeads count) (sym (fold_out-State Piece Piece region_piece state_piece s))
+      subst (StateLeads count) (sym (fold_out-State Subtree Subtree region_subtree state_subtree s))
       (layer_leads o.name o.is_initial o.is_final o.regions o.transitions each count lead)
 
-  abbrev layer_of : Region → Region-F Piece Piece
-  layer_of r = record { name = (out-Region r).name; states = map piece_of_state (out-Region r).states }
+  abbrev layer_of : Region → Region-F Subtree Subtree
+  layer_of r = record { name = (out-Region r).name; states = map subtree_of_state (out-Region r).states }
 
-  region_leads : (r : Region) → OnceInitial (map piece_of_state (out-Region r).states) →
+  region_leads : (r : Region) → OnceInitial (map subtree_of_state (out-Region r).states) →
       Each (Leads (length (out-Region r).states)) (out-Region r).states → RegionLeads r
   region_leads r once each =
       record {
@@ -128,16 +128,16 @@ module _ (k : Table) where
             subst (λ p. Range TargetsThere a.state (a.state + p.states)) (sym is)
             (let rows = region_rows k (layer_of r) a sized (subst (λ p. Holds k a (p.parts a)) is holds) in
             inner_leads (length (out-Region r).states) (out-Region r).states each (inside_region a)
-            (suc a.region + regions_in_initial (map piece_of_state (out-Region r).states)) rows.1 once
+            (suc a.region + regions_in_initial (map subtree_of_state (out-Region r).states)) rows.1 once
             (ap (λ z. length z.states) rows.0
-            ∙ (numbers_count (map piece_of_state (out-Region r).states) a.state ∙ length-map (out-Region r).states piece_of_state)));
+            ∙ (numbers_count (map subtree_of_state (out-Region r).states) a.state ∙ length-map (out-Region r).states subtree_of_state)));
         sized = subst IsSized (sym is) (region_sized (layer_of r) sized);
       }
     where
-      is : piece_of_region r ≡ region_piece (layer_of r)
-      is = fold_out-Region Piece Piece region_piece state_piece r
+      is : subtree_of_region r ≡ region_subtree (layer_of r)
+      is = fold_out-Region Subtree Subtree region_subtree state_subtree r
 
-      sized : AllSized (map piece_of_state (out-Region r).states)
+      sized : AllSized (map subtree_of_state (out-Region r).states)
       sized = sized_states (length (out-Region r).states) (out-Region r).states each
 
   regions_lead : (f : Features) (variables : List Variable) (levels : ℕ) (regions : List Region) → AreRegions f variables levels regions →
@@ -173,8 +173,8 @@ keeps_rules : (f : Features) (c : Chart) → IsChart f c → (s : ℕ) → s < l
     Keeps (table c) (length (region_at (table c) (holder (table c) s)).states) t
 keeps_rules f c rules s lt =
     let each : Each (RegionLeads (table c)) c.regions = regions_lead (table c) f c.variables depth_limit c.regions rules.regions in
-    let size : length (table c).states ≡ states_in (map piece_of_region c.regions) =
-    side_states (map piece_of_region c.regions) whole (sized_regions (table c) c.regions each) in
+    let size : length (table c).states ≡ states_in (map subtree_of_region c.regions) =
+    side_states (map subtree_of_region c.regions) whole (sized_regions (table c) c.regions each) in
     side_leads (table c) c.regions each whole (holds_whole c.variables c.regions) s (omega arith) (omega (lt, size, arith))
 
 pub targets_there : (f : Features) (c : Chart) → IsChart f c → (s : ℕ) → s < length (table c).states → (t : Transition) → Contains (own (table c) s) t →

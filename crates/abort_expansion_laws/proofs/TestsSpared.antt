@@ -260,7 +260,7 @@ module _ (c : Chart) (rules : IsChart features.Extended c) (core_rules : IsChart
         goes_on = λ inputs d e accepted rests ends. ∥∥₁_map rests (λ x.
             let to = tick_starts.goes_to (expanded c) image.scl image.tables (lowers x.0) is_valid inputs (takes inputs accepted) d x.1 x.2 e ends in
             (x.0, to.0, to.1));
-        spared = λ inputs before d accepted rests alike stages log e follows fits.
+        spared = λ inputs before d accepted rests alike stages log e follows.
             stable_all (ticks.corr_at c rules core_rules stages) log
             (λ none. not_there rests (λ x.
             none (spared_in_tick c rules core_rules image.scl (lowers x.0) image.tables is_valid inputs (takes inputs accepted) before d x.1 x.2 alike

@@ -4,7 +4,7 @@ use Rattle.std.proofs.Common.{subst, ◌∙◌, if◌then◌else◌}
 use Rattle.std.specs.List.{list_any}
 use Rattle.sc_text.proofs.EachItem.{Each}
 use Rattle.core_charts.specs.declared.region.State.{State}
-use Rattle.chart_machine.specs.Table.{state_numbers, piece_of_state as table_of_state}
+use Rattle.chart_machine.specs.Table.{state_numbers, subtree_of_state as table_of_state}
 use Rattle.chart_machine.specs.Table.{state_at, region_at}
 use Rattle.chart_machine.specs.Steps.{state_in}
 use Rattle.chart_machine_laws.specs.Tree.{around, holder}

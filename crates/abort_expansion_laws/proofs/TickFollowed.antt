@@ -79,6 +79,13 @@ module _ (c : Chart) (rules : IsChart features.Extended c) (core_rules : IsChart
     pub rests : Resting k core i at_end core_at_end
     pub over : IsOver (machine k) at_end
 
+  -- a region is entered as a tick starts
+  pub started_begun : (now core_now : Configuration) → Started k core i now core_now → HasBegun k now
+  started_begun now core_now (first_tick inputs chart_is core_is) =
+      subst (HasBegun k) (sym chart_is) (first_begun c rules core_rules inputs)
+  started_begun now core_now (later_tick inputs before core_before rests chart_is core_is) =
+      subst (HasBegun k) (sym chart_is) (starts_begun k core i before core_before rests inputs)
+
   module _ (stages : FlagStages c rules core_rules) (May : Configuration → ℕ → Type 0) (Told : Configuration → Entry → Type 0)
       (told : (d : Configuration) (t : ℕ) (stage : Option (ℕ × ℕ)) (a : Access) → Told d (Silent t stage a))
       (Holds : Configuration → Type 0) (kept : KeptByChart Holds) (followed : StepsFollowed stages May Holds Told) where
@@ -109,12 +116,6 @@ module _ (c : Chart) (rules : IsChart features.Extended c) (core_rules : IsChart
           climbs = s.climbs;
           reaches = later;
         }
-
-    started_begun : (now core_now : Configuration) → Started k core i now core_now → HasBegun k now
-    started_begun now core_now (first_tick inputs chart_is core_is) =
-        subst (HasBegun k) (sym chart_is) (first_begun c rules core_rules inputs)
-    started_begun now core_now (later_tick inputs before core_before rests chart_is core_is) =
-        subst (HasBegun k) (sym chart_is) (starts_begun k core i before core_before rests inputs)
 
     simulation : Simulation (machine k) (machine core) (corr_at stages) Told
     simulation =

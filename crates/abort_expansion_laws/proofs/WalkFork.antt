@@ -12,8 +12,9 @@ use Rattle.chart_machine.specs.declared.standing.Standing.{Standing}
 use Rattle.chart_machine.specs.declared.standing.Standing.TheVariants as at
 use Rattle.chart_machine.specs.declared.table.Table.{Table}
 use Rattle.chart_machine.specs.declared.table.TablePosition.{TablePosition}
-use Rattle.chart_machine.specs.Table.{Piece, state_at, region_at, states_in, regions_in, region_numbers, state_numbers, side_by_side, state_piece}
-use Rattle.chart_machine.specs.Table.{within as table_within, piece_of_region as table_of_region, piece_of_state as table_of_state, past_states, next_behind}
+use Rattle.chart_machine.specs.Table.{Subtree, state_at, region_at, states_in, regions_in, region_numbers, state_numbers, side_by_side, state_subtree}
+use Rattle.chart_machine.specs.Table.{within as table_within, subtree_of_region as table_of_region, subtree_of_state as table_of_state}
+use Rattle.chart_machine.specs.Table.{past_states, next_behind}
 use Rattle.chart_machine.specs.Table.{come_to}
 use Rattle.chart_machine.specs.Steps.{state_in, to}
 use Rattle.core_charts.specs.Tests.{at_once, strong_aborts, first_closing_tests}
@@ -28,7 +29,7 @@ use Rattle.abort_expansion.specs.Pieces.{expanded_regions, variables_in}
 use Rattle.abort_expansion.specs.Superstates.{stays, is_prepared, within, forked, fork, watched, monitor, monitor_transitions, continuation}
 use Rattle.abort_expansion.specs.Expansion.{piece_of_region}
 use Rattle.chart_machine_laws.specs.Tree.{IsThere, around, holder}
-use Rattle.chart_machine_laws.proofs.RowsOfPieces.{Holds, IsSized, AllSized, state_sized}
+use Rattle.chart_machine_laws.proofs.RowsOfSubtrees.{Holds, IsSized, AllSized, state_sized}
 use Rattle.chart_machine_laws.proofs.TableTrees.{NoneInitial, OnceInitial}
 use Rattle.scl_graph_laws.proofs.Segments.{stand_from, stand_first, stand_second}
 use Rattle.abort_expansion_laws.specs.CoreRows.{own, IsState, is_final, ends, IsSuper, joins, simple_row, fork_row, watchers}
@@ -36,7 +37,8 @@ use Rattle.abort_expansion_laws.proofs.SimpleRows.{rolled_piece}
 use Rattle.abort_expansion_laws.proofs.InRegionRows.{InRegionAt, first_holds, rest_holds, position_of}
 use Rattle.abort_expansion_laws.proofs.SideRows.{past_side, side_first, side_second, side_entered, states_append, sized_append, numbers_append}
 use Rattle.abort_expansion_laws.proofs.Walked.{World, StateImage, ValuesAt, values_from, values_first, values_second, images_of, i, RegionFits, StateFits}
-use Rattle.abort_expansion_laws.proofs.Walked.{CoreStateFits, Origin, thread, watcher, OwnerFits, InRegion, Range, range_none, range_one, range_both, range_to}
+use Rattle.abort_expansion_laws.proofs.Walked.{CoreStateFits, CoreSort, for_super, for_behind, for_watching, for_nothing, Origin, thread, watcher, OwnerFits}
+use Rattle.abort_expansion_laws.proofs.Walked.{InRegion, Range, range_none, range_one, range_both, range_to}
 use Rattle.abort_expansion_laws.proofs.Walked.{FlagsFit, WatcherFits, range_more, behind_by}
 use Rattle.abort_expansion_laws.proofs.Walks.{Part, Fits, StateStands, RegionsStand, RegionsWalk, RegionWalks, pieces_of}
 use Rattle.abort_expansion_laws.proofs.WalkSide.{walk_side}
@@ -68,21 +70,21 @@ module _ (name : List ℕ) (initial : Bool) (r : Region) (others : List Region) 
   abbrev pub position : TablePosition
   position = position_of begins next b
 
-  abbrev pub chart_piece : Piece
-  chart_piece = state_piece (record { name = name; is_initial = initial; is_final = false; regions = map table_of_region regions; transitions = all })
+  abbrev pub chart_piece : Subtree
+  chart_piece = state_subtree (record { name = name; is_initial = initial; is_final = false; regions = map table_of_region regions; transitions = all })
 
   pub inner : RegionsWalk (side_by_side (map table_of_region regions) (table_within a)) (states_in (map table_of_region regions))
       (region_numbers (map table_of_region regions) a.region) inside (variables_in (weak_around (flags ++ f ∷ [])) (map piece_of_region regions))
       (flags ++ f ∷ []) f.counter inside_at (table_within a) (table_within position)
   inner = walk_side regions walks (flags ++ f ∷ []) f.counter inside_at (table_within a) (table_within position)
 
-  abbrev pub ps : List Piece
+  abbrev pub ps : List Subtree
   ps = map table_of_region inside.regions
 
   abbrev pub monitors : List Region
   monitors = watched (has_aborts all) (monitor numbers.superstate flags f all)
 
-  abbrev pub ms : List Piece
+  abbrev pub ms : List Subtree
   ms = map table_of_region monitors
 
   abbrev pub core_regions : List Region
@@ -97,8 +99,8 @@ module _ (name : List ℕ) (initial : Bool) (r : Region) (others : List Region) 
   abbrev pub fork_state : State
   fork_state = fork name begins core_regions (suc place)
 
-  abbrev pub fork_layer : Piece
-  fork_layer = state_piece (record {
+  abbrev pub fork_layer : Subtree
+  fork_layer = state_subtree (record {
     name = name;
     is_initial = begins;
     is_final = false;
@@ -223,7 +225,7 @@ module _ (name : List ℕ) (initial : Bool) (r : Region) (others : List Region) 
 
   -- ---- the rows of the core chart
 
-  pub held_core : (core : Table) (more : List Piece) → InRegionAt core (pieces_of made.states ++ more) next b → holder core b.state ≡ b.holder
+  pub held_core : (core : Table) (more : List Subtree) → InRegionAt core (pieces_of made.states ++ more) next b → holder core b.state ≡ b.holder
   held_core core more rows =
       ap (λ z. z.holder) (first_holds core fork_layer (table_of_state after ∷ more) next b
       (subst (λ p. InRegionAt core (p ∷ table_of_state after ∷ more) next b) fork_piece rows)).states.0
@@ -237,7 +239,7 @@ module _ (name : List ℕ) (initial : Bool) (r : Region) (others : List Region) 
       come [] (m ∷ moves) = refl
       come (t ∷ strong) opened = refl
 
-  module _ (w : World) (more : List Piece) (stands : StateStands w chart_piece made flags places place numbers a b next more part) where
+  module _ (w : World) (more : List Subtree) (stands : StateStands w chart_piece made flags places place numbers a b next more part) where
     img : w.image a.state ≡ image
     img = stands.entries.images.0
 
@@ -253,7 +255,7 @@ module _ (name : List ℕ) (initial : Bool) (r : Region) (others : List Region) 
     regions_row : (state_at w.k a.state).regions ≡ region_numbers (map table_of_region regions) a.region
     regions_row = ap (λ z. z.regions) stands.chart.states.0
 
-    super : IsSuper w.k a.state
+    pub super : IsSuper w.k a.state
     super none = let wrong : region_numbers (map table_of_region regions) a.region ≡ [] = sym regions_row ∙ none in absurd cc
 
     loc : Located w.k w.core (images_of w) a.state b.holder flags places all
@@ -263,7 +265,7 @@ module _ (name : List ℕ) (initial : Bool) (r : Region) (others : List Region) 
     here_of [] e some = absurd (some refl)
     here_of (m ∷ ms) e some = state_there w.k a.state m ms e
 
-    here : IsState w.k a.state
+    pub here : IsState w.k a.state
     here = here_of _ (ap (λ z. z.entered) stands.chart.states.0) (come (at_once (strong_aborts all)))
       where
         come : (strong : List Transition) → come_to a.holder a.state strong
@@ -479,7 +481,10 @@ module _ (name : List ℕ) (initial : Bool) (r : Region) (others : List Region) 
         let own_has : has_aborts (own w.k a.state) ≡ true = subst (λ z. has_aborts z ≡ true) (sym loc.own_is) has in
         let second : ℕ = v + (table_of_state (watching numbers.superstate flags f all)).states in
         range_more (CoreStateFits w) v (v + 2)
-        (watcher a.state here own_has (ap (λ z. z.holder) rows.row ∙ sym (watcher_is has)))
+        (record {
+          origin = watcher a.state here own_has (ap (λ z. z.holder) rows.row ∙ sym (watcher_is has));
+          sort = for_watching a.state here own_has (sym (ap (λ z. z.watching) img));
+        })
         (range_one (CoreStateFits w) (suc v) (v + 2) (omega arith)
         (subst (CoreStateFits w)
         (omega (
@@ -487,20 +492,21 @@ module _ (name : List ℕ) (initial : Bool) (r : Region) (others : List Region) 
           one_state Rattle.abort_expansion.specs.Flags.watching_name true false
               (Rattle.abort_expansion.specs.Superstates.monitor_transitions flags f all),
         ))
-        (watcher a.state here own_has (rows.ended_held ∙ sym (watcher_is has)))))
+        (record { origin = watcher a.state here own_has (rows.ended_held ∙ sym (watcher_is has)); sort = for_nothing rows.ended_bare })))
 
     core_range : Range (CoreStateFits w) b.state (b.state + states_in (pieces_of made.states))
     core_range =
         range_to (CoreStateFits w) b.state (suc behind) (b.state + states_in (pieces_of made.states)) (omega (arith, after_state))
-        (range_more (CoreStateFits w) b.state (suc behind) (own_thread b.state (ap (λ z. z.holder) fork_row_is))
+        (range_more (CoreStateFits w) b.state (suc behind) (own_thread b.state (ap (λ z. z.holder) fork_row_is) (for_super a.state here super (sym main_is)))
         (range_both (CoreStateFits w) (suc b.state) v (suc behind) (inner.facts w inner_stands).core_states
         (range_both (CoreStateFits w) v behind (suc behind)
         (range_to (CoreStateFits w) v (v + length (no_entries (has_aborts all))) behind
         (omega (arith, fork_states, watched_many (has_aborts all) numbers.superstate flags f all)) (monitor_range (has_aborts all) refl))
-        (range_one (CoreStateFits w) behind (suc behind) refl (own_thread behind (ap (λ z. z.holder) after_row))))))
+        (range_one (CoreStateFits w) behind (suc behind) refl
+        (own_thread behind (ap (λ z. z.holder) after_row) (for_behind a.state here super (sym behind_is)))))))
       where
-        own_thread : (n : ℕ) → holder w.core n ≡ b.holder → CoreStateFits w n
-        own_thread n e = thread a.holder stands.region.region.here (e ∙ sym stands.region.thread)
+        own_thread : (n : ℕ) → holder w.core n ≡ b.holder → CoreSort w n → CoreStateFits w n
+        own_thread n e sort = record { origin = thread a.holder stands.region.region.here (e ∙ sym stands.region.thread); sort = sort }
 
     owner_range : Range (OwnerFits w) numbers.variable (numbers.variable + variables)
     owner_range =

@@ -1,5 +1,5 @@
 -- A region of a chart, and its thread.
-use Rattle.std.proofs.Common.{◌≡◌, ℕ, suc, ◌+◌, ◌<◌, Bool, true, false}
+use Rattle.std.proofs.Common.{◌≡◌, ℕ, suc, ◌+◌, ◌<◌, Bool, true, false, None}
 use Rattle.std.proofs.Common.{Option, Some, List, [], ◌∷◌, ◌++◌, map, length, slice_get}
 use Rattle.std.proofs.Common.{unwrap_or, refl, sym, ap, subst, ◌∙◌, arith}
 use Rattle.std.specs.List.{list_any}
@@ -11,13 +11,13 @@ use Rattle.core_charts.specs.declared.region.Region.TheViews.{roll-Region, out-R
 use Rattle.core_charts.specs.declared.region.Region.TheFolds.{fold-roll-Region, fold_out-Region}
 use Rattle.core_charts.specs.declared.region.State.{State}
 use Rattle.chart_machine.specs.declared.table.TablePosition.{TablePosition}
-use Rattle.chart_machine.specs.Table.{Piece, state_at, region_at, states_in, side_by_side}
+use Rattle.chart_machine.specs.Table.{Subtree, state_at, region_at, states_in, side_by_side}
 use Rattle.chart_machine.specs.Table.{state_numbers, past_states, inside_region}
-use Rattle.chart_machine.specs.Table.{regions_in_initial, piece_of_state as table_of_state, piece_of_region as table_of_region}
-use Rattle.chart_machine.specs.Table.{region_piece as table_region_piece, state_piece as table_state_piece}
+use Rattle.chart_machine.specs.Table.{regions_in_initial, subtree_of_state as table_of_state, subtree_of_region as table_of_region}
+use Rattle.chart_machine.specs.Table.{region_subtree as table_region_piece, state_subtree as table_state_piece}
 use Rattle.chart_machine.specs.Steps.{state_in}
 use Rattle.chart_machine_laws.specs.Tree.{IsThere, around, holder}
-use Rattle.chart_machine_laws.proofs.RowsOfPieces.{Holds, IsSized, AllSized, region_sized}
+use Rattle.chart_machine_laws.proofs.RowsOfSubtrees.{Holds, IsSized, AllSized, region_sized}
 use Rattle.chart_machine_laws.proofs.TableTrees.{OnceInitial}
 use Rattle.scl_graph_laws.proofs.Segments.{StandAt, stand_from, stand_first, stand_second, stand_all}
 use Rattle.abort_expansion.specs.declared.flags.Flags.{Flags}
@@ -30,11 +30,11 @@ use Rattle.abort_expansion.specs.Pieces.{RegionPiece, StatePiece}
 use Rattle.abort_expansion.specs.Expansion.{piece_of_region, region_piece, state_piece, expanded_states, places, states_among}
 use Rattle.abort_expansion.specs.Expansion.{variables_among, begins_anew, initial_place, initial_number}
 use Rattle.abort_expansion.specs.Expansion.{new_initial, left_behind, region_places, region_over, named}
-use Rattle.abort_expansion_laws.specs.CoreRows.{is_final, flags_around, counter_over, RegionImage}
+use Rattle.abort_expansion_laws.specs.CoreRows.{own, is_final, flags_around, counter_over, RegionImage}
 use Rattle.abort_expansion_laws.proofs.InRegionRows.{InRegionAt, more_hold, next_past, none_append, once_append}
 use Rattle.abort_expansion_laws.proofs.SideRows.{states_append, sized_append, side_head}
 use Rattle.abort_expansion_laws.proofs.Walked.{World, ValuesAt, values_from, values_first, values_second, i, RegionFits, InRegion}
-use Rattle.abort_expansion_laws.proofs.Walked.{CoreStateFits, thread, Range, range_both, range_to}
+use Rattle.abort_expansion_laws.proofs.Walked.{CoreStateFits, CoreSort, for_start, for_nothing, thread, Range, range_both, range_to}
 use Rattle.abort_expansion_laws.proofs.Walked.{thread_by, places_by}
 use Rattle.abort_expansion_laws.proofs.Walks.{Fits, RegionsStand, RegionsWalk, RegionWalks, StateWalks, pieces_of}
 use Rattle.abort_expansion_laws.proofs.WalkSimple.{one_row, one_sized, one_begins, one_state}
@@ -43,7 +43,8 @@ use Rattle.abort_expansion_laws.proofs.WalkStates.{expanded_pieces, EachPlace, F
 use Rattle.abort_expansion_laws.proofs.WalkStates.{numbers_long, pieces_long}
 use Rattle.abort_expansion_laws.proofs.StatePlaces.{region_there_at, each_place, first_there, initial_held, begins_where, first_number}
 use Rattle.abort_expansion_laws.proofs.RegionEnds.{new_sized, new_many, new_long, new_variables, new_once, new_held, left_sized}
-use Rattle.abort_expansion_laws.proofs.RegionEnds.{new_first, new_none, new_row}
+use Rattle.abort_expansion.specs.Transitions.{go, on, count_down}
+use Rattle.abort_expansion_laws.proofs.RegionEnds.{new_first, new_none, new_row, new_does, left_bare}
 use Rattle.abort_expansion_laws.proofs.EnteredAlike.{BeginsAs, AreEntered}
 use Rattle.abort_expansion_laws.proofs.InitialStates.{initial_at, HasInitial, has_first, has_left, has_right, at_first, at_later, states_entered}
 use Rattle.abort_expansion_laws.proofs.ThreadBegins.{initial_final, Told, initial_told, begins_as}
@@ -60,7 +61,7 @@ module _ (name : List ℕ) (s : State) (others : List State) (walks : Each State
   abbrev states : List State
   states = s ∷ others
 
-  abbrev cps : List Piece
+  abbrev cps : List Subtree
   cps = pieces_of states
 
   abbrev xs : List StatePiece
@@ -93,29 +94,29 @@ module _ (name : List ℕ) (s : State) (others : List State) (walks : Each State
   abbrev all_states : List State
   all_states = news.states ++ (text.states ++ lefts.states)
 
-  abbrev ns : List Piece
+  abbrev ns : List Subtree
   ns = pieces_of news.states
 
-  abbrev ts : List Piece
+  abbrev ts : List Subtree
   ts = pieces_of text.states
 
-  abbrev ls : List Piece
+  abbrev ls : List Subtree
   ls = pieces_of lefts.states
 
   pieces_are : pieces_of all_states ≡ ns ++ (ts ++ ls)
   pieces_are = map-append table_of_state news.states (text.states ++ lefts.states) ∙ ap (λ zs. ns ++ zs) (map-append table_of_state text.states lefts.states)
 
-  abbrev core_layer : Region-F Piece Piece
+  abbrev core_layer : Region-F Subtree Subtree
   core_layer = record { name = name; states = pieces_of all_states }
 
-  abbrev chart_piece : Piece
+  abbrev chart_piece : Subtree
   chart_piece = table_region_piece (record { name = name; states = cps })
 
   abbrev core_region : Region
   core_region = roll-Region (record { name = name; states = all_states })
 
   core_piece : table_of_region core_region ≡ table_region_piece core_layer
-  core_piece = fold-roll-Region Piece Piece table_region_piece table_state_piece (record { name = name; states = all_states })
+  core_piece = fold-roll-Region Subtree Subtree table_region_piece table_state_piece (record { name = name; states = all_states })
 
   abbrev core_at : TablePosition
   core_at = past_states (states_in ns) (inside_region b)
@@ -205,7 +206,7 @@ module _ (name : List ℕ) (s : State) (others : List State) (walks : Each State
         (stand_second (region_at w.core b.region).states 0 (state_numbers ns b.state)
         (state_numbers ts core_at.state ++ state_numbers ls (core_at.state + states_in ts)) whole_placed)
 
-    once_later : (xs ys : List Piece) → OnceInitial (xs ++ ys) → OnceInitial ys
+    once_later : (xs ys : List Subtree) → OnceInitial (xs ++ ys) → OnceInitial ys
     once_later [] ys h = h
     once_later (z ∷ xs) ys h = once_later xs ys h.1
 
@@ -409,8 +410,15 @@ module _ (name : List ℕ) (s : State) (others : List State) (walks : Each State
       ),
     )
 
-    held_fits : (low high : ℕ) → Range (λ n. holder w.core n ≡ b.region) low high → Range (CoreStateFits w) low high
-    held_fits low high h n lo hi = thread a.region region_fits.here (h n lo hi ∙ sym thread_is)
+    held_fits : (low high : ℕ) → Range (λ n. holder w.core n ≡ b.region) low high → Range (CoreSort w) low high → Range (CoreStateFits w) low high
+    held_fits low high h sorts n lo hi =
+        record { origin = thread a.region region_fits.here (h n lo hi ∙ sym thread_is); sort = sorts n lo hi }
+
+    -- the new initial state counts what its region does
+    start_sort : (n : ℕ) → own w.core n ≡ go true None (on counter count_down) target ∷ [] → CoreSort w n
+    start_sort n is =
+        for_start a.region target region_fits.here
+        (is ∙ ap (λ x. go true None (on x count_down) target ∷ []) (sym (ap (λ z. z.counter) places_are)))
 
     region_facts : Fits w a.state (a.state + chart_piece.states) b.state (b.state + states_in (table_of_region core_region ∷ [])) numbers.variable
         (numbers.variable + variables_among (weak_around flags) xs)
@@ -422,10 +430,13 @@ module _ (name : List ℕ) (s : State) (others : List State) (walks : Each State
               range_to (CoreStateFits w) b.state ((core_at.state + states_in ts) + states_in ls) (b.state + states_in (table_of_region core_region ∷ []))
               (omega (arith, region_states, ap states_in pieces_are, states_append ns (ts ++ ls), states_append ts ls))
               (range_both (CoreStateFits w) b.state core_at.state ((core_at.state + states_in ts) + states_in ls)
-              (held_fits b.state core_at.state (new_held counter target number anew w.core (ts ++ ls) region_next (inside_region b) split_rows))
+              (held_fits b.state core_at.state (new_held counter target number anew w.core (ts ++ ls) region_next (inside_region b) split_rows)
+              (λ n lo hi. start_sort n (new_does counter target number anew w.core (ts ++ ls) region_next (inside_region b) split_rows n lo hi)))
               (range_both (CoreStateFits w) core_at.state (core_at.state + states_in ts) ((core_at.state + states_in ts) + states_in ls) inner.core_states
               (held_fits (core_at.state + states_in ts) ((core_at.state + states_in ts) + states_in ls)
-              (left_held (aborts_around flags) w.core (next_past ts core_next) (past_states (states_in ts) core_at) left_rows))));
+              (left_held (aborts_around flags) w.core (next_past ts core_next) (past_states (states_in ts) core_at) left_rows)
+              (λ n lo hi.
+              for_nothing (left_bare (aborts_around flags) w.core (next_past ts core_next) (past_states (states_in ts) core_at) left_rows n lo hi)))));
           owners = inner.owners;
         }
 
@@ -458,7 +469,7 @@ walk_states_of : (name : List ℕ) (s : State) (others : List State) → Each St
     ((region_piece (record { name = name; states = expanded_pieces (s ∷ others) })).variables (weak_around flags)) flags counter numbers a b
 walk_states_of name s others walks once has flags counter numbers a b = walk_opened name s others walks once has flags counter numbers a b
 
-abbrev RegionWalksBy : Piece → RegionPiece → Type 0
+abbrev RegionWalksBy : Subtree → RegionPiece → Type 0
 RegionWalksBy p x =
     (flags : List Flags) (counter : Option ℕ) (numbers : NextNumbers) (a b : TablePosition) →
     RegionsWalk (p.parts a) p.states (a.region ∷ []) (x.made flags counter numbers) (x.variables (weak_around flags)) flags counter numbers a b
@@ -477,7 +488,7 @@ walk_region r s others some walks once has =
     }
   where
     chart_is : table_of_region r ≡ table_region_piece (record { name = (out-Region r).name; states = pieces_of (s ∷ others) })
-    chart_is = fold_out-Region Piece Piece table_region_piece table_state_piece r ∙
+    chart_is = fold_out-Region Subtree Subtree table_region_piece table_state_piece r ∙
         ap (λ zs. table_region_piece (record { name = (out-Region r).name; states = pieces_of zs })) some
 
     core_is : piece_of_region r ≡ region_piece (record { name = (out-Region r).name; states = expanded_pieces (s ∷ others) })

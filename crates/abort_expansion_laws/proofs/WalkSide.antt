@@ -4,8 +4,8 @@ use Rattle.std.proofs.lemmas.List.{length-append, map-append}
 use Rattle.sc_text.proofs.EachItem.{Each}
 use Rattle.core_charts.specs.declared.region.Region.{Region}
 use Rattle.chart_machine.specs.declared.table.TablePosition.{TablePosition}
-use Rattle.chart_machine.specs.Table.{Piece, states_in, regions_in, behind, side_by_side, region_numbers, piece_of_region as table_of_region}
-use Rattle.chart_machine_laws.proofs.RowsOfPieces.{Holds, AllSized}
+use Rattle.chart_machine.specs.Table.{Subtree, states_in, regions_in, behind, side_by_side, region_numbers, subtree_of_region as table_of_region}
+use Rattle.chart_machine_laws.proofs.RowsOfSubtrees.{Holds, AllSized}
 use Rattle.scl_graph_laws.proofs.Segments.{stand_from, stand_first, stand_second}
 use Rattle.abort_expansion.specs.declared.flags.Flags.{Flags}
 use Rattle.abort_expansion.specs.declared.pieces.Regions.{Regions}
@@ -103,13 +103,13 @@ side_none flags counter numbers a b =
 
 module _ (r : Region) (regions : List Region) (walks : RegionWalks r) (rest_walks : SideWalks regions) (flags : List Flags) (counter : Option ℕ)
     (numbers : NextNumbers) (a b : TablePosition) where
-  abbrev p : Piece
+  abbrev p : Subtree
   p = table_of_region r
 
   abbrev one : Regions
   one = (piece_of_region r).made flags counter numbers
 
-  abbrev ps : List Piece
+  abbrev ps : List Subtree
   ps = map table_of_region one.regions
 
   abbrev next : NextNumbers
@@ -118,7 +118,7 @@ module _ (r : Region) (regions : List Region) (walks : RegionWalks r) (rest_walk
   abbrev more : Regions
   more = expanded_regions (map piece_of_region regions) flags counter next
 
-  abbrev qs : List Piece
+  abbrev qs : List Subtree
   qs = map table_of_region more.regions
 
   own : RegionsWalk (p.parts a) p.states (a.region ∷ []) one ((piece_of_region r).variables (weak_around flags)) flags counter numbers a b

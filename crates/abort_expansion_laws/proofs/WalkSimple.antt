@@ -10,7 +10,7 @@ use Rattle.chart_machine.specs.declared.table.StateRow.{StateRow}
 use Rattle.chart_machine.specs.declared.table.RegionRow.{RegionRow}
 use Rattle.chart_machine.specs.declared.table.Table.{Table}
 use Rattle.chart_machine.specs.declared.table.TablePosition.{TablePosition}
-use Rattle.chart_machine.specs.Table.{Piece, state_at, region_at, states_in, piece_of_state as table_of_state, state_piece as table_state_piece}
+use Rattle.chart_machine.specs.Table.{Subtree, state_at, region_at, states_in, subtree_of_state as table_of_state, state_subtree as table_state_piece}
 use Rattle.abort_expansion.specs.declared.flags.Flags.{Flags}
 use Rattle.abort_expansion.specs.declared.places.RegionPlaces.{RegionPlaces}
 use Rattle.abort_expansion.specs.declared.pieces.NextNumbers.{NextNumbers}
@@ -18,13 +18,14 @@ use Rattle.abort_expansion.specs.Flags.{has_join}
 use Rattle.core_charts.specs.Aborts.{has_aborts}
 use Rattle.abort_expansion.specs.Superstates.{simple_transitions, simple}
 use Rattle.chart_machine_laws.specs.Tree.{IsThere, holder}
-use Rattle.chart_machine_laws.proofs.RowsOfPieces.{Holds, IsSized, state_sized}
+use Rattle.chart_machine_laws.proofs.RowsOfSubtrees.{Holds, IsSized, state_sized}
 use Rattle.chart_machine_laws.proofs.ChartTables.{within_or_past}
 use Rattle.abort_expansion_laws.specs.CoreRows.{own, IsState, is_final, IsSuper, IsSimple, simple_row, Images, flags_around}
 use Rattle.abort_expansion_laws.specs.CoreRows.{SimpleImage, FinalImage, StayingImage, SplitImage}
 use Rattle.abort_expansion_laws.proofs.SimpleRows.{rolled, rolled_piece}
 use Rattle.abort_expansion_laws.proofs.InRegionRows.{InRegionAt, first_holds, position_of}
-use Rattle.abort_expansion_laws.proofs.Walked.{World, StateImage, no_flags, images_of, i, RegionFits, StateFits, CoreStateFits, thread, OwnerFits}
+use Rattle.abort_expansion_laws.proofs.Walked.{World, StateImage, no_flags, images_of, i, RegionFits, StateFits, CoreStateFits}
+use Rattle.abort_expansion_laws.proofs.Walked.{CoreSort, for_simple, for_nothing, thread, OwnerFits}
 use Rattle.abort_expansion_laws.proofs.Walked.{behind_by, InRegion, range_none, range_one}
 use Rattle.abort_expansion_laws.proofs.Walks.{Fits, StateStands, StateWalk, pieces_of}
 use Rattle.abort_expansion_laws.proofs.LocalImages.{Located, simple_image, final_image}
@@ -67,7 +68,7 @@ module _ (name : List ℕ) (begins ends : Bool) (all : List Transition) where
   abbrev one : State
   one = rolled name begins ends [] all
 
-  abbrev layer : Piece
+  abbrev layer : Subtree
   layer = table_state_piece (record { name = name; is_initial = begins; is_final = ends; regions = []; transitions = all })
 
   one_piece : table_of_state one ≡ layer
@@ -84,7 +85,7 @@ module _ (name : List ℕ) (begins ends : Bool) (all : List Transition) where
   one_begins = ap (λ p. p.is_initial) one_piece
 
   -- its row
-  pub one_row : (core : Table) (more : List Piece) (next : ℕ) (b : TablePosition) → InRegionAt core (table_of_state one ∷ more) next b →
+  pub one_row : (core : Table) (more : List Subtree) (next : ℕ) (b : TablePosition) → InRegionAt core (table_of_state one ∷ more) next b →
       Holds core (position_of begins next b) (layer.parts (position_of begins next b))
   one_row core more next b h = first_holds core layer more next b (subst (λ p. InRegionAt core (p ∷ more) next b) one_piece h)
 
@@ -100,7 +101,7 @@ made_one s numbers = record { states = s ∷ []; variables = []; stands_for = So
 module _ (name : List ℕ) (initial : Bool) (all : List Transition) (plain : (has_aborts all ≡ false) × (has_join all ≡ false)) (flags : List Flags)
     (places : RegionPlaces) (begins : Bool)
     (numbers : NextNumbers) (a b : TablePosition) (next place : ℕ) where
-  abbrev chart_piece : Bool → Piece
+  abbrev chart_piece : Bool → Subtree
   chart_piece final = table_state_piece (record { name = name; is_initial = initial; is_final = final; regions = []; transitions = all })
 
   abbrev core_all : Bool → List Transition
@@ -125,11 +126,11 @@ module _ (name : List ℕ) (initial : Bool) (all : List Transition) (plain : (ha
   here true w holds = state_there w.k a.state _ _ (ap (λ z. z.entered) holds.states.0)
   here false w holds = state_there w.k a.state _ _ (ap (λ z. z.entered) holds.states.0)
 
-  held_core : (final : Bool) (w : World) (more : List Piece) → InRegionAt w.core (table_of_state (core_one final) ∷ more) next b →
+  held_core : (final : Bool) (w : World) (more : List Subtree) → InRegionAt w.core (table_of_state (core_one final) ∷ more) next b →
       holder w.core b.state ≡ b.holder
   held_core final w more rows = ap (λ z. z.holder) (one_row name begins final (core_all final) w.core more next b rows).states.0
 
-  module _ (w : World) (more : List Piece) where
+  module _ (w : World) (more : List Subtree) where
     abbrev Stands : Bool → Type 0
     Stands final = StateStands w (chart_piece final) (made_one (core_one final) numbers) flags places place numbers a b next more
         (record { states = image ∷ []; owners = [] })
@@ -196,6 +197,16 @@ module _ (name : List ℕ) (initial : Bool) (all : List Transition) (plain : (ha
           opens = λ super. absurd (super none);
         }
 
+    core_sort : (final : Bool) → Stands final → CoreSort w b.state
+    core_sort true stands = for_nothing (ap (λ z. z.transitions) (one_row name begins true [] w.core more next b stands.core).states.0)
+    core_sort false stands =
+        for_simple a.state
+        (record {
+          there = here false w stands.chart;
+          no_regions = ap (λ z. z.regions) stands.chart.states.0;
+          not_final = final_is false w stands.chart;
+        }) (sym (ap (λ z. z.main) stands.entries.images.0))
+
     one_fits : (final : Bool) → Stands final → Fits w a.state (a.state + (chart_piece final).states) b.state
         (b.state + states_in (pieces_of (core_one final ∷ []))) numbers.variable (numbers.variable + 0)
     one_fits final stands =
@@ -204,7 +215,10 @@ module _ (name : List ℕ) (initial : Bool) (all : List Transition) (plain : (ha
           core_states =
               range_one (CoreStateFits w) b.state (b.state + states_in (pieces_of (core_one final ∷ [])))
               (omega (arith, one_state name begins final (core_all final)))
-              (thread a.holder stands.region.region.here (held_core final w more stands.core ∙ sym stands.region.thread));
+              (record {
+                origin = thread a.holder stands.region.region.here (held_core final w more stands.core ∙ sym stands.region.thread);
+                sort = core_sort final stands;
+              });
           owners = range_none (OwnerFits w) numbers.variable (numbers.variable + 0) (omega arith);
         }
 

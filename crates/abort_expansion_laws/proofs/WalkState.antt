@@ -10,8 +10,8 @@ use Rattle.core_charts.specs.declared.region.Transition.{Transition}
 use Rattle.core_charts.specs.declared.region.State.{State}
 use Rattle.core_charts.specs.Rules.{IsBareIfFinal}
 use Rattle.chart_machine.specs.declared.table.TablePosition.{TablePosition}
-use Rattle.chart_machine.specs.Table.{Piece, states_in, past_states, next_behind, piece_of_region as table_of_region, piece_of_state as table_of_state}
-use Rattle.chart_machine.specs.Table.{region_piece as table_region_piece, state_piece as table_state_piece}
+use Rattle.chart_machine.specs.Table.{Subtree, states_in, past_states, next_behind, subtree_of_region as table_of_region, subtree_of_state as table_of_state}
+use Rattle.chart_machine.specs.Table.{region_subtree as table_region_piece, state_subtree as table_state_piece}
 use Rattle.chart_machine.specs.Table.{state_at}
 use Rattle.abort_expansion.specs.declared.flags.Flags.{Flags}
 use Rattle.abort_expansion.specs.declared.places.RegionPlaces.{RegionPlaces}
@@ -22,12 +22,12 @@ use Rattle.core_charts.specs.Aborts.{has_aborts}
 use Rattle.abort_expansion.specs.Pieces.{RegionPiece, StatePiece, beside}
 use Rattle.abort_expansion.specs.Superstates.{stays, is_prepared, prepared, superstate_over, split}
 use Rattle.abort_expansion.specs.Expansion.{piece_of_region, piece_of_state, region_piece, state_piece}
-use Rattle.chart_machine_laws.proofs.RowsOfPieces.{IsSized, state_sized}
+use Rattle.chart_machine_laws.proofs.RowsOfSubtrees.{IsSized, state_sized}
 use Rattle.chart_machine_laws.proofs.TableTrees.{NoneInitial, OnceInitial}
 use Rattle.abort_expansion_laws.specs.CoreRows.{simple_row}
 use Rattle.abort_expansion_laws.proofs.SimpleRows.{rolled}
 use Rattle.abort_expansion_laws.proofs.InRegionRows.{InRegionAt, rest_holds}
-use Rattle.abort_expansion_laws.proofs.Walked.{World, values_from, Range, range_to, range_more, CoreStateFits, thread}
+use Rattle.abort_expansion_laws.proofs.Walked.{World, values_from, Range, range_to, range_more, CoreStateFits, for_entry, thread}
 use Rattle.abort_expansion_laws.proofs.Walks.{Fits, StateStands, StateWalk, StateWalksBy, StateCounts, StateWalks, RegionWalks, pieces_of}
 use Rattle.abort_expansion_laws.proofs.WalkSide.{counts_side, sized_side}
 use Rattle.abort_expansion_laws.proofs.LocalImages.{preparing}
@@ -41,7 +41,7 @@ module _ (name : List ℕ) (initial : Bool) (r : Region) (others : List Region) 
   abbrev regions : List Region
   regions = r ∷ others
 
-  abbrev piece : Piece
+  abbrev piece : Subtree
   piece = forks.chart_piece name initial r others all walks flags places numbers a b next place begins b.state
 
   abbrev count : ℕ
@@ -87,7 +87,7 @@ module _ (name : List ℕ) (initial : Bool) (r : Region) (others : List Region) 
   preparation_state = rolled (preparation_name numbers.superstate) begins false []
       (preparing places (forks.f name initial r others all walks flags places numbers a b next place begins b.state) n all (suc place))
 
-  abbrev first_piece : Piece
+  abbrev first_piece : Subtree
   first_piece = table_of_state preparation_state
 
   abbrev later : TablePosition
@@ -118,11 +118,11 @@ module _ (name : List ℕ) (initial : Bool) (r : Region) (others : List Region) 
   none_later : NoneInitial (pieces_of fork_made.states)
   none_later = forks.not_initial name initial r others all walks flags places numbers a later later_next (suc place) false b.state refl
 
-  later_rows : (w : World) (more : List Piece) → InRegionAt w.core (pieces_of both_made.states ++ more) next b →
+  later_rows : (w : World) (more : List Subtree) → InRegionAt w.core (pieces_of both_made.states ++ more) next b →
       OnceInitial (pieces_of both_made.states ++ more) → InRegionAt w.core (pieces_of fork_made.states ++ more) later_next later
   later_rows w more rows once = rest_holds w.core first_piece (pieces_of fork_made.states ++ more) next b first_sized once rows
 
-  module _ (apart : stays flags all ≡ false) (is : is_prepared flags all ≡ true) (w : World) (more : List Piece)
+  module _ (apart : stays flags all ≡ false) (is : is_prepared flags all ≡ true) (w : World) (more : List Subtree)
       (stands : StateStands w piece both_made flags places place numbers a b next more
       (forks.part name initial r others all walks flags places numbers a later later_next (suc place) false b.state)) where
     first_row : state_at w.core b.state ≡ simple_row b.holder b.state
@@ -172,7 +172,14 @@ module _ (name : List ℕ) (initial : Bool) (r : Region) (others : List Region) 
           states = inner.states;
           core_states =
               range_more (CoreStateFits w) b.state (b.state + states_in (pieces_of both_made.states))
-              (thread a.holder stands.region.region.here (ap (λ z. z.holder) first_row ∙ sym stands.region.thread))
+              (record {
+                origin = thread a.holder stands.region.region.here (ap (λ z. z.holder) first_row ∙ sym stands.region.thread);
+                sort =
+                    for_entry a.state
+                    (forks.here name initial r others all walks flags places numbers a later later_next (suc place) false b.state w more later_stands)
+                    (forks.super name initial r others all walks flags places numbers a later later_next (suc place) false b.state w more later_stands)
+                    (sym (ap (λ z. z.entry) stands.entries.images.0));
+              })
               (range_to (CoreStateFits w) (suc b.state) (later.state + states_in (pieces_of fork_made.states))
               (b.state + states_in (pieces_of both_made.states)) (omega arith)
               (subst (λ m. Range (CoreStateFits w) m (later.state + states_in (pieces_of fork_made.states))) (omega (arith, first_state)) inner.core_states));
@@ -229,7 +236,7 @@ module _ (name : List ℕ) (initial : Bool) (r : Region) (others : List Region) 
 
 -- ---- any state
 
-abbrev chart_layer : (name : List ℕ) (initial final : Bool) (regions : List Region) (all : List Transition) → State-F Piece Piece
+abbrev chart_layer : (name : List ℕ) (initial final : Bool) (regions : List Region) (all : List Transition) → State-F Subtree Subtree
 chart_layer name initial final regions all =
     record { name = name; is_initial = initial; is_final = final; regions = map table_of_region regions; transitions = all }
 
@@ -264,12 +271,12 @@ walk_state s plain few bare walks =
     let o = out-State s in
     record {
       walks =
-          subst (λ p. StateWalksBy p (piece_of_state s)) (sym (fold_out-State Piece Piece table_region_piece table_state_piece s))
+          subst (λ p. StateWalksBy p (piece_of_state s)) (sym (fold_out-State Subtree Subtree table_region_piece table_state_piece s))
           (subst (StateWalksBy (table_state_piece (chart_layer o.name o.is_initial o.is_final o.regions o.transitions)))
           (sym (fold_out-State RegionPiece StatePiece region_piece state_piece s))
           (walk_layer o.name o.is_initial o.is_final o.regions o.transitions plain few (λ ends. (bare ends).0) walks));
       counts =
-          subst (λ p. StateCounts p (piece_of_state s)) (sym (fold_out-State Piece Piece table_region_piece table_state_piece s))
+          subst (λ p. StateCounts p (piece_of_state s)) (sym (fold_out-State Subtree Subtree table_region_piece table_state_piece s))
           (subst (StateCounts (table_state_piece (chart_layer o.name o.is_initial o.is_final o.regions o.transitions)))
           (sym (fold_out-State RegionPiece StatePiece region_piece state_piece s))
           (count_layer o.name o.is_initial o.is_final o.regions o.transitions walks));

@@ -5,9 +5,9 @@ use Rattle.std.proofs.lemmas.List.{length-append, map-append, append_assoc}
 use Rattle.sc_text.proofs.EachItem.{Each}
 use Rattle.core_charts.specs.declared.region.State.{State}
 use Rattle.chart_machine.specs.declared.table.TablePosition.{TablePosition}
-use Rattle.chart_machine.specs.Table.{Piece, region_at, states_in, state_numbers, past_states, next_behind, piece_of_state as table_of_state}
+use Rattle.chart_machine.specs.Table.{Subtree, region_at, states_in, state_numbers, past_states, next_behind, subtree_of_state as table_of_state}
 use Rattle.chart_machine_laws.specs.Tree.{holder}
-use Rattle.chart_machine_laws.proofs.RowsOfPieces.{Holds, AllSized}
+use Rattle.chart_machine_laws.proofs.RowsOfSubtrees.{Holds, AllSized}
 use Rattle.chart_machine_laws.proofs.TableTrees.{NoneInitial, OnceInitial}
 use Rattle.scl_graph_laws.proofs.Segments.{StandAt, stand_from, stand_first, stand_second}
 use Rattle.abort_expansion.specs.declared.flags.Flags.{Flags}
@@ -45,7 +45,7 @@ BeginsWith n [] stands_for = Unit {0}
 BeginsWith n (s ∷ states) stands_for = (more : List (Option ℕ)) × (stands_for ≡ Some n ∷ more)
 
 pub record StatesStand (w : World) (states : List State) (made : StatePieces) (place : ℕ) (numbers : NextNumbers) (a b : TablePosition) (next core_next : ℕ)
-    (more : List Piece) (part : Part) : Type 0 where
+    (more : List Subtree) (part : Part) : Type 0 where
   pub chart : InRegionAt w.k (pieces_of states) next a
   pub once_chart : OnceInitial (pieces_of states)
   pub core : InRegionAt w.core (pieces_of made.states ++ more) core_next b
@@ -69,19 +69,19 @@ pub record StatesWalk (states : List State) (anew : Bool) (made : StatePieces) (
   pub stands : BeginsWith numbers.state states made.stands_for
   -- the initial state is initial still, unless another one was put before it
   pub begun : anew ≡ false → HasInitial (pieces_of states) → HasInitial (pieces_of made.states)
-  pub begins_at : anew ≡ false → HasInitial (pieces_of states) → (w : World) (more : List Piece) →
+  pub begins_at : anew ≡ false → HasInitial (pieces_of states) → (w : World) (more : List Subtree) →
       StatesStand w states made place numbers a b next core_next more part →
       initial_at (pieces_of made.states ++ more) b.state ≡ (w.image (initial_at (pieces_of states) a.state)).entry
-  pub first : (w : World) (more : List Piece) → StatesStand w states made place numbers a b next core_next more part →
+  pub first : (w : World) (more : List Subtree) → StatesStand w states made place numbers a b next core_next more part →
       FirstFits w b.holder to (state_numbers (pieces_of states) a.state)
-  pub places_are : (w : World) (more : List Piece) → StatesStand w states made place numbers a b next core_next more part →
+  pub places_are : (w : World) (more : List Subtree) → StatesStand w states made place numbers a b next core_next more part →
       EachPlace w a.holder (region_at w.core b.holder).states (state_numbers (pieces_of states) a.state) (places (expanded_pieces states) flags place)
       (map (λ s. s.is_final) (expanded_pieces states))
-  pub facts : (w : World) (more : List Piece) → StatesStand w states made place numbers a b next core_next more part → InRegion w a b flags to →
+  pub facts : (w : World) (more : List Subtree) → StatesStand w states made place numbers a b next core_next more part → InRegion w a b flags to →
       Fits w a.state (a.state + states_in (pieces_of states)) b.state (b.state + states_in (pieces_of made.states)) numbers.variable
       (numbers.variable + variables_among (weak_around flags) (expanded_pieces states))
 
-pub numbers_append : (xs ys : List Piece) (n : ℕ) → state_numbers (xs ++ ys) n ≡ state_numbers xs n ++ state_numbers ys (n + states_in xs)
+pub numbers_append : (xs ys : List Subtree) (n : ℕ) → state_numbers (xs ++ ys) n ≡ state_numbers xs n ++ state_numbers ys (n + states_in xs)
 numbers_append [] ys n = subst (λ m. state_numbers ys n ≡ state_numbers ys m) (no_more n) refl
   where
     no_more : (n : ℕ) → n ≡ n + 0
@@ -93,7 +93,7 @@ numbers_append (x ∷ xs) ys n =
     sum : (a b c : ℕ) → (a + b) + c ≡ a + (b + c)
     sum a b c = omega arith
 
-pub numbers_long : (xs : List Piece) (n : ℕ) → length (state_numbers xs n) ≡ length xs
+pub numbers_long : (xs : List Subtree) (n : ℕ) → length (state_numbers xs n) ≡ length xs
 numbers_long [] n = refl
 numbers_long (x ∷ xs) n = ap suc (numbers_long xs (n + x.states))
 
@@ -114,7 +114,7 @@ only_initial : (x anew : Bool) → (x && not anew) ≡ true → x ≡ true
 only_initial true anew e = refl
 only_initial false anew e = absurd cc
 
-once_both : (b : Bool) (xs ys : List Piece) → (b ≡ false → NoneInitial xs) → OnceInitial xs → (b ≡ true → NoneInitial ys) → OnceInitial ys →
+once_both : (b : Bool) (xs ys : List Subtree) → (b ≡ false → NoneInitial xs) → OnceInitial xs → (b ≡ true → NoneInitial ys) → OnceInitial ys →
     OnceInitial (xs ++ ys)
 once_both true xs ys none once none_more once_more = once_append xs ys once (none_more refl)
 once_both false xs ys none once none_more once_more = none_once xs ys (none refl) once_more
@@ -161,7 +161,7 @@ walk_none anew flags to place numbers a b next core_next =
 -- one state, and those behind it
 module _ (anew : Bool) (s : State) (states : List State) (walks : StateWalks s) (rest_walks : StatesWalks anew states) (flags : List Flags) (to : RegionPlaces)
     (place : ℕ) (numbers : NextNumbers) (a b : TablePosition) (next core_next : ℕ) where
-  abbrev p : Piece
+  abbrev p : Subtree
   p = table_of_state s
 
   abbrev x : StatePiece
@@ -182,7 +182,7 @@ module _ (anew : Bool) (s : State) (states : List State) (walks : StateWalks s) 
   abbrev own_part : Part
   own_part = record { states = own.image ∷ own.inner; owners = own.owners }
 
-  abbrev ps : List Piece
+  abbrev ps : List Subtree
   ps = pieces_of one.states
 
   abbrev later : NextNumbers
@@ -194,7 +194,7 @@ module _ (anew : Bool) (s : State) (states : List State) (walks : StateWalks s) 
   abbrev more_states : StatePieces
   more_states = expanded_states anew (expanded_pieces states) flags to later_place later
 
-  abbrev qs : List Piece
+  abbrev qs : List Subtree
   qs = pieces_of more_states.states
 
   abbrev rest_at : TablePosition
@@ -226,7 +226,7 @@ module _ (anew : Bool) (s : State) (states : List State) (walks : StateWalks s) 
   begins_here kept has true certain = has_first ps qs (begins_own kept certain)
   begins_here kept has false denied = has_right ps qs (rest.begun kept (later_has denied has))
 
-  module _ (w : World) (more : List Piece) (stands : StatesStand w (s ∷ states) made place numbers a b next core_next more part) where
+  module _ (w : World) (more : List Subtree) (stands : StatesStand w (s ∷ states) made place numbers a b next core_next more part) where
     all_pieces : pieces_of made.states ++ more ≡ ps ++ (qs ++ more)
     all_pieces = ap (λ zs. zs ++ more) pieces_are ∙ append_assoc ps qs more
 
@@ -236,7 +236,7 @@ module _ (anew : Bool) (s : State) (states : List State) (walks : StateWalks s) 
     once : OnceInitial (ps ++ (qs ++ more))
     once = subst OnceInitial all_pieces stands.once
 
-    once_later : (xs ys : List Piece) → OnceInitial (xs ++ ys) → OnceInitial ys
+    once_later : (xs ys : List Subtree) → OnceInitial (xs ++ ys) → OnceInitial ys
     once_later [] ys h = h
     once_later (z ∷ xs) ys h = once_later xs ys h.1
 

@@ -13,8 +13,8 @@ use Rattle.core_charts.specs.Tests.{at_once, strong_aborts, first_closing_tests,
 use Rattle.chart_machine.specs.declared.standing.Move.{Move}
 use Rattle.chart_machine.specs.declared.table.Table.{Table}
 use Rattle.chart_machine.specs.declared.table.TablePosition.{TablePosition}
-use Rattle.chart_machine.specs.Table.{Piece, state_at, states_in, region_numbers, side_by_side, state_piece, come_to}
-use Rattle.chart_machine.specs.Table.{within as table_within, piece_of_region as table_of_region, piece_of_state as table_of_state}
+use Rattle.chart_machine.specs.Table.{Subtree, state_at, states_in, region_numbers, side_by_side, state_subtree, come_to}
+use Rattle.chart_machine.specs.Table.{within as table_within, subtree_of_region as table_of_region, subtree_of_state as table_of_state}
 use Rattle.abort_expansion.specs.declared.flags.Flags.{Flags}
 use Rattle.abort_expansion.specs.declared.places.RegionPlaces.{RegionPlaces}
 use Rattle.abort_expansion.specs.declared.pieces.StatePieces.{StatePieces}
@@ -28,11 +28,12 @@ use Rattle.abort_expansion.specs.Pieces.{expanded_regions, variables_in}
 use Rattle.abort_expansion.specs.Superstates.{stays, within, as_it_is}
 use Rattle.abort_expansion.specs.Expansion.{piece_of_region}
 use Rattle.chart_machine_laws.specs.Tree.{holder}
-use Rattle.chart_machine_laws.proofs.RowsOfPieces.{Holds, IsSized, state_sized}
+use Rattle.chart_machine_laws.proofs.RowsOfSubtrees.{Holds, IsSized, state_sized}
 use Rattle.abort_expansion_laws.specs.CoreRows.{own, IsState, is_final, ends, IsSuper, fork_row}
 use Rattle.abort_expansion_laws.proofs.SimpleRows.{rolled, rolled_piece}
 use Rattle.abort_expansion_laws.proofs.InRegionRows.{InRegionAt, first_holds, position_of}
-use Rattle.abort_expansion_laws.proofs.Walked.{World, StateImage, no_flags, ValuesAt, values_from, images_of, i, RegionFits, StateFits, CoreStateFits, thread}
+use Rattle.abort_expansion_laws.proofs.Walked.{World, StateImage, no_flags, ValuesAt, values_from, images_of, i, RegionFits}
+use Rattle.abort_expansion_laws.proofs.Walked.{StateFits, CoreStateFits, for_super, thread}
 use Rattle.abort_expansion_laws.proofs.Walked.{behind_by, OwnerFits, Range, range_to, range_more, FlagsFit, IsFlag}
 use Rattle.abort_expansion_laws.proofs.Walks.{Part, Fits, StateStands, RegionsStand, StateWalk, RegionsWalk, RegionWalks, pieces_of}
 use Rattle.abort_expansion_laws.proofs.WalkSide.{walk_side}
@@ -106,15 +107,15 @@ module _ (name : List ℕ) (initial : Bool) (r : Region) (others : List Region) 
   abbrev position : TablePosition
   position = position_of begins next b
 
-  abbrev chart_piece : Piece
-  chart_piece = state_piece (record { name = name; is_initial = initial; is_final = false; regions = map table_of_region regions; transitions = all })
+  abbrev chart_piece : Subtree
+  chart_piece = state_subtree (record { name = name; is_initial = initial; is_final = false; regions = map table_of_region regions; transitions = all })
 
   inner : RegionsWalk (side_by_side (map table_of_region regions) (table_within a)) (states_in (map table_of_region regions))
       (region_numbers (map table_of_region regions) a.region) inside (variables_in (weak_around (flags ++ f ∷ [])) (map piece_of_region regions))
       (flags ++ f ∷ []) f.counter inside_at (table_within a) (table_within position)
   inner = walk_side regions walks (flags ++ f ∷ []) f.counter inside_at (table_within a) (table_within position)
 
-  abbrev ps : List Piece
+  abbrev ps : List Subtree
   ps = map table_of_region inside.regions
 
   abbrev made : StatePieces
@@ -126,8 +127,8 @@ module _ (name : List ℕ) (initial : Bool) (r : Region) (others : List Region) 
   abbrev core_state : State
   core_state = rolled name begins false inside.regions core_all
 
-  abbrev layer : Piece
-  layer = state_piece (record { name = name; is_initial = begins; is_final = false; regions = ps; transitions = core_all })
+  abbrev layer : Subtree
+  layer = state_subtree (record { name = name; is_initial = begins; is_final = false; regions = ps; transitions = core_all })
 
   piece : table_of_state core_state ≡ layer
   piece = rolled_piece name begins false inside.regions core_all
@@ -183,7 +184,7 @@ module _ (name : List ℕ) (initial : Bool) (r : Region) (others : List Region) 
   core_sized = subst IsSized (sym piece)
       (state_sized (record { name = name; is_initial = begins; is_final = false; regions = ps; transitions = core_all }) inner.core_sized)
 
-  core_rows : (core : Table) (more : List Piece) → InRegionAt core (table_of_state core_state ∷ more) next b → Holds core position (layer.parts position)
+  core_rows : (core : Table) (more : List Subtree) → InRegionAt core (table_of_state core_state ∷ more) next b → Holds core position (layer.parts position)
   core_rows core more rows = first_holds core layer more next b (subst (λ p. InRegionAt core (p ∷ more) next b) piece rows)
 
   not_ends : (w : World) → Holds w.k a (chart_piece.parts a) → is_final w.k a.state ≡ false
@@ -195,7 +196,7 @@ module _ (name : List ℕ) (initial : Bool) (r : Region) (others : List Region) 
       come [] (m ∷ moves) = refl
       come (t ∷ strong) opened = refl
 
-  module _ (w : World) (more : List Piece) (stands : StateStands w chart_piece made flags places place numbers a b next more part) where
+  module _ (w : World) (more : List Subtree) (stands : StateStands w chart_piece made flags places place numbers a b next more part) where
     img : w.image a.state ≡ image
     img = stands.entries.images.0
 
@@ -332,7 +333,10 @@ module _ (name : List ℕ) (initial : Bool) (r : Region) (others : List Region) 
               (inner.facts w inner_stands).states);
           core_states =
               range_more (CoreStateFits w) b.state (b.state + states_in (pieces_of made.states))
-              (thread a.holder stands.region.region.here (ap (λ z. z.holder) row ∙ sym stands.region.thread))
+              (record {
+                origin = thread a.holder stands.region.region.here (ap (λ z. z.holder) row ∙ sym stands.region.thread);
+                sort = for_super a.state here super (sym main_is);
+              })
               (range_to (CoreStateFits w) (suc b.state) (suc b.state + states_in ps) (b.state + states_in (pieces_of made.states)) (omega (arith, core_states))
               (inner.facts w inner_stands).core_states);
           owners =

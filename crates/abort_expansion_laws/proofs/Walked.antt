@@ -5,12 +5,13 @@ use Rattle.std.specs.Prelude.{reverse}
 use Rattle.core_charts.specs.declared.region.Region.{Region}
 use Rattle.chart_machine.specs.declared.table.Table.{Table}
 use Rattle.chart_machine.specs.declared.table.TablePosition.{TablePosition}
-use Rattle.chart_machine.specs.Table.{state_at, region_at, region_numbers, piece_of_region as table_of_region}
+use Rattle.chart_machine.specs.Table.{state_at, region_at, region_numbers, subtree_of_region as table_of_region}
 use Rattle.chart_machine.specs.Steps.{state_in, to}
 use Rattle.chart_machine.specs.declared.standing.Standing.TheVariants as at
 use Rattle.abort_expansion.specs.declared.flags.Flags.{Flags}
 use Rattle.abort_expansion.specs.declared.places.RegionPlaces.{RegionPlaces}
 use Rattle.abort_expansion.specs.Flags.{has_join, flags_of, weak_around, local}
+use Rattle.abort_expansion.specs.Transitions.{go, on, count_down}
 use Rattle.core_charts.specs.Aborts.{has_aborts}
 use Rattle.abort_expansion.specs.Superstates.{stays, monitor_transitions}
 use Rattle.chart_machine_laws.specs.Tree.{IsThere, around, holder}
@@ -183,8 +184,20 @@ module _ (w : World) where
     thread : (r : ℕ) → IsThere w.k r → t ≡ i.thread_of r → Origin t
     watcher : (s : ℕ) → IsState w.k s → has_aborts (own w.k s) ≡ true → t ≡ i.watcher_of s → Origin t
 
-  abbrev pub CoreStateFits : ℕ → Type 0
-  CoreStateFits n = Origin (holder w.core n)
+  -- for what each core state stands, of a region or a state of the chart; or it has no transitions
+  pub data CoreSort (n : ℕ) : Type 0 where
+    for_simple : (s : ℕ) → IsSimple w.k s → n ≡ i.main_of s → CoreSort n
+    for_super : (s : ℕ) → IsState w.k s → IsSuper w.k s → n ≡ i.main_of s → CoreSort n
+    for_entry : (s : ℕ) → IsState w.k s → IsSuper w.k s → n ≡ i.entry_of s → CoreSort n
+    for_behind : (s : ℕ) → IsState w.k s → IsSuper w.k s → n ≡ i.behind_of s → CoreSort n
+    for_watching : (s : ℕ) → IsState w.k s → has_aborts (own w.k s) ≡ true → n ≡ i.watching_of s → CoreSort n
+    -- the new initial state of a region's thread
+    for_start : (r target : ℕ) → IsThere w.k r → own w.core n ≡ go true None (on (i.places_of r).counter count_down) target ∷ [] → CoreSort n
+    for_nothing : own w.core n ≡ [] → CoreSort n
+
+  pub record CoreStateFits (n : ℕ) : Type 0 where
+    pub origin : Origin (holder w.core n)
+    pub sort : CoreSort n
 
   pub record OwnerFits (x : ℕ) : Type 0 where
     pub here : IsState w.k (w.of_flag x)

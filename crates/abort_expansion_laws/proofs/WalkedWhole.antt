@@ -7,9 +7,9 @@ use Rattle.sc_text.proofs.EachItem.{Each}
 use Rattle.core_charts.specs.declared.features.Features.TheVariants as features
 use Rattle.core_charts.specs.Chart.{Chart}
 use Rattle.core_charts.specs.Rules.{IsChart, depth_limit}
-use Rattle.chart_machine.specs.Table.{table, whole, side_by_side, states_in, region_numbers, piece_of_region as table_of_region}
+use Rattle.chart_machine.specs.Table.{table, whole, side_by_side, states_in, region_numbers, subtree_of_region as table_of_region}
 use Rattle.chart_machine_laws.proofs.ChartTables.{holds_whole}
-use Rattle.chart_machine_laws.proofs.RowsOfPieces.{side_states}
+use Rattle.chart_machine_laws.proofs.RowsOfSubtrees.{side_states}
 use Rattle.scl_graph_laws.proofs.Segments.{StandAt, stand_from, stand_all, stand_second}
 use Rattle.abort_expansion.specs.Flags.{weak_around}
 use Rattle.abort_expansion.specs.Pieces.{variables_in}

@@ -5,10 +5,10 @@ use Rattle.core_charts.specs.declared.region.Region.{Region}
 use Rattle.core_charts.specs.declared.region.State.{State}
 use Rattle.chart_machine.specs.declared.table.TablePosition.{TablePosition}
 use Rattle.chart_machine.specs.declared.table.SubtreeRows.{SubtreeRows}
-use Rattle.chart_machine.specs.Table.{Piece, states_in, side_by_side, region_numbers, state_numbers, region_at}
-use Rattle.chart_machine.specs.Table.{piece_of_region as table_of_region, piece_of_state as table_of_state}
+use Rattle.chart_machine.specs.Table.{Subtree, states_in, side_by_side, region_numbers, state_numbers, region_at}
+use Rattle.chart_machine.specs.Table.{subtree_of_region as table_of_region, subtree_of_state as table_of_state}
 use Rattle.chart_machine_laws.specs.Tree.{holder}
-use Rattle.chart_machine_laws.proofs.RowsOfPieces.{Holds, IsSized, AllSized}
+use Rattle.chart_machine_laws.proofs.RowsOfSubtrees.{Holds, IsSized, AllSized}
 use Rattle.chart_machine_laws.proofs.TableTrees.{NoneInitial, OnceInitial}
 use Rattle.scl_graph_laws.proofs.Segments.{StandAt}
 use Rattle.abort_expansion.specs.declared.flags.Flags.{Flags}
@@ -30,11 +30,11 @@ pub record Part : Type 0 where
   pub owners : List ℕ
 
 -- the first of these is initial
-abbrev pub FirstInitial : List Piece → Type 0
+abbrev pub FirstInitial : List Subtree → Type 0
 FirstInitial [] = ⊥
 FirstInitial (p ∷ pieces) = p.is_initial ≡ true
 
-abbrev pub pieces_of : List State → List Piece
+abbrev pub pieces_of : List State → List Subtree
 pieces_of states = map table_of_state states
 
 module _ (w : World) where
@@ -51,9 +51,9 @@ module _ (w : World) where
     pub low : length w.k.variables ≤ numbers.variable
     pub numbered : numbers.state ≡ a
 
-  pub record StateStands (p : Piece) (made : StatePieces) (flags : List Flags) (places : RegionPlaces) (place : ℕ) (numbers : NextNumbers)
+  pub record StateStands (p : Subtree) (made : StatePieces) (flags : List Flags) (places : RegionPlaces) (place : ℕ) (numbers : NextNumbers)
       (a b : TablePosition) (next : ℕ)
-      (more : List Piece) (part : Part) : Type 0 where
+      (more : List Subtree) (part : Part) : Type 0 where
     pub chart : Holds w.k a (p.parts a)
     pub core : InRegionAt w.core (pieces_of made.states ++ more) next b
     pub once : OnceInitial (pieces_of made.states ++ more)
@@ -74,7 +74,7 @@ module _ (w : World) where
 
 -- ---- a state, as its piece in the table and what it becomes
 
-pub record StateWalk (p : Piece) (made : StatePieces) (variables : ℕ) (final : Bool) (width : ℕ) (flags : List Flags) (places : RegionPlaces) (place : ℕ)
+pub record StateWalk (p : Subtree) (made : StatePieces) (variables : ℕ) (final : Bool) (width : ℕ) (flags : List Flags) (places : RegionPlaces) (place : ℕ)
     (begins : Bool) (numbers : NextNumbers) (a b : TablePosition) (next : ℕ) : Type 0 where
   pub image : StateImage
   pub inner : List StateImage
@@ -94,20 +94,20 @@ pub record StateWalk (p : Piece) (made : StatePieces) (variables : ℕ) (final :
   pub one_initial : OnceInitial (pieces_of made.states)
   pub final_is : (w : World) → Holds w.k a (p.parts a) → is_final w.k a.state ≡ final
   pub held_chart : (w : World) → Holds w.k a (p.parts a) → holder w.k a.state ≡ a.holder
-  pub held_core : (w : World) (more : List Piece) → InRegionAt w.core (pieces_of made.states ++ more) next b →
+  pub held_core : (w : World) (more : List Subtree) → InRegionAt w.core (pieces_of made.states ++ more) next b →
       OnceInitial (pieces_of made.states ++ more) → holder w.core image.main ≡ b.holder
-  pub facts : (w : World) (more : List Piece) →
+  pub facts : (w : World) (more : List Subtree) →
       StateStands w p made flags places place numbers a b next more (record { states = image ∷ inner; owners = owners }) →
       Fits w a.state (a.state + p.states) b.state (b.state + states_in (pieces_of made.states)) numbers.variable (numbers.variable + variables)
 
-abbrev pub StateWalksBy : Piece → StatePiece → Type 0
+abbrev pub StateWalksBy : Subtree → StatePiece → Type 0
 StateWalksBy p x =
     (flags : List Flags) (places : RegionPlaces) (place : ℕ) (begins : Bool) (numbers : NextNumbers) (a b : TablePosition) (next : ℕ) →
     StateWalk p (x.made flags places place begins numbers) (x.variables (weak_around flags)) x.is_final (x.width flags) flags places place begins numbers a b
     next
 
 -- what does not depend on where it stands
-pub record StateCounts (p : Piece) (x : StatePiece) : Type 0 where
+pub record StateCounts (p : Subtree) (x : StatePiece) : Type 0 where
   pub states : x.states ≡ p.states
   pub initial : x.is_initial ≡ p.is_initial
   pub sized : IsSized p

@@ -1,8 +1,5 @@
-pub mod Flat
-pub mod Layered
 pub mod Ticks
 pub mod Preemption
-pub mod Apart
 pub mod Stages
 pub mod Expanded
 pub mod CoreRows

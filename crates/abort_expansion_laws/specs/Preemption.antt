@@ -1,12 +1,9 @@
--- The law of the expansion of aborts: a weakly layered chart with a valid image is kept by its core chart.
+-- What the law of preemption speaks of: a chart's machine, its image, and what is seen alike of the chart and of its core chart.
 use Rattle.std.specs.Prelude.{ℕ, ◌≡◌, ◌↔◌, true, Some, length, take}
 use Rattle.sc_graph.specs.Program.{Program}
-use Rattle.sc_graph.specs.Tick.{AreAccepted}
 use Rattle.sc_graph.specs.Valid.{IsValid}
 use Rattle.sc_graph.specs.declared.tables.Tables.{Tables}
-use Rattle.core_charts.specs.declared.features.Features.TheVariants as features
 use Rattle.core_charts.specs.Chart.{Chart}
-use Rattle.core_charts.specs.Rules.{IsChart}
 use Rattle.chart_machine.specs.declared.standing.Configuration.{Configuration}
 use Rattle.chart_machine.specs.Table.{table}
 use Rattle.chart_machine.specs.Machine.{machine, initial, start, is_active}
@@ -15,8 +12,7 @@ use Rattle.abort_expansion.specs.Expansion.{expanded, state_map}
 use Rattle.scl.specs.declared.program.Scl.{Scl}
 use Rattle.chart_lowering.specs.Lowering.{lowered}
 use Rattle.scl_graph.specs.Answers.{IsGraph}
-use Rattle.abort_expansion_laws.specs.Layered.{IsWeaklyLayered}
-use Rattle.abort_expansion_laws.specs.Ticks.{Reactive, Keeps}
+use Rattle.abort_expansion_laws.specs.Ticks.{Reactive}
 
 abbrev pub chart_machine : Chart → Reactive
 chart_machine c = record { machine = machine (table c); initial = initial (table c); start = start (table c) }
@@ -40,10 +36,3 @@ pub record HasImage (c : Chart) : Type 0 where
   pub graph : IsGraph scl program
   pub tables : Tables
   pub valid : IsValid program tables
-
--- each list of ends of a weakly layered chart, over inputs that are accepted, has one of its core chart that is seen alike, where that keeps
--- the rules of core charts
-abbrev pub PreemptionIsKept : Type 0
-PreemptionIsKept =
-    (c : Chart) → IsChart features.Extended c → IsChart features.Core (expanded c) → IsWeaklyLayered c → (image : HasImage c) →
-    Keeps (chart_machine c) (chart_machine (expanded c)) (AreAccepted image.program) (SeenAlike c)

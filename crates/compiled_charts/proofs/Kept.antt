@@ -1,9 +1,7 @@
 -- The ticks of a compiled chart are the reactions of its chart.
-use Rattle.std.proofs.Common.{ℕ, zero, suc, ◌≡◌, ◌<◌, Option}
-use Rattle.std.proofs.Common.{Some, List, [], ◌∷◌, length, slice_get, take}
-use Rattle.std.proofs.Common.{option_map, Result, Ok, Err, IfOk, refl, sym, ap, subst, ◌∙◌, arith}
+use Rattle.std.proofs.Common.{ℕ, zero, suc, ◌≡◌, Option, List, [], ◌∷◌, length, take}
+use Rattle.std.proofs.Common.{Result, Ok, Err, IfOk, refl, sym, ap, subst, ◌∙◌, arith}
 use Rattle.std.proofs.Math.Logic.{∥∥₁_map}
-use Rattle.std.proofs.lemmas.Option.{slice_get-map}
 use Rattle.sc_text.proofs.EachItem.{Each}
 use Rattle.sc_values.specs.Runs.{Ends}
 use Rattle.sc_graph.specs.declared.control.Control.{Control}
@@ -20,8 +18,7 @@ use Rattle.chart_machine.specs.Machine as chart
 use Rattle.scl.specs.Numbering.{numbered}
 use Rattle.scl.specs.Rules.{KeepsRules}
 use Rattle.scl_graph.specs.Graph.{program_of}
-use Rattle.abort_expansion.specs.Expansion.{expanded, state_map}
-use Rattle.abort_expansion.specs.StateMap.{chart_state}
+use Rattle.abort_expansion.specs.Expansion.{expanded}
 use Rattle.chart_lowering_laws.specs.Keeps.{Reaction, EachPair}
 use Rattle.chart_lowering_laws.specs.Laws.{IsLowering}
 use Rattle.chart_lowering_laws.specs.Marks.{layout}
@@ -29,26 +26,24 @@ use Rattle.bytecode.specs.Image.{Image}
 use Rattle.compiler.specs.Charts.{IsImageOfChart}
 use Rattle.node_states.specs.Active.{is_active, numbers_where}
 use Rattle.node_states.specs.Nodes.{state_of_node, state_count}
-use Rattle.node_states.specs.StandsFor.{past_core, stands_for}
+use Rattle.node_states.specs.StandsFor.{stands_for}
 use Rattle.tick_core.specs.State.{threads_of}
 use Rattle.worker_pool.specs.Ticks.{IsTick}
 use Rattle.compiled_charts_laws.specs.Nodes.{StandForStates}
 use Rattle.compiled_charts_laws.specs.Reactions.{AllAccepted, IsReactionOfChart, HasOneReaction}
 use Rattle.compiled_charts_laws.specs.Reactions.{AreSeenAlike as AreSeenAlikeBy}
-use Rattle.compiled_charts_laws.proofs.Plain.{expands_to_itself, stands_for_itself}
 use Rattle.compiled_charts_laws.proofs.Ticks.{one_reaction}
-use Rattle.compiled_charts_laws.proofs.Told.{as_many_states, nodes_stand}
-use Rattle.abort_expansion_laws.specs.Layered.{IsWeaklyLayered}
+use Rattle.compiled_charts_laws.proofs.Told.{nodes_stand}
 use Rattle.abort_expansion_laws.specs.Preemption.{HasImage}
 use Rattle.abort_expansion_laws.specs.Ticks.{AllOf}
-use Rattle.abort_expansion_laws.proofs.StepsByCase.{preemption_holds}
 use Rattle.reaction_laws.proofs.RanksOfCharts.{charts_react}
 use Rattle.reaction_laws.specs.Reacts.{ReactsInOneWay}
+use Rattle.preemption_laws.proofs.Proved.{kept as kept_by_core}
 use Rattle.compiled_charts.specs.Ticks.{AreTicks}
 use Rattle.compiled_charts.specs.Compiled.{CompiledChart}
 use Rattle.compiled_charts.specs.Kept.{AreSeenAlike, IsReactionSeen, Reacts, ShowsItsReaction}
 use Rattle.compiled_charts.proofs.ActiveStates.{same_numbers}
-use Rattle.compiled_charts.proofs.LayeredCharts.{layered_shown, chart_reacts, chart_only}
+use Rattle.compiled_charts.proofs.KeptCharts.{kept_shown, chart_reacts, chart_only}
 
 -- ---- ticks
 
@@ -143,32 +138,7 @@ module _ (c : Chart) (image : Image) (is : IsImageOfChart c image) (kept : Keeps
   core_shown : IsReactionSeen core (state_of_node core) (length (table core).states) ticks controls
   core_shown = shows core (state_of_node core) (length (table core).states) refl image long (one (state_of_node core) own) ticks controls are
 
-  -- where each core state stands for itself, what stands for the chart's states is what stands for those of the core
-  module _ (same : core ≡ c) (itself : (s : ℕ) → s < state_count c → chart_state (state_map c) s ≡ Some s) where
-    many : length (table core).states ≡ state_count c
-    many = as_many_states core is.scl low ∙ ap state_count same
-
-    past : (n s : ℕ) → s < length (table core).states → slice_get (state_of_node core) n ≡ Some (Some s) → slice_get (stands_for c) n ≡ Some (Some s)
-    past n s less there =
-        slice_get-map (past_core (state_map c)) (state_of_node core) n
-        ∙ ap (option_map (past_core (state_map c))) there
-        ∙ ap Some (itself s (let m : length (table core).states ≡ state_count c = many in omega (arith, less, m)))
-
-    stand_too : Stand (stands_for c)
-    stand_too = record {
-      pauses = λ s n rest less asked. past (suc n) s less (own.pauses s n rest less asked);
-      forks = λ s n branches rest less asked. past (suc n) s less (own.forks s n branches rest less asked);
-      top = λ n branches rest asked.
-          slice_get-map (past_core (state_map c)) (state_of_node core) (suc n)
-          ∙ ap (option_map (past_core (state_map c))) (own.top n branches rest asked);
-    }
-
-    chart_shown : IsReactionSeen c (stands_for c) (state_count c) ticks controls
-    chart_shown =
-        subst (λ x. IsReactionSeen x (stands_for c) (state_count c) ticks controls) same
-        (shows core (stands_for c) (state_count c) (sym many) image long (one (stands_for c) stand_too) ticks controls are)
-
-  -- where the chart is weakly layered, it is kept by its core chart
+  -- the chart is kept by its core chart
   has_image : HasImage c
   has_image = record {
     scl = is.scl;
@@ -193,12 +163,12 @@ module _ (c : Chart) (image : Image) (is : IsImageOfChart c image) (kept : Keeps
   in_one_way : IsChart features.Extended c → (ds es : List Configuration) → Reacts c ticks ds → Reacts c ticks es → ds ≡ es
   in_one_way rules ds es first second = chart_only c rules image.program (one_way rules) ticks accepted ds es first second
 
-  layered_seen : IsChart features.Extended c → IsWeaklyLayered c → IsReactionSeen c (stands_for c) (state_count c) ticks controls
+  chart_shown : IsChart features.Extended c → IsReactionSeen c (stands_for c) (state_count c) ticks controls
   unfolding has_image
-  layered_seen rules layered =
+  chart_shown rules =
       let r : AreReaction image ticks (initial image.program) controls = are_reaction image ticks (initial image.program) controls are in
       record {
-        each = layered_shown c rules image.program (preemption_holds c rules is.lowers.core layered has_image) ticks controls r.accepted
+        each = kept_shown c rules image.program (kept_by_core c rules has_image low) ticks controls r.accepted
             (λ ends reacts. (one (state_of_node core) own).each ticks ends controls r.accepted reacts r.reacts);
         some = some_reaction rules;
       }
@@ -207,15 +177,10 @@ pub shows_its_reaction : (x : CompiledChart) (ticks : List Inputs) (controls : L
     ShowsItsReaction x ticks controls
 shows_its_reaction x ticks controls are c is = ∥∥₁_map is.image.lowers.rules (λ kept. record {
   core = core_shown c x.image is.image kept ticks controls are;
-  without_aborts = λ none.
+  chart =
       subst (λ nodes. IsReactionSeen c nodes x.states ticks controls) (sym is.nodes)
       (subst (λ states. IsReactionSeen c (stands_for c) states ticks controls) (sym is.states)
-      (chart_shown c x.image is.image kept ticks controls are (expands_to_itself c is.rules none) (stands_for_itself c is.rules none)));
-  weakly_layered = λ layered.
-      subst (λ nodes. IsReactionSeen c nodes x.states ticks controls) (sym is.nodes)
-      (subst (λ states. IsReactionSeen c (stands_for c) states ticks controls) (sym is.states)
-      (layered_seen c x.image is.image kept ticks controls are is.rules layered));
-  reacts = some_reaction c x.image is.image kept ticks controls are is.rules;
+      (chart_shown c x.image is.image kept ticks controls are is.rules));
   only = λ ds es first second. in_one_way c x.image is.image kept ticks controls are is.rules ds es first second;
 })
 

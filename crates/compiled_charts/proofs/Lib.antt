@@ -2,5 +2,5 @@ mod Marks
 mod Row
 mod StateTotals
 pub mod ActiveStates
-mod LayeredCharts
+mod KeptCharts
 mod Kept

@@ -1,15 +1,13 @@
 -- What it is that the ticks of a compiled chart are a reaction of its chart.
-use Rattle.std.specs.Prelude.{ℕ, ◌≡◌, false, Option, List, length, take}
+use Rattle.std.specs.Prelude.{ℕ, ◌≡◌, Option, List, length, take}
 use Rattle.sc_graph.specs.declared.control.Control.{Control}
 use Rattle.sc_graph.specs.Tick.{Inputs}
 use Rattle.core_charts.specs.Chart.{Chart}
-use Rattle.core_charts.specs.Aborts.{chart_has_aborts}
 use Rattle.chart_machine.specs.declared.standing.Configuration.{Configuration}
 use Rattle.chart_machine.specs.declared.table.Table.{Table}
 use Rattle.chart_machine.specs.Table.{table}
 use Rattle.chart_machine.specs.Machine as chart
 use Rattle.abort_expansion.specs.Expansion.{expanded}
-use Rattle.abort_expansion_laws.specs.Layered.{IsWeaklyLayered}
 use Rattle.chart_lowering_laws.specs.Keeps.{Reaction, EachPair}
 use Rattle.node_states.specs.Active.{active_states, numbers_where}
 use Rattle.node_states.specs.Nodes.{state_of_node}
@@ -37,13 +35,10 @@ pub record IsReactionSeen (c : Chart) (nodes : List (Option ℕ)) (states : ℕ)
   pub each : IsEachSeen c nodes states ticks controls
   pub some : (ends : List Configuration) × Reacts c ticks ends
 
--- the core chart's reaction is seen in these configurations, and so is that of the chart, where it has no aborts or is weakly layered. Whichever chart
--- it is, it has a reaction, and no other one
+-- the core chart's reaction is seen in these configurations, and so is that of the chart, which is the only one
 pub record ShowsReaction (c : Chart) (x : CompiledChart) (ticks : List Inputs) (controls : List Control) : Type 0 where
   pub core : IsReactionSeen (expanded c) (state_of_node (expanded c)) (length (table (expanded c)).states) ticks controls
-  pub without_aborts : chart_has_aborts c ≡ false → IsReactionSeen c x.nodes x.states ticks controls
-  pub weakly_layered : IsWeaklyLayered c → IsReactionSeen c x.nodes x.states ticks controls
-  pub reacts : (ends : List Configuration) × Reacts c ticks ends
+  pub chart : IsReactionSeen c x.nodes x.states ticks controls
   pub only : (ds es : List Configuration) → Reacts c ticks ds → Reacts c ticks es → ds ≡ es
 
 -- of whichever chart this was compiled

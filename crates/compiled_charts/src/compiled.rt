@@ -73,10 +73,9 @@ impl Compiled {
     }
 
     /// Runs ticks from the configuration before the first one, with 1 to 8 workers, and gives the configuration
-    /// after each: they show the reaction of the core chart, and that of the chart, with its variables and its active
-    /// states, where it has no aborts or is weakly layered, so that no weak abort lies inside of a weak one. Each chart
-    /// has exactly one reaction. `Input` names, counted from 1, the first tick whose inputs are not accepted. `Memory`:
-    /// it was refused.
+    /// after each: they show the reaction of the chart, which has exactly one, with its variables and its active
+    /// states, and that of its core chart. `Input` names, counted from 1, the first tick whose inputs are not accepted.
+    /// `Memory`: it was refused.
     #[tactic(auto, using(crate::proofs::Kept::run_shows))]
     pub fn run<R: Threads + Wait + Sync>(
         &self,

@@ -43,7 +43,7 @@ use Rattle.abort_expansion_laws.proofs.StillBegun.{HasBegun, charts_stay_begun, 
 use Rattle.abort_expansion_laws.proofs.TickFollowed as ticks
 use Rattle.abort_expansion_laws.proofs.TicksFinish.{ticks_finish}
 use Rattle.abort_expansion_laws.proofs.ToldSteps.{told_silent}
-use Rattle.reaction_laws.specs.Bounded.{last_of, GoesOn, EndsEachTick, TicksEnd, LayeredTicksEnd}
+use Rattle.reaction_laws.specs.Bounded.{last_of, GoesOn, EndsEachTick, TicksEnd}
 use Rattle.reaction_laws.proofs.ByRank.{Begins, begins}
 use Rattle.reaction_laws.proofs.CoreRuns.{Within, within_on, most_silent, longest, tick_within}
 use Rattle.reaction_laws.proofs.CoreCompletes.{completes_to}
@@ -296,6 +296,3 @@ module _ (c : Chart) (rules : IsChart features.Extended c) (core_rules : IsChart
 
 pub ticks_end : TicksEnd
 ticks_end c rules image low = each_tick_ends c rules low.core image low
-
-pub layered_ticks_end : LayeredTicksEnd
-layered_ticks_end c rules layered = ticks_end c rules

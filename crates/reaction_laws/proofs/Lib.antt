@@ -22,7 +22,6 @@ pub mod OwnSteps
 pub mod StepRuns
 pub mod CoreCompletes
 pub mod ChartRuns
-pub mod SeenInGraph
 pub mod RanksReact
 pub mod OneReaction
 pub mod ChartsSit
@@ -54,5 +53,4 @@ pub mod GraphComes
 pub mod NextCapped
 pub mod QuietStarts
 pub mod RanksOfCharts
-pub mod LayeredRanks
 pub mod Proved

@@ -10,8 +10,7 @@ pub use Rattle.reaction_laws.proofs.SitsStill.{sits_apart}
 pub use Rattle.reaction_laws.proofs.SitsAtStart.{sits_initially, sits_at_start}
 pub use Rattle.reaction_laws.proofs.CoreCompletes.{completes_to}
 pub use Rattle.reaction_laws.proofs.StepRuns.{step_run, start_run}
-pub use Rattle.reaction_laws.proofs.ChartRuns.{ticks_end, layered_ticks_end}
-pub use Rattle.reaction_laws.proofs.SeenInGraph.{core_ends_alike}
+pub use Rattle.reaction_laws.proofs.ChartRuns.{ticks_end}
 pub use Rattle.reaction_laws.proofs.RanksReact.{has_reaction}
 pub use Rattle.reaction_laws.proofs.OneReaction.{one_reaction}
 pub use Rattle.reaction_laws.proofs.ChartsSit.{one_list_of_ends}
@@ -22,7 +21,6 @@ pub use Rattle.reaction_laws.proofs.MonitorsLow.{guards_low}
 pub use Rattle.reaction_laws.proofs.QuietRuns.{steps_keep, coming_keeps}
 pub use Rattle.reaction_laws.proofs.QuietStarts.{starts_quiet}
 pub use Rattle.reaction_laws.proofs.RanksOfCharts.{has_capped_ranks, charts_react}
-pub use Rattle.reaction_laws.proofs.LayeredRanks.{reacts_in_one_way, does_no_more}
 pub use Rattle.reaction_laws.proofs.NextCapped.{first_capped, next_capped}
 pub use Rattle.reaction_laws.proofs.LinesAhead.{low_once_stepped, once_stepped_above, stepped_ahead, once_stepped_on, once_stepped_both}
 pub use Rattle.reaction_laws.proofs.LinesAhead.{ahead_on, ahead_within, ahead_less, ahead_both, enabled_ahead}

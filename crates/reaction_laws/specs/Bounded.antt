@@ -7,7 +7,6 @@ use Rattle.core_charts.specs.Chart.{Chart}
 use Rattle.core_charts.specs.Rules.{IsChart}
 use Rattle.abort_expansion.specs.Expansion.{expanded}
 use Rattle.chart_lowering_laws.specs.Laws.{IsLowering}
-use Rattle.abort_expansion_laws.specs.Layered.{IsWeaklyLayered}
 use Rattle.abort_expansion_laws.specs.Ticks.{Reactive, Reaction, AllOf}
 use Rattle.abort_expansion_laws.specs.Preemption.{chart_machine, HasImage}
 
@@ -37,10 +36,4 @@ pub record EndsEachTick (r : Reactive) (Accepted : Inputs → Type 0) : Type 0 w
 abbrev pub TicksEnd : Type 0
 TicksEnd =
     (c : Chart) → IsChart features.Extended c → (image : HasImage c) → IsLowering (expanded c) image.scl →
-    EndsEachTick (chart_machine c) (AreAccepted image.program)
-
--- and of each weakly layered one
-abbrev pub LayeredTicksEnd : Type 0
-LayeredTicksEnd =
-    (c : Chart) → IsChart features.Extended c → IsWeaklyLayered c → (image : HasImage c) → IsLowering (expanded c) image.scl →
     EndsEachTick (chart_machine c) (AreAccepted image.program)

@@ -2,7 +2,6 @@ pub mod Ranked
 pub mod OneEnd
 pub mod Bounded
 pub mod Reacts
-pub mod KeptBack
 pub mod ChartRanks
 pub mod StepNodes
 pub mod CappedRanks

@@ -9,7 +9,6 @@ use Rattle.chart_machine.specs.Table.{table}
 use Rattle.chart_machine.specs.Machine.{initial}
 use Rattle.abort_expansion.specs.Expansion.{expanded}
 use Rattle.chart_lowering_laws.specs.Laws.{IsLowering}
-use Rattle.abort_expansion_laws.specs.Layered.{IsWeaklyLayered}
 use Rattle.abort_expansion_laws.specs.Ticks.{Reaction, AllOf}
 use Rattle.abort_expansion_laws.specs.Preemption.{chart_machine, HasImage}
 
@@ -24,9 +23,3 @@ abbrev pub ChartsReact : Type 0
 ChartsReact =
     (c : Chart) → IsChart features.Extended c → (image : HasImage c) → IsLowering (expanded c) image.scl → (ticks : List Inputs) →
     AllOf (AreAccepted image.program) ticks → ReactsInOneWay c ticks
-
--- and of each weakly layered one
-abbrev pub LayeredChartsReact : Type 0
-LayeredChartsReact =
-    (c : Chart) → IsChart features.Extended c → IsWeaklyLayered c → (image : HasImage c) → IsLowering (expanded c) image.scl →
-    (ticks : List Inputs) → AllOf (AreAccepted image.program) ticks → ReactsInOneWay c ticks

@@ -2,10 +2,9 @@
 //! over the definitions alone.
 #![tactic(auto)]
 
-ghost use Rattle.reaction_laws.specs.Bounded.{LayeredTicksEnd, TicksEnd};
-ghost use Rattle.reaction_laws.specs.KeptBack.{CoreChartsDoNoMore};
+ghost use Rattle.reaction_laws.specs.Bounded.{TicksEnd};
 ghost use Rattle.reaction_laws.specs.LowLines.{LinesStayLow};
-ghost use Rattle.reaction_laws.specs.Reacts.{ChartsReact, LayeredChartsReact};
+ghost use Rattle.reaction_laws.specs.Reacts.{ChartsReact};
 ghost use Rattle.reaction_laws.specs.StepNodes.{PrioritiesOrderSteps, StepsComeToNodes};
 
 /// Each tick of a chart that has a valid image comes to an end, whatever steps it takes: no run of a tick that follows
@@ -20,26 +19,6 @@ pub fn ticks_end()
 /// list. This function does nothing; its contract is the law.
 pub fn charts_react()
     ensures { ChartsReact }
-{}
-
-/// Each tick of a weakly layered chart that has a valid image comes to an end, whatever steps it takes: no run of a
-/// tick that follows a reaction takes more steps than one number says, and each run can be completed. This function
-/// does nothing; its contract is the law.
-pub fn layered_ticks_end()
-    ensures { LayeredTicksEnd }
-{}
-
-/// A weakly layered chart that has a valid image reacts in one way to whatever inputs that accepts: there is a list of
-/// ends, one for each tick, to each of them an admissible complete run leads, and there is no other list. This function
-/// does nothing; its contract is the law.
-pub fn layered_charts_react()
-    ensures { LayeredChartsReact }
-{}
-
-/// Each list of ends of the core chart of a weakly layered chart that has a valid image, to inputs that are accepted,
-/// has one of the chart that is seen alike. This function does nothing; its contract is the law.
-pub fn core_charts_do_no_more()
-    ensures { CoreChartsDoNoMore }
 {}
 
 /// Wherever a core chart and its valid graph stand alike, a run of threads alone leads to where they do so too, and the

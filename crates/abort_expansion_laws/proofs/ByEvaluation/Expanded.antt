@@ -22,8 +22,8 @@ use Rattle.core_charts.specs.declared.region.Region.TheFolds.{fold-roll-Region, 
 use Rattle.core_charts.specs.declared.region.Region.{Region}
 use Rattle.core_charts.specs.declared.region.State.{State}
 use Rattle.chart_machine.specs.declared.table.Table.{Table}
-use Rattle.chart_machine.specs.Table.{Piece, table_over, side_by_side, whole, piece_of_region, piece_of_state}
-use Rattle.chart_machine.specs.Table.{region_piece as played_region, state_piece as played_state}
+use Rattle.chart_machine.specs.Table.{Subtree, table_over, side_by_side, whole, subtree_of_region, subtree_of_state}
+use Rattle.chart_machine.specs.Table.{region_subtree as played_region, state_subtree as played_state}
 use Rattle.chart_machine_laws.proofs.ByEvaluation.Told.{Tick, ticks}
 use Rattle.abort_expansion.specs.Transitions.{number, is_number, is_raised, count_down}
 use Rattle.abort_expansion.specs.Pieces.{RegionPiece, StatePiece}
@@ -65,7 +65,7 @@ pub of_too_many : int_wrap w32 (pos 0 -ℤ pos 1) ≡ negsuc 0
 of_too_many = int_wrap_fits w32 (negsuc 0) (fits_signed_from_abs w32 (negsuc 0) (omega arith))
 
 -- the pieces as which states and regions of the core chart are played: of each what it is, and of what is inside it the pieces
-abbrev pub piece_over_state : State-F Region State → List Piece → Piece
+abbrev pub piece_over_state : State-F Region State → List Subtree → Subtree
 piece_over_state s inside = played_state (record {
   name = s.name;
   is_initial = s.is_initial;
@@ -74,31 +74,31 @@ piece_over_state s inside = played_state (record {
   transitions = s.transitions;
 })
 
-abbrev pub piece_over_region : Region-F Region State → List Piece → Piece
+abbrev pub piece_over_region : Region-F Region State → List Subtree → Subtree
 piece_over_region r inside = played_region (record { name = r.name; states = inside })
 
-pub data AreStates : List State → List Piece → Type 0 where
+pub data AreStates : List State → List Subtree → Type 0 where
   no_state : AreStates [] []
-  and_state : (s : State-F Region State) (inside : List Piece) (ss : List State) (ps : List Piece) → map piece_of_region s.regions ≡ inside →
+  and_state : (s : State-F Region State) (inside : List Subtree) (ss : List State) (ps : List Subtree) → map subtree_of_region s.regions ≡ inside →
       AreStates ss ps → AreStates (roll-State s ∷ ss) (piece_over_state s inside ∷ ps)
 
-pub data AreRegions : List Region → List Piece → Type 0 where
+pub data AreRegions : List Region → List Subtree → Type 0 where
   no_region : AreRegions [] []
-  and_region : (r : Region-F Region State) (inside : List Piece) (rs : List Region) (ps : List Piece) → map piece_of_state r.states ≡ inside →
+  and_region : (r : Region-F Region State) (inside : List Subtree) (rs : List Region) (ps : List Subtree) → map subtree_of_state r.states ≡ inside →
       AreRegions rs ps → AreRegions (roll-Region r ∷ rs) (piece_over_region r inside ∷ ps)
 
-pub of_states : {ss : List State} {ps : List Piece} → AreStates ss ps → map piece_of_state ss ≡ ps
+pub of_states : {ss : List State} {ps : List Subtree} → AreStates ss ps → map subtree_of_state ss ≡ ps
 of_states no_state = refl
 of_states (and_state s inside ss ps is rest) =
-    rw (fold-roll-State Piece Piece played_region played_state s, is, of_states rest) refl
+    rw (fold-roll-State Subtree Subtree played_region played_state s, is, of_states rest) refl
 
-pub of_regions : {rs : List Region} {ps : List Piece} → AreRegions rs ps → map piece_of_region rs ≡ ps
+pub of_regions : {rs : List Region} {ps : List Subtree} → AreRegions rs ps → map subtree_of_region rs ≡ ps
 of_regions no_region = refl
 of_regions (and_region r inside rs ps is rest) =
-    rw (fold-roll-Region Piece Piece played_region played_state r, is, of_regions rest) refl
+    rw (fold-roll-Region Subtree Subtree played_region played_state r, is, of_regions rest) refl
 
 -- a state without regions, and what is behind it
-pub simple : (s : State-F Region State) (ss : List State) (ps : List Piece) → map piece_of_region s.regions ≡ [] → AreStates ss ps →
+pub simple : (s : State-F Region State) (ss : List State) (ps : List Subtree) → map subtree_of_region s.regions ≡ [] → AreStates ss ps →
     AreStates (roll-State s ∷ ss) (piece_over_state s [] ∷ ps)
 simple s ss ps none rest = and_state s [] ss ps none rest
 
@@ -148,7 +148,7 @@ end_of declared stands_for t = end (take declared t.variables) (shown stands_for
 abbrev pub ends_of_table : ℕ → List (Option ℕ) → Table → List ℕ → List Inputs → List End
 ends_of_table declared stands_for k order inputs = map (end_of declared stands_for) (ticks k order inputs)
 
-abbrev pub ends_over : List Variable → Regions → List Piece → List ℕ → List Inputs → List End
+abbrev pub ends_over : List Variable → Regions → List Subtree → List ℕ → List Inputs → List End
 ends_over variables core pieces =
     ends_of_table (length variables) core.stands_for (table_over (variables ++ core.variables) (side_by_side pieces whole))
 
@@ -156,10 +156,10 @@ abbrev pub core : List Variable → List RegionPiece → Regions
 core variables regions = all_expanded (length variables) regions
 
 pub record Ends (variables : List Variable) (regions : List RegionPiece) (order : List ℕ) (inputs : List Inputs) (told : List End) : Type 0 where
-  pub are : ends_over variables (core variables regions) (map piece_of_region (core variables regions).regions) order inputs ≡ told
+  pub are : ends_over variables (core variables regions) (map subtree_of_region (core variables regions).regions) order inputs ≡ told
 
 pub played : (variables : List Variable) (regions : List RegionPiece) (order : List ℕ) (inputs : List Inputs) (told : List End)
-    (pieces : List Piece) → AreRegions (core variables regions).regions pieces →
+    (pieces : List Subtree) → AreRegions (core variables regions).regions pieces →
     ends_over variables (core variables regions) pieces order inputs ≡ told → Ends variables regions order inputs told
 played variables regions order inputs told pieces are gives = record {
   are = ap (λ ps. ends_over variables (core variables regions) ps order inputs) (of_regions are) ∙ gives;

@@ -1,4 +1,0 @@
-mod Mapped
-mod Nested
-mod TextLayers
-pub mod LayeredStates
