@@ -8,6 +8,7 @@ mod hosting;
 mod laws;
 mod lines;
 mod player;
+mod resting;
 mod session;
 mod turns;
 

@@ -2,16 +2,19 @@
 
 ghost use Rattle.std.specs.Prelude.{◌≡◌, ◌≤◌, IfOk, IfErr, length};
 ghost use Rattle.std.specs.Result.{IsErrOf};
-ghost use Rattle.sc_graph.specs.Tick.{Rests, AreAccepted};
+ghost use Rattle.sc_graph.specs.Tick.{AreAccepted};
 ghost use Rattle.trace_lines.specs.Lines.{line_limit};
-ghost use Rattle.trace_player.specs.Trace.{Reacts, Shows};
+ghost use Rattle.trace_player.specs.Trace.{Shows};
+ghost use Rattle.trace_player.specs.Inside.Resting.{IsAtRest, control_of};
+ghost use Rattle.worker_pool.specs.Ticks.{Ended};
 ghost use Rattle.trace_player.specs.Faults.{Tells};
 
 use crate::player::PlayFault;
+use crate::resting::Resting;
 use std::alloc::Global;
 use std::sync::Wait;
 use std::thread::Scope;
-use tick_core::{BeginFault, Control, Inputs, TickSpace};
+use tick_core::{BeginFault, Inputs, TickState};
 use trace_lines::{Interface, LineFault, LineRoom};
 use verifier::Verified;
 use worker_pool::{Gate, OfImage, Team};
@@ -33,47 +36,40 @@ where
     J: OfImage + Send + Sync + 's,
     G: Gate + Sync + 's,
 {
-    // One tick from a configuration: the one after it, the number of steps, and the room for the next tick.
-    fn tick(
-        &mut self,
-        room: TickSpace<'x>,
-        control: Control,
-        inputs: &Inputs,
-    ) -> Result<(Control, u64, TickSpace<'x>), BeginFault>
-        requires room { room ≡ J.image }
-        requires rests { Rests J.image.program control }
-        ensures rests { IfOk result (λ r. Rests J.image.program r.0) }
-        ensures reacts { IfOk result (λ r. Reacts J.image inputs.now control r.0 r.1) }
-        ensures room { IfOk result (λ r. r.2 ≡ J.image) }
+    // One tick from where the trace rests, to where nobody is enabled.
+    fn tick(&mut self, resting: Resting<'x>, inputs: &Inputs) -> Result<TickState<'x>, BeginFault>
+        requires rests { IsAtRest J.image resting }
+        ensures ended { IfOk result (Ended J.image inputs.now (control_of resting.entry)) }
         ensures refused { IsErrOf result BeginFault.Input → ¬ AreAccepted J.image.program inputs.now }
     {
-        let state = self
-            .team
-            .tick(self.rt, self.scope, self.alloc, room, control, inputs)?;
-        let steps = state.history().len() as u64;
-        let (control, room) = state.hand_over();
-        Ok((control, steps, room))
+        match resting {
+            Resting::Before(room, control) => {
+                self.team
+                    .tick(self.rt, self.scope, self.alloc, room, control, inputs)
+            }
+            Resting::Behind(state) => {
+                self.team
+                    .go_on(self.rt, self.scope, self.alloc, state, inputs)
+            }
+        }
     }
 
-    /// What the line of this number makes: the configuration after its tick, and the room for the next tick. The line
-    /// of output goes to `shown`.
+    /// What the line of this number makes: where the trace rests behind its tick. The line of output goes to `shown`.
     pub(crate) fn react(
         &mut self,
         interface: &Interface<'_>,
         line_room: &mut LineRoom,
-        room: TickSpace<'x>,
-        control: Control,
+        resting: Resting<'x>,
         number: u64,
         line: &[u8],
         shown: &mut Vec<u8>,
-    ) -> Result<(Control, TickSpace<'x>), PlayFault>
+    ) -> Result<Resting<'x>, PlayFault>
         requires interface { interface.now ≡ J.image.program.variables }
-        requires room { room ≡ J.image }
-        requires rests { Rests J.image.program control }
+        requires rests { IsAtRest J.image resting }
         requires short { length line.now ≤ line_limit }
-        ensures rests { IfOk result (λ r. Rests J.image.program r.0) }
-        ensures shows { IfOk result (λ r. Shows J.image number control line.now r.0 shown.new.items) }
-        ensures room { IfOk result (λ r. r.1 ≡ J.image) }
+        ensures rests { IfOk result (IsAtRest J.image) }
+        ensures shows { IfOk result (λ r.
+            Shows J.image number (control_of resting.entry) line.now (control_of r) shown.new.items) }
         ensures fault { IfErr result (Tells J.image.program number line.now) }
     {
         let inputs = match interface.read_line_in(self.alloc, line_room, line) {
@@ -82,12 +78,14 @@ where
             Err(LineFault::NotJson) => return Err(PlayFault::NotJson(number)),
             Err(LineFault::Input) => return Err(PlayFault::Input(number)),
         };
-        let (control, steps, room) = match self.tick(room, control, &inputs) {
-            Ok(ticked) => ticked,
+        let state = match self.tick(resting, &inputs) {
+            Ok(state) => state,
             Err(BeginFault::Memory) => return Err(PlayFault::Memory),
             Err(BeginFault::Input) => return Err(PlayFault::Input(number)),
         };
-        interface.write_line(shown, number, steps, control.variables.as_slice())?;
-        Ok((control, room))
+        let steps = state.history().len() as u64;
+        let values = state.end().variables.as_slice();
+        interface.write_line(shown, number, steps, values)?;
+        Ok(Resting::Behind(state))
     }
 }

@@ -1,14 +1,16 @@
 //! The lines of an input, one after another.
 
 ghost use Rattle.std.specs.Prelude.{◌≡◌, []};
-ghost use Rattle.sc_graph.specs.Tick.{Rests, initial};
+ghost use Rattle.sc_graph.specs.Tick.{initial};
 ghost use Rattle.trace_player.specs.Inside.HeldBack.{HoldsBack, with_held};
 ghost use Rattle.trace_player.specs.Inside.Playing.{CameTo};
+ghost use Rattle.trace_player.specs.Inside.Resting.{IsAtRest, control_of};
 
 use crate::channels::Channels;
 use crate::holding::{settle, write_or_hold};
 use crate::lines::{is_last, next_number, unread_line};
 use crate::player::PlayFault;
+use crate::resting::Resting;
 use crate::session::Session;
 use std::sync::Wait;
 use tick_core::{Control, TickSpace};
@@ -57,8 +59,7 @@ where
         session,
         &interface,
         &mut line_room,
-        room,
-        control,
+        Resting::Before(room, control),
         &mut lines,
         channels,
     )
@@ -69,8 +70,7 @@ fn go_through<'s, 'r: 's, 'x: 's, E: 's, R, J, G, P>(
     session: &mut Session<'s, 'r, 'x, E, R, J, G>,
     interface: &Interface<'_>,
     line_room: &mut LineRoom,
-    room: TickSpace<'x>,
-    control: Control,
+    resting: Resting<'x>,
     lines: &mut Lines,
     channels: &mut P,
 ) -> Result<u64, PlayFault>
@@ -80,16 +80,15 @@ where
     G: Gate + Sync + 's,
     P: Channels,
     requires interface { interface.now ≡ J.image.program.variables }
-    requires room { room ≡ J.image }
-    requires initial { control ≡ initial J.image.program }
-    requires rests { Rests J.image.program control }
+    requires initial { control_of resting ≡ initial J.image.program }
+    requires rests { IsAtRest J.image resting }
     requires lines { lines.old ≡ [] }
     ensures came { CameTo J.image (P.seen channels.old) (P.seen channels.new) result }
     ensures same { P.names channels.new ≡ P.names channels.old }
 {
     let mut held = Vec::new(session.alloc);
     let result = go_on(
-        session, interface, line_room, room, control, lines, channels, &mut held,
+        session, interface, line_room, resting, lines, channels, &mut held,
     );
     if settle(channels, &mut held) {
         return result;
@@ -102,8 +101,7 @@ fn go_on<'s, 'r: 's, 'x: 's, E: 's, R, J, G, P>(
     session: &mut Session<'s, 'r, 'x, E, R, J, G>,
     interface: &Interface<'_>,
     line_room: &mut LineRoom,
-    room: TickSpace<'x>,
-    control: Control,
+    resting: Resting<'x>,
     lines: &mut Lines,
     channels: &mut P,
     held: &mut Vec<u8>,
@@ -114,9 +112,8 @@ where
     G: Gate + Sync + 's,
     P: Channels,
     requires interface { interface.now ≡ J.image.program.variables }
-    requires room { room ≡ J.image }
-    requires initial { control ≡ initial J.image.program }
-    requires rests { Rests J.image.program control }
+    requires initial { control_of resting ≡ initial J.image.program }
+    requires rests { IsAtRest J.image resting }
     requires lines { lines.old ≡ [] }
     requires held { held.old.items ≡ [] }
     ensures came { CameTo J.image (P.seen channels.old) (with_held (P.seen channels.new) held.new.items) result }
@@ -125,8 +122,7 @@ where
     ensures read { result ≡ Err PlayFault.Read → held.new.items ≡ [] }
     ensures write { result ≡ Err PlayFault.Write → held.new.items ≡ [] }
 {
-    let mut room = room;
-    let mut control = control;
+    let mut resting = resting;
     let mut line = Vec::new(session.alloc);
     let mut shown = Vec::new(session.alloc);
     let mut number = 0;
@@ -137,15 +133,12 @@ where
             Ok(None) => return Ok(number),
             Err(fault) => return Err(unread_line(fault, next)),
         };
-        let (after, left) = session.react(
-            interface, line_room, room, control, next, &line, &mut shown,
-        )?;
-        channels.publish(session.rt, session.verified, &after)?;
+        let after = session.react(interface, line_room, resting, next, &line, &mut shown)?;
+        channels.publish(session.rt, session.verified, after.control())?;
         if !write_or_hold(channels, held, shown.as_slice(), lines.has_line()) {
             return Err(PlayFault::Write);
         }
-        control = after;
-        room = left;
+        resting = after;
         number = next;
         if is_last(end) {
             return Ok(number);
