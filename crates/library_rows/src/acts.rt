@@ -2,7 +2,7 @@
 
 ghost use Rattle.std.specs.Prelude.{◌≤◌, IfOk};
 
-use crate::reading::{number, place};
+use crate::reading::{inputs, number, place};
 use crate::telling::{tell_any, tell_control};
 use row_answers::{Answers, Unanswered, halves, known};
 use sc_graph::ThreadId;
@@ -206,8 +206,31 @@ fn tell_state(
     Ok(())
 }
 
+// Begins the next tick from where this one ended, where it is over.
+fn go_on(
+    alloc: Global,
+    state: &mut TickState<'_>,
+    given: &str,
+    answers: &mut Answers,
+) -> Result<(), Unanswered> {
+    let inputs = inputs(alloc, given)?;
+    if !state.is_over() {
+        answers.tell(" not over");
+        return Ok(());
+    }
+    match state.go_on(&inputs) {
+        Ok(()) => answers.tell(" on"),
+        Err(fault) => {
+            answers.tell(" ");
+            answers.show(&fault);
+        }
+    }
+    Ok(())
+}
+
 // Does what is to be done, and tells what is answered.
 fn act<'a>(
+    alloc: Global,
     state: &mut TickState<'a>,
     given: &mut Vec<Done<'a>>,
     answers: &mut Answers,
@@ -227,6 +250,7 @@ fn act<'a>(
             answers.tell(" alone");
             return Ok(());
         }
+        "on" => return go_on(alloc, state, rest, answers),
         _ => return tell_state(answers, state, word, rest),
     };
     tell(answers, answer);
@@ -244,7 +268,7 @@ pub(crate) fn act_all(
     for words in acts.split(';') {
         let words = words.trim();
         if !words.is_empty() {
-            act(state, &mut given, answers, words)?;
+            act(alloc, state, &mut given, answers, words)?;
             answers.tell(";");
         }
     }
