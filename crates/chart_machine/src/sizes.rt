@@ -1,7 +1,8 @@
 //! How many states and regions are in a subtree of a chart.
 
 ghost use Rattle.std.specs.Prelude.{◌≡◌, ◌+◌, IfSome, map};
-ghost use Rattle.chart_machine.specs.Table.{subtree_of_region, subtree_of_state, states_in, regions_in, regions_in_initial};
+ghost use Rattle.chart_machine.specs.Table.{subtree_of_region, subtree_of_state, states_in};
+ghost use Rattle.chart_machine.specs.Table.{regions_in, regions_in_initial};
 
 use core_charts::{Region, State};
 

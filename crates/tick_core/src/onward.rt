@@ -20,7 +20,8 @@ use sc_values::Value;
 
 /// Takes the step of an enabled thread without a claim that stands so, whose code has this value. The counts and rows
 /// are those behind it then: where the step concerns others too, whom it can have made enabled or not is counted and
-/// sorted anew, and the children whom it forks or leaves are listed. Gives how the thread stands where it stays in its row, so that it leads on.
+/// sorted anew, and the children whom it forks or leaves are listed. Gives how the thread stands where it stays in its
+/// row, so that it leads on.
 #[inline(always)]
 pub(crate) fn step_on(
     joins: &Joins,

@@ -49,7 +49,7 @@ impl<'r, 'x, J: OfImage, G: Gate> Team<'r, 'x, J, G> {
         Ok(state)
     }
 
-    /// Runs the next tick of the shared image as `tick` does, from where one ended.
+    /// Runs the next tick of the shared image as `tick` does, from where one ended, which is given up.
     pub fn go_on<'s, R, E>(
         &mut self,
         rt: &'s R,
