@@ -6,6 +6,7 @@ pub mod HeldBack
 pub mod HeldLines
 pub mod OneTrace
 pub mod Playing
+pub mod Resting
 pub mod Splits
 pub mod Took
 pub mod Turning

@@ -109,6 +109,7 @@ where
         alloc,
         verified,
         team,
+        last: None,
     };
     play_lines(session, channels)
 }

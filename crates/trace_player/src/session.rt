@@ -1,22 +1,23 @@
 //! The ticks of a trace, one after another.
 
-ghost use Rattle.std.specs.Prelude.{◌≡◌, ◌≤◌, IfOk, IfErr, length};
+ghost use Rattle.std.specs.Prelude.{◌≡◌, ◌≤◌, IsSome, IfErr, IfOk, None, OnOk, length};
 ghost use Rattle.std.specs.Result.{IsErrOf};
-ghost use Rattle.sc_graph.specs.Tick.{Rests, AreAccepted};
+ghost use Rattle.sc_graph.specs.Tick.{AreAccepted, Rests};
 ghost use Rattle.trace_lines.specs.Lines.{line_limit};
 ghost use Rattle.trace_player.specs.Trace.{Reacts, Shows};
 ghost use Rattle.trace_player.specs.Faults.{Tells};
+ghost use Rattle.trace_player.specs.Inside.Resting.{HasSteps, IsAtRest, Ticked, rest_behind};
 
 use crate::player::PlayFault;
 use std::alloc::Global;
 use std::sync::Wait;
 use std::thread::Scope;
-use tick_core::{BeginFault, Control, Inputs, TickSpace};
+use tick_core::{BeginFault, Control, Inputs, TickSpace, TickState};
 use trace_lines::{Interface, LineFault, LineRoom};
 use verifier::Verified;
 use worker_pool::{Gate, OfImage, Team};
 
-/// A team at work on the ticks of a trace, and what it works with.
+/// A team at work on the ticks of a trace, what it works with, and the last tick.
 #[derive(Drop)]
 pub(crate) struct Session<'s, 'r, 'x, E, R, J: OfImage, G: Gate> {
     pub rt: &'s R,
@@ -24,6 +25,8 @@ pub(crate) struct Session<'s, 'r, 'x, E, R, J: OfImage, G: Gate> {
     pub alloc: Global,
     pub verified: &'x Verified,
     pub team: Team<'r, 'x, J, G>,
+    // over; none before the first one
+    pub last: Option<TickState<'x>>,
     ghost of_image: { verified.now ≡ J.image },
 }
 
@@ -33,47 +36,77 @@ where
     J: OfImage + Send + Sync + 's,
     G: Gate + Sync + 's,
 {
-    // One tick from a configuration: the one after it, the number of steps, and the room for the next tick.
-    fn tick(
-        &mut self,
-        room: TickSpace<'x>,
-        control: Control,
-        inputs: &Inputs,
-    ) -> Result<(Control, u64, TickSpace<'x>), BeginFault>
-        requires room { room ≡ J.image }
-        requires rests { Rests J.image.program control }
-        ensures rests { IfOk result (λ r. Rests J.image.program r.0) }
-        ensures reacts { IfOk result (λ r. Reacts J.image inputs.now control r.0 r.1) }
-        ensures room { IfOk result (λ r. r.2 ≡ J.image) }
+    // One tick, from where the last one ended: the number of its steps.
+    fn tick(&mut self, inputs: &Inputs) -> Result<u64, BeginFault>
+        requires rests { IsAtRest J.image self.old.last }
+        ensures rests { OnOk result (IsAtRest J.image self.new.last) }
+        ensures ticked { OnOk result (IsSome self.new.last) }
+        ensures reacts { IfOk result (Reacts J.image inputs.now (rest_behind J.image self.old.last)
+            (rest_behind J.image self.new.last)) }
         ensures refused { IsErrOf result BeginFault.Input → ¬ AreAccepted J.image.program inputs.now }
     {
+        self.go_on(inputs)?;
+        Ok(self.steps())
+    }
+
+    // One tick, from where the last one ended.
+    fn go_on(&mut self, inputs: &Inputs) -> Result<(), BeginFault>
+        requires rests { IsAtRest J.image self.old.last }
+        ensures ticked { OnOk result (Ticked J.image inputs.now self.old.last self.new.last) }
+        ensures refused { IsErrOf result BeginFault.Input → ¬ AreAccepted J.image.program inputs.now }
+    {
+        if self.last.is_some() {
+            self.team
+                .go_on(self.rt, self.scope, self.alloc, &mut self.last, inputs)
+        } else {
+            self.begin(inputs)
+        }
+    }
+
+    // The first tick.
+    fn begin(&mut self, inputs: &Inputs) -> Result<(), BeginFault>
+        requires first { self.old.last ≡ None }
+        ensures ticked { OnOk result (Ticked J.image inputs.now self.old.last self.new.last) }
+        ensures refused { IsErrOf result BeginFault.Input → ¬ AreAccepted J.image.program inputs.now }
+    {
+        let control = Control::initial(self.alloc, self.verified.image().program())?;
+        let room = TickSpace::of(self.alloc, self.verified)?;
         let state = self
             .team
             .tick(self.rt, self.scope, self.alloc, room, control, inputs)?;
-        let steps = state.history().len() as u64;
-        let (control, room) = state.hand_over();
-        Ok((control, steps, room))
+        self.last = Some(state);
+        Ok(())
     }
 
-    /// What the line of this number makes: the configuration after its tick, and the room for the next tick. The line
-    /// of output goes to `shown`.
+    // The number of steps of the last tick.
+    fn steps(&self) -> u64
+        requires ticked { IsSome self.now.last }
+        requires rests { IsAtRest J.image self.now.last }
+        ensures { HasSteps self.now.last result }
+    {
+        let Some(state) = &self.last else {
+            unreachable!()
+        };
+        let _end = state.end();
+        state.history().len() as u64
+    }
+
+    /// What the line of this number makes: a tick. The line of output goes to `shown`.
     pub(crate) fn react(
         &mut self,
         interface: &Interface<'_>,
         line_room: &mut LineRoom,
-        room: TickSpace<'x>,
-        control: Control,
         number: u64,
         line: &[u8],
         shown: &mut Vec<u8>,
-    ) -> Result<(Control, TickSpace<'x>), PlayFault>
+    ) -> Result<(), PlayFault>
         requires interface { interface.now ≡ J.image.program.variables }
-        requires room { room ≡ J.image }
-        requires rests { Rests J.image.program control }
+        requires rests { IsAtRest J.image self.old.last }
         requires short { length line.now ≤ line_limit }
-        ensures rests { IfOk result (λ r. Rests J.image.program r.0) }
-        ensures shows { IfOk result (λ r. Shows J.image number control line.now r.0 shown.new.items) }
-        ensures room { IfOk result (λ r. r.1 ≡ J.image) }
+        ensures rests { OnOk result (IsAtRest J.image self.new.last) }
+        ensures ticked { OnOk result (IsSome self.new.last) }
+        ensures shows { OnOk result (Shows J.image number (rest_behind J.image self.old.last) line.now
+            (rest_behind J.image self.new.last) shown.new.items) }
         ensures fault { IfErr result (Tells J.image.program number line.now) }
     {
         let inputs = match interface.read_line_in(self.alloc, line_room, line) {
@@ -82,12 +115,26 @@ where
             Err(LineFault::NotJson) => return Err(PlayFault::NotJson(number)),
             Err(LineFault::Input) => return Err(PlayFault::Input(number)),
         };
-        let (control, steps, room) = match self.tick(room, control, &inputs) {
-            Ok(ticked) => ticked,
+        let steps = match self.tick(&inputs) {
+            Ok(steps) => steps,
             Err(BeginFault::Memory) => return Err(PlayFault::Memory),
             Err(BeginFault::Input) => return Err(PlayFault::Input(number)),
         };
-        interface.write_line(shown, number, steps, control.variables.as_slice())?;
-        Ok((control, room))
+        let values = self.end().variables.as_slice();
+        interface.write_line(shown, number, steps, values)?;
+        Ok(())
+    }
+
+    /// The configuration in which the last tick ended.
+    pub(crate) fn end(&self) -> &Control
+        requires ticked { IsSome self.now.last }
+        requires rests { IsAtRest J.image self.now.last }
+        ensures value { result.now ≡ rest_behind J.image self.now.last }
+        ensures rests { Rests J.image.program result.now }
+    {
+        let Some(state) = &self.last else {
+            unreachable!()
+        };
+        state.end()
     }
 }

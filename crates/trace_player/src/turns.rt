@@ -1,7 +1,6 @@
 //! The lines of an input, one after another.
 
-ghost use Rattle.std.specs.Prelude.{◌≡◌, []};
-ghost use Rattle.sc_graph.specs.Tick.{Rests, initial};
+ghost use Rattle.std.specs.Prelude.{◌≡◌, [], None};
 ghost use Rattle.trace_player.specs.Inside.HeldBack.{HoldsBack, with_held};
 ghost use Rattle.trace_player.specs.Inside.Playing.{CameTo};
 
@@ -11,11 +10,11 @@ use crate::lines::{is_last, next_number, unread_line};
 use crate::player::PlayFault;
 use crate::session::Session;
 use std::sync::Wait;
-use tick_core::{Control, TickSpace};
 use trace_lines::{Interface, LineRoom, Lines};
 use worker_pool::{Gate, OfImage};
 
-/// Plays the lines of an input from the first configuration on. When it returns, no tick will be shared any more.
+/// Plays the lines of an input from the first configuration on, where no tick was. When it returns, no tick will be
+/// shared any more.
 pub(crate) fn play_lines<'s, 'r: 's, 'x: 's, E: 's, R, J, G, P>(
     session: Session<'s, 'r, 'x, E, R, J, G>,
     channels: &mut P,
@@ -25,6 +24,7 @@ where
     J: OfImage + Send + Sync + 's,
     G: Gate + Sync + 's,
     P: Channels,
+    requires first { session.last ≡ None }
     ensures came { CameTo J.image (P.seen channels.old) (P.seen channels.new) result }
     ensures same { P.names channels.new ≡ P.names channels.old }
 {
@@ -44,24 +44,15 @@ where
     J: OfImage + Send + Sync + 's,
     G: Gate + Sync + 's,
     P: Channels,
+    requires first { session.old.last ≡ None }
     ensures came { CameTo J.image (P.seen channels.old) (P.seen channels.new) result }
     ensures same { P.names channels.new ≡ P.names channels.old }
 {
     let program = session.verified.image().program();
-    let control = Control::initial(session.alloc, program)?;
     let interface = Interface::of(session.alloc, program.variables())?;
     let mut lines = Lines::new(session.alloc)?;
-    let room = TickSpace::of(session.alloc, session.verified)?;
     let mut line_room = LineRoom::new(session.alloc);
-    go_through(
-        session,
-        &interface,
-        &mut line_room,
-        room,
-        control,
-        &mut lines,
-        channels,
-    )
+    go_through(session, &interface, &mut line_room, &mut lines, channels)
 }
 
 // Plays the lines of an input, none of which was read, and writes what is held back at their end.
@@ -69,8 +60,6 @@ fn go_through<'s, 'r: 's, 'x: 's, E: 's, R, J, G, P>(
     session: &mut Session<'s, 'r, 'x, E, R, J, G>,
     interface: &Interface<'_>,
     line_room: &mut LineRoom,
-    room: TickSpace<'x>,
-    control: Control,
     lines: &mut Lines,
     channels: &mut P,
 ) -> Result<u64, PlayFault>
@@ -80,17 +69,13 @@ where
     G: Gate + Sync + 's,
     P: Channels,
     requires interface { interface.now ≡ J.image.program.variables }
-    requires room { room ≡ J.image }
-    requires initial { control ≡ initial J.image.program }
-    requires rests { Rests J.image.program control }
+    requires first { session.old.last ≡ None }
     requires lines { lines.old ≡ [] }
     ensures came { CameTo J.image (P.seen channels.old) (P.seen channels.new) result }
     ensures same { P.names channels.new ≡ P.names channels.old }
 {
     let mut held = Vec::new(session.alloc);
-    let result = go_on(
-        session, interface, line_room, room, control, lines, channels, &mut held,
-    );
+    let result = go_on(session, interface, line_room, lines, channels, &mut held);
     if settle(channels, &mut held) {
         return result;
     }
@@ -102,8 +87,6 @@ fn go_on<'s, 'r: 's, 'x: 's, E: 's, R, J, G, P>(
     session: &mut Session<'s, 'r, 'x, E, R, J, G>,
     interface: &Interface<'_>,
     line_room: &mut LineRoom,
-    room: TickSpace<'x>,
-    control: Control,
     lines: &mut Lines,
     channels: &mut P,
     held: &mut Vec<u8>,
@@ -114,9 +97,7 @@ where
     G: Gate + Sync + 's,
     P: Channels,
     requires interface { interface.now ≡ J.image.program.variables }
-    requires room { room ≡ J.image }
-    requires initial { control ≡ initial J.image.program }
-    requires rests { Rests J.image.program control }
+    requires first { session.old.last ≡ None }
     requires lines { lines.old ≡ [] }
     requires held { held.old.items ≡ [] }
     ensures came { CameTo J.image (P.seen channels.old) (with_held (P.seen channels.new) held.new.items) result }
@@ -125,8 +106,6 @@ where
     ensures read { result ≡ Err PlayFault.Read → held.new.items ≡ [] }
     ensures write { result ≡ Err PlayFault.Write → held.new.items ≡ [] }
 {
-    let mut room = room;
-    let mut control = control;
     let mut line = Vec::new(session.alloc);
     let mut shown = Vec::new(session.alloc);
     let mut number = 0;
@@ -137,15 +116,11 @@ where
             Ok(None) => return Ok(number),
             Err(fault) => return Err(unread_line(fault, next)),
         };
-        let (after, left) = session.react(
-            interface, line_room, room, control, next, &line, &mut shown,
-        )?;
-        channels.publish(session.rt, session.verified, &after)?;
+        session.react(interface, line_room, next, &line, &mut shown)?;
+        channels.publish(session.rt, session.verified, session.end())?;
         if !write_or_hold(channels, held, shown.as_slice(), lines.has_line()) {
             return Err(PlayFault::Write);
         }
-        control = after;
-        room = left;
         number = next;
         if is_last(end) {
             return Ok(number);

@@ -1,5 +1,5 @@
 -- Ticks that were run to their one end.
-use Rattle.std.specs.Prelude.{ℕ, ◌≡◌, ◌<◌, ◌==◌, count_by, slice_index}
+use Rattle.std.specs.Prelude.{ℕ, ◌≡◌, ◌<◌, ◌==◌, Option, MatchOption, count_by, slice_index}
 use Rattle.sc_values.specs.Runs.{IsOver}
 use Rattle.sc_graph.specs.declared.control.Control.{Control}
 use Rattle.sc_graph.specs.Tick.{Inputs, AreAccepted, Rests, start}
@@ -25,3 +25,11 @@ pub record Ended (image : Image) (inputs : Inputs) (c : Control) (s : InTick) : 
   pub image_is : s.image ≡ image
   pub begun_is : s.begun ≡ start image.program inputs c
   pub over : IsOver (machine image.program) s.present
+
+-- a tick of this image is there, and nobody is enabled in it
+abbrev pub HasEnded : Image → Option InTick → Type 0
+HasEnded image last = MatchOption last ⊥ (λ s. (s.image ≡ image) × IsOver (machine image.program) s.present)
+
+-- under these inputs, which are accepted, the next tick has ended, which began where the one before had
+abbrev pub NextEnded : Image → Inputs → Option InTick → Option InTick → Type 0
+NextEnded image inputs last next = MatchOption last ⊥ (λ s. MatchOption next ⊥ (Ended image inputs s.present))

@@ -1,12 +1,12 @@
 //! A tick after the other, by workers that are kept.
 
-ghost use Rattle.std.specs.Prelude.{◌≡◌, ◌↔◌, IfOk};
+ghost use Rattle.std.specs.Prelude.{◌≡◌, ◌≢◌, ◌↔◌, false, Ok, Err, IfOk, OnErr, OnOk, MatchOption};
 ghost use Rattle.std.specs.Result.{IsErrOf};
 ghost use Rattle.sc_values.specs.Runs.{IsOver};
 ghost use Rattle.sc_graph.specs.Machine.{machine};
 ghost use Rattle.sc_graph.specs.Tick.{Rests, AreAccepted};
-ghost use Rattle.worker_pool.specs.Ticks.{Ended};
-ghost use Rattle.worker_pool.specs.Inside.Stretches.{EndsTick};
+ghost use Rattle.worker_pool.specs.Ticks.{Ended, HasEnded, NextEnded};
+ghost use Rattle.worker_pool.specs.Inside.Stretches.{Began, Completed, EndsTick};
 
 use crate::gate::Gate;
 use crate::of_image::OfImage;
@@ -49,15 +49,16 @@ impl<'r, 'x, J: OfImage, G: Gate> Team<'r, 'x, J, G> {
         Ok(state)
     }
 
-    /// Runs the next tick of the shared image as `tick` does, from where one ended, which is given up.
+    /// Runs the next tick of the shared image as `tick` does, in place, from where the one in `last` ended. `Input`:
+    /// that one is there as it was. At `Memory` it may be lost: none is there then.
     pub fn go_on<'s, R, E>(
         &mut self,
         rt: &'s R,
         scope: &'s Scope<'s, E>,
         alloc: Global,
-        state: TickState<'x>,
+        last: &mut Option<TickState<'x>>,
         inputs: &Inputs,
-    ) -> Result<TickState<'x>, BeginFault>
+    ) -> Result<(), BeginFault>
     where
         R: Wait + Sync,
         J: Send + Sync + 's,
@@ -65,15 +66,55 @@ impl<'r, 'x, J: OfImage, G: Gate> Team<'r, 'x, J, G> {
         E: 's,
         'r: 's,
         'x: 's,
-        requires image { state.image ≡ J.image }
-        requires over { IsOver (machine J.image.program) state.present }
-        ensures ended { IfOk result (Ended J.image inputs.now state.entry.present) }
+        requires over { HasEnded J.image last.old }
+        ensures ended { OnOk result (NextEnded J.image inputs.now last.old last.new) }
         ensures refused { IsErrOf result BeginFault.Input ↔ ¬ (AreAccepted J.image.program inputs.now) }
+        ensures same { IsErrOf result BeginFault.Input → last.new ≡ last.old }
     {
-        let mut state = state;
+        let Some(state) = last else { unreachable!() };
+        if self.lead_on(state, inputs)? {
+            self.complete_last(rt, scope, alloc, last)?;
+        }
+        Ok(())
+    }
+
+    // Begins the tick behind one, and takes the steps of it that the first worker takes alone. Whether it is to be
+    // shared; if not, nobody is enabled.
+    fn lead_on(&self, state: &mut TickState<'x>, inputs: &Inputs) -> Result<bool, BeginFault>
+        requires image { state.old.image ≡ J.image }
+        requires over { IsOver (machine J.image.program) state.old.present }
+        ensures begun { OnOk result (Began J.image inputs.now state.old.present state.new) }
+        ensures over { result ≡ Ok false → IsOver (machine J.image.program) state.new.present }
+        ensures refused { OnErr result (¬ (AreAccepted J.image.program inputs.now)) }
+        ensures same { OnErr result (state.new ≡ state.old) }
+        ensures why { result ≢ Err BeginFault.Memory }
+    {
         state.go_on(inputs)?;
-        let state = self.complete(rt, scope, alloc, state)?;
-        Ok(state)
+        Ok(stretch(state, self.workers, self.shared.gate))
+    }
+
+    // Runs a tick to where nobody is enabled, with the others. Err: it was lost, and is not there.
+    fn complete_last<'s, R, E>(
+        &mut self,
+        rt: &'s R,
+        scope: &'s Scope<'s, E>,
+        alloc: Global,
+        last: &mut Option<TickState<'x>>,
+    ) -> Result<(), AllocError>
+    where
+        R: Wait + Sync,
+        J: Send + Sync + 's,
+        G: Sync + 's,
+        E: 's,
+        'r: 's,
+        'x: 's,
+        requires { MatchOption last.old ⊥ (λ s. s.image ≡ J.image) }
+        ensures { OnOk result (Completed last.old last.new) }
+    {
+        let state = last.take().unwrap();
+        let state = self.complete_wide(rt, scope, alloc, state)?;
+        *last = Some(state);
+        Ok(())
     }
 
     // Runs a tick to where nobody is enabled. Err: it was lost, and memory was refused to begin it again.

@@ -2,22 +2,12 @@ use Rattle.std.proofs.lemmas.Result.{err_from_is_err_and}
 use Rattle.trace_player.proofs.Coming.{came_never}
 use Rattle.trace_player.proofs.turns.begin.Goals as goal
 
-pub returns-in_err-control-clause-came : goal.returns-in_err-control-clause-came
-returns-in_err-control-clause-came g c =
-    let p = err_from_is_err_and c.from_residual.result c.from_residual.ensures.1 in
-    came_never g.J.OfImage.image (g.P.Channels.seen c.args.channels.now) p.0 c.from_residual.result p.1 p.2
-
 pub returns-in_err-interface-clause-came : goal.returns-in_err-interface-clause-came
 returns-in_err-interface-clause-came g c =
-    let p = err_from_is_err_and c.from_residual-in_err-interface.result c.from_residual-in_err-interface.ensures.1 in
-    came_never g.J.OfImage.image (g.P.Channels.seen c.args.channels.now) p.0 c.from_residual-in_err-interface.result p.1 p.2
+    let p = err_from_is_err_and c.from_residual.result c.from_residual.ensures.1 in
+    came_never g.J.OfImage.image (g.P.Channels.seen c.args.channels.now) p.0 c.from_residual.result p.1 p.2
 
 pub returns-in_err-lines-clause-came : goal.returns-in_err-lines-clause-came
 returns-in_err-lines-clause-came g c =
     let p = err_from_is_err_and c.from_residual-in_err-lines.result c.from_residual-in_err-lines.ensures.1 in
     came_never g.J.OfImage.image (g.P.Channels.seen c.args.channels.now) p.0 c.from_residual-in_err-lines.result p.1 p.2
-
-pub returns-in_err-room-clause-came : goal.returns-in_err-room-clause-came
-returns-in_err-room-clause-came g c =
-    let p = err_from_is_err_and c.from_residual-in_err-room.result c.from_residual-in_err-room.ensures.1 in
-    came_never g.J.OfImage.image (g.P.Channels.seen c.args.channels.now) p.0 c.from_residual-in_err-room.result p.1 p.2

@@ -10,24 +10,28 @@ use Rattle.trace_player.specs.Trace.{Shows, next_number}
 use Rattle.trace_player.specs.declared.player.PlayFault.TheVariants as play_fault
 use Rattle.trace_player.specs.Faults.{Tells}
 use Rattle.trace_player.specs.Inside.HeldBack.{with_held}
+use Rattle.trace_player.specs.Inside.Resting.{rest_behind}
 use Rattle.trace_player.proofs.Coming.{LeftTo, came_well, came_off, came_short, came_cut, feed_of}
 use Rattle.trace_player.proofs.Failures.{open_not_behind, told_well, told_unread, told_line, reads_same, writes_same, same_end}
 use Rattle.trace_player.proofs.HeldBack.{holds_on, lets_go}
 use Rattle.trace_player.proofs.HeldLines.{none_held, holds_none, holds_more, feedless, one_stop}
 use Rattle.trace_player.proofs.Playing.{all_played, stopped, stopped_reading, stopped_reacting, one_fault}
 use Rattle.trace_player.proofs.Playing.{unread_read, unread_no_write, tells_no_read, tells_no_write}
+use Rattle.trace_player.proofs.Resting.{at_first, rests_first}
 use Rattle.trace_player.proofs.Turning.{PlayedTo, played_on, turn, one_turn, cut_turn}
 use Rattle.trace_player.proofs.turns.go_on.Goals as goal
 
 pub loop-turn-init : goal.loop-turn-init
 loop-turn-init g c =
+    let i = g.J.OfImage.image in
+    let last = c.args.session.now.last in
     let at = g.P.Channels.seen c.args.channels.now in
     record {
-      played = none_held g.J.OfImage.image at c.args.lines.now c.args.held.now.items c.args.control c.requires.lines c.requires.initial c.requires.held;
-      holds = holds_none g.J.OfImage.image at c.args.held.now.items c.requires.held;
+      played = none_held i at c.args.lines.now c.args.held.now.items (rest_behind i last) c.requires.lines (at_first i last c.requires.first)
+          c.requires.held;
+      holds = holds_none i at c.args.held.now.items c.requires.held;
       at_hand = λ _. c.requires.held;
-      rests = c.requires.rests;
-      room = c.requires.room;
+      rests = rests_first i last c.requires.first;
       none_read = refl;
       none_write = refl;
       going = λ e. e;
@@ -38,16 +42,17 @@ pub returns-in-Ok-None-clause-came : goal.returns-in-Ok-None-clause-came
 returns-in-Ok-None-clause-came g c =
     let l = c.loop-turn in
     let i = g.J.OfImage.image in
+    let rest = rest_behind i l.session.last in
     let before = g.P.Channels.seen c.args.channels.now in
     let at = g.P.Channels.seen l.channels in
     let next = g.P.Channels.seen c.next.new.self in
     let held = l.held.items in
     let now = ahead l.lines at.source.to_come in
     let ended : IsAtEnd now = rw c.in-Ok-None.field-0-is at c.in-Ok-None.ensures.end in
-    let played = played_on i before at next held now l.number l.control c.next.ensures.sink c.next.ensures.rows l.invariant.played in
+    let played = played_on i before at next held now l.number rest c.next.ensures.sink c.next.ensures.rows l.invariant.played in
     let reads : next.source.failures ≡ at.source.failures = search rules in
     came_well i before (with_held next held) l.number
-    (all_played i before.source.to_come now l.number l.control before.sink.taken (append_known next.sink.taken held) before.rows next.rows played ended)
+    (all_played i before.source.to_come now l.number rest before.sink.taken (append_known next.sink.taken held) before.rows next.rows played ended)
     (told_well before (with_held next held) l.number (reads ∙ l.invariant.none_read)
     (writes_same at.sink next.sink c.next.ensures.sink ∙ l.invariant.none_write)
     (λ e. c.next.ensures.not_behind (l.invariant.going e)))
@@ -56,16 +61,17 @@ pub returns-in-Err-clause-came : goal.returns-in-Err-clause-came
 returns-in-Err-clause-came g c =
     let l = c.loop-turn in
     let i = g.J.OfImage.image in
+    let rest = rest_behind i l.session.last in
     let before = g.P.Channels.seen c.args.channels.now in
     let at = g.P.Channels.seen l.channels in
     let next = g.P.Channels.seen c.next.new.self in
     let held = l.held.items in
     let now = ahead l.lines at.source.to_come in
     let long : c.in-Err.fault ≡ lines_fault.TooLong → IsTooLong now = λ e. c.in-Err.ensures.too_long (ap Err e) in
-    let played = played_on i before at next held now l.number l.control c.next.ensures.sink c.next.ensures.rows l.invariant.played in
+    let played = played_on i before at next held now l.number rest c.next.ensures.sink c.next.ensures.rows l.invariant.played in
     let left : LeftTo i before (with_held next held) c.unread_line.result =
     rw (c.unread_line.ensures, c.next_number-next.ensures)
-    (stopped_reading i before.source.to_come now l.number l.control before.sink.taken (append_known next.sink.taken held) before.rows next.rows
+    (stopped_reading i before.source.to_come now l.number rest before.sink.taken (append_known next.sink.taken held) before.rows next.rows
     c.in-Err.fault played long) in
     came_off i before (with_held next held) c.unread_line.result left
     (told_unread before (with_held next held) c.in-Err.fault c.next_number-next.result (Err c.unread_line.result) (ap Err c.unread_line.ensures)
@@ -74,27 +80,28 @@ returns-in-Err-clause-came g c =
     (writes_same at.sink next.sink c.next.ensures.sink ∙ l.invariant.none_write)
     (λ e. c.next.ensures.not_behind (l.invariant.going e)))
 
-pub returns-in_err-after-clause-came : goal.returns-in_err-after-clause-came
-returns-in_err-after-clause-came g c =
+pub returns-in_err-react-clause-came : goal.returns-in_err-react-clause-came
+returns-in_err-react-clause-came g c =
     let l = c.loop-turn in
     let i = g.J.OfImage.image in
+    let rest = rest_behind i l.session.last in
     let before = g.P.Channels.seen c.args.channels.now in
     let at = g.P.Channels.seen l.channels in
     let next = g.P.Channels.seen c.next.new.self in
     let held = l.held.items in
     let now = ahead l.lines at.source.to_come in
     let now' = ahead c.next.new.lines next.source.to_come in
-    let fault = c.in_err-after.field-0.0 in
+    let fault = c.in_err-react.field-0.0 in
     let line = c.next.new.line.items in
     let tells : Tells i.program (next_number l.number) line fault =
     subst (λ k. Tells i.program k line fault) c.next_number-next.ensures
-    (subst (λ bytes. Tells i.program c.next_number-next.result bytes fault) c.deref.ensures.value c.in_err-after.ensures.fault) in
+    (subst (λ bytes. Tells i.program c.next_number-next.result bytes fault) c.deref.ensures.value c.in_err-react.ensures.fault) in
     let takes : TakesLine now now' line = search rules in
-    let played = played_on i before at next held now l.number l.control c.next.ensures.sink c.next.ensures.rows l.invariant.played in
+    let played = played_on i before at next held now l.number rest c.next.ensures.sink c.next.ensures.rows l.invariant.played in
     let reads : next.source.failures ≡ at.source.failures = search rules in
     let exit = err_from_is_err_and c.from_residual.result c.from_residual.ensures.1 in
     let left : LeftTo i before (with_held next held) fault =
-    stopped_reacting i before.source.to_come now now' l.number l.control before.sink.taken (append_known next.sink.taken held) before.rows next.rows line
+    stopped_reacting i before.source.to_come now now' l.number rest before.sink.taken (append_known next.sink.taken held) before.rows next.rows line
     fault played takes tells in
     rw (exit.1, exit.2)
     (came_off i before (with_held next held) fault left
@@ -108,6 +115,7 @@ pub returns-in_err-publish-clause-came : goal.returns-in_err-publish-clause-came
 returns-in_err-publish-clause-came g c =
     let l = c.loop-turn in
     let i = g.J.OfImage.image in
+    let rest = rest_behind i l.session.last in
     let before = g.P.Channels.seen c.args.channels.now in
     let at = g.P.Channels.seen l.channels in
     let next = g.P.Channels.seen c.next.new.self in
@@ -117,11 +125,11 @@ returns-in_err-publish-clause-came g c =
     let none : told.rows ≡ next.rows = search rules in
     let reads : next.source.failures ≡ at.source.failures = search rules in
     let sink : told.sink ≡ at.sink = c.publish.ensures.sink ∙ c.next.ensures.sink in
-    let played = played_on i before at told held now l.number l.control sink (none ∙ c.next.ensures.rows) l.invariant.played in
+    let played = played_on i before at told held now l.number rest sink (none ∙ c.next.ensures.rows) l.invariant.played in
     let exit = err_from_is_err_and c.from_residual-in_err-publish.result c.from_residual-in_err-publish.ensures.1 in
     rw (exit.1, exit.2)
     (came_short i before (with_held told held)
-    (stopped i before.source.to_come now l.number l.control before.sink.taken (append_known told.sink.taken held) before.rows told.rows played)
+    (stopped i before.source.to_come now l.number rest before.sink.taken (append_known told.sink.taken held) before.rows told.rows played)
     (reads_same next.source told.source c.publish.ensures.source ∙ reads ∙ l.invariant.none_read)
     (writes_same at.sink told.sink sink ∙ l.invariant.none_write)
     (same_end before.source next.source told.source c.publish.ensures.source (λ e. c.next.ensures.not_behind (l.invariant.going e))))
@@ -130,6 +138,7 @@ pub returns-then-not-write_or_hold-clause-came : goal.returns-then-not-write_or_
 returns-then-not-write_or_hold-clause-came g c =
     let l = c.loop-turn in
     let i = g.J.OfImage.image in
+    let rest = rest_behind i l.session.last in
     let before = g.P.Channels.seen c.args.channels.now in
     let at = g.P.Channels.seen l.channels in
     let next = g.P.Channels.seen c.next.new.self in
@@ -142,20 +151,20 @@ returns-then-not-write_or_hold-clause-came g c =
     let line = c.next.new.line.items in
     let written = c.react.new.shown.items in
     let given : c.as_slice.result.now ≡ written = search rules in
-    let d = c.in_ok-after.after in
+    let d = rest_behind i c.react.new.self.last in
     let n = c.next_number-next.result in
-    let shows : Shows i n l.control line d written =
-    subst (λ bytes. Shows i n l.control bytes d written) c.deref.ensures.value c.in_ok-after.ensures.shows in
+    let shows : Shows i n rest line d written =
+    subst (λ bytes. Shows i n rest bytes d written) c.deref.ensures.value c.in_ok-react.ensures.shows in
     let takes : TakesLine now now' line = search rules in
     let row : Gains next.rows told.rows c.react.new.self.verified.now.program.variables d.variables = search rules in
-    let made = turn i c.react.new.self.verified.now at next told now now' l.number n l.control d line written takes c.next_number-next.ensures shows
+    let made = turn i c.react.new.self.verified.now at next told now now' l.number n rest d line written takes c.next_number-next.ensures shows
     c.react.new.self.of_image c.next.ensures.rows c.next.ensures.sink c.publish.ensures.sink row in
     let reads : next.source.failures ≡ at.source.failures = search rules in
     let source : after.source ≡ next.source = c.write_or_hold.ensures.source ∙ c.publish.ensures.source in
     let sink : told.sink ≡ at.sink = c.publish.ensures.sink ∙ c.next.ensures.sink in
     let part = c.write_or_hold.ensures.part c.if-not-write_or_hold.true in
     came_cut i before (with_held after held')
-    (cut_turn i before at told after held held' c.as_slice.result.now now now' l.number l.control d line written made l.invariant.played
+    (cut_turn i before at told after held held' c.as_slice.result.now now now' l.number rest d line written made l.invariant.played
     l.invariant.holds given part (c.write_or_hold.ensures.none c.if-not-write_or_hold.true) c.write_or_hold.ensures.rows
     (λ none. c.publish.ensures.unwatched (c.next.ensures.rows ∙ none)))
     (reads_same next.source after.source source ∙ reads ∙ l.invariant.none_read)
@@ -166,6 +175,7 @@ pub returns-then-is_last-clause-came : goal.returns-then-is_last-clause-came
 returns-then-is_last-clause-came g c =
     let l = c.loop-turn in
     let i = g.J.OfImage.image in
+    let rest = rest_behind i l.session.last in
     let before = g.P.Channels.seen c.args.channels.now in
     let at = g.P.Channels.seen l.channels in
     let next = g.P.Channels.seen c.next.new.self in
@@ -178,17 +188,17 @@ returns-then-is_last-clause-came g c =
     let line = c.next.new.line.items in
     let written = c.react.new.shown.items in
     let given : c.as_slice.result.now ≡ written = search rules in
-    let d = c.in_ok-after.after in
+    let d = rest_behind i c.react.new.self.last in
     let n = c.next_number-next.result in
-    let shows : Shows i n l.control line d written =
-    subst (λ bytes. Shows i n l.control bytes d written) c.deref.ensures.value c.in_ok-after.ensures.shows in
+    let shows : Shows i n rest line d written =
+    subst (λ bytes. Shows i n rest bytes d written) c.deref.ensures.value c.in_ok-react.ensures.shows in
     let takes : TakesLine now now' line = search rules in
     let row : Gains next.rows told.rows c.react.new.self.verified.now.program.variables d.variables = search rules in
-    let made = turn i c.react.new.self.verified.now at next told now now' l.number n l.control d line written takes c.next_number-next.ensures shows
+    let made = turn i c.react.new.self.verified.now at next told now now' l.number n rest d line written takes c.next_number-next.ensures shows
     c.react.new.self.of_image c.next.ensures.rows c.next.ensures.sink c.publish.ensures.sink row in
     let all = c.write_or_hold.ensures.whole c.if-not-write_or_hold.false in
     let played : PlayedTo i before (with_held after held') now' n d =
-    one_turn i before at told after held held' c.as_slice.result.now now now' l.number n l.control d line written made c.next_number-next.ensures
+    one_turn i before at told after held held' c.as_slice.result.now now now' l.number n rest d line written made c.next_number-next.ensures
     l.invariant.played given all c.write_or_hold.ensures.rows in
     let reads : next.source.failures ≡ at.source.failures = search rules in
     let source : after.source ≡ next.source = c.write_or_hold.ensures.source ∙ c.publish.ensures.source in
@@ -206,6 +216,7 @@ pub loop-turn-preserved : goal.loop-turn-preserved
 loop-turn-preserved g c =
     let l = c.loop-turn in
     let i = g.J.OfImage.image in
+    let rest = rest_behind i l.session.last in
     let before = g.P.Channels.seen c.args.channels.now in
     let at = g.P.Channels.seen l.channels in
     let next = g.P.Channels.seen c.next.new.self in
@@ -218,17 +229,17 @@ loop-turn-preserved g c =
     let line = c.next.new.line.items in
     let written = c.react.new.shown.items in
     let given : c.as_slice.result.now ≡ written = search rules in
-    let d = c.in_ok-after.after in
+    let d = rest_behind i c.react.new.self.last in
     let n = c.next_number-next.result in
-    let shows : Shows i n l.control line d written =
-    subst (λ bytes. Shows i n l.control bytes d written) c.deref.ensures.value c.in_ok-after.ensures.shows in
+    let shows : Shows i n rest line d written =
+    subst (λ bytes. Shows i n rest bytes d written) c.deref.ensures.value c.in_ok-react.ensures.shows in
     let takes : TakesLine now now' line = search rules in
     let row : Gains next.rows told.rows c.react.new.self.verified.now.program.variables d.variables = search rules in
-    let made = turn i c.react.new.self.verified.now at next told now now' l.number n l.control d line written takes c.next_number-next.ensures shows
+    let made = turn i c.react.new.self.verified.now at next told now now' l.number n rest d line written takes c.next_number-next.ensures shows
     c.react.new.self.of_image c.next.ensures.rows c.next.ensures.sink c.publish.ensures.sink row in
     let all = c.write_or_hold.ensures.whole c.if-not-write_or_hold.false in
     let played : PlayedTo i before (with_held after held') now' n d =
-    one_turn i before at told after held held' c.as_slice.result.now now now' l.number n l.control d line written made c.next_number-next.ensures
+    one_turn i before at told after held held' c.as_slice.result.now now now' l.number n rest d line written made c.next_number-next.ensures
     l.invariant.played given all c.write_or_hold.ensures.rows in
     let reads : next.source.failures ≡ at.source.failures = search rules in
     let source : after.source ≡ next.source = c.write_or_hold.ensures.source ∙ c.publish.ensures.source in
@@ -241,8 +252,7 @@ loop-turn-preserved g c =
           holds_more i before at told after held held' now' l.number n d played c.next_number-next.ensures l.invariant.holds sink
           (c.write_or_hold.ensures.grows c.if-not-write_or_hold.false) c.write_or_hold.ensures.unwatched;
       at_hand = λ none. c.write_or_hold.ensures.settled (c.has_line.ensures ∙ none);
-      rests = c.in_ok-after.ensures.rests;
-      room = c.in_ok-after.ensures.room;
+      rests = c.in_ok-react.ensures.rests;
       none_read = reads_same next.source after.source source ∙ reads ∙ l.invariant.none_read;
       none_write = all.failures ∙ writes_same at.sink told.sink sink ∙ l.invariant.none_write;
       going = λ e. ap (λ (s : SourceSeen). s.progress) source ∙ c.in-Ok-Some.ensures.going (c.in-Ok-Some.field-0-is ∙ ap Some feed) (l.invariant.going e);
@@ -253,11 +263,12 @@ pub returns-clause-came : goal.returns-clause-came
 returns-clause-came g c =
     let l = c.loop-turn in
     let i = g.J.OfImage.image in
+    let rest = rest_behind i l.session.last in
     let before = g.P.Channels.seen c.args.channels.now in
     let at = g.P.Channels.seen l.channels in
     let held = l.held.items in
     came_short i before (with_held at held)
-    (stopped i before.source.to_come (ahead l.lines at.source.to_come) l.number l.control before.sink.taken (append_known at.sink.taken held) before.rows
+    (stopped i before.source.to_come (ahead l.lines at.source.to_come) l.number rest before.sink.taken (append_known at.sink.taken held) before.rows
     at.rows l.invariant.played)
     l.invariant.none_read l.invariant.none_write (open_not_behind before.source.progress at.source.progress l.invariant.going)
 
@@ -273,8 +284,8 @@ returns-in-Err-clause-holds g c =
     holds_on g.J.OfImage.image (g.P.Channels.seen c.args.channels.now) (g.P.Channels.seen l.channels) (g.P.Channels.seen c.next.new.self)
     l.held.items c.next.ensures.sink c.next.ensures.rows l.invariant.holds
 
-pub returns-in_err-after-clause-holds : goal.returns-in_err-after-clause-holds
-returns-in_err-after-clause-holds g c =
+pub returns-in_err-react-clause-holds : goal.returns-in_err-react-clause-holds
+returns-in_err-react-clause-holds g c =
     let l = c.loop-turn in
     holds_on g.J.OfImage.image (g.P.Channels.seen c.args.channels.now) (g.P.Channels.seen l.channels) (g.P.Channels.seen c.next.new.self)
     l.held.items c.next.ensures.sink c.next.ensures.rows l.invariant.holds
@@ -310,6 +321,7 @@ pub returns-then-is_last-clause-holds : goal.returns-then-is_last-clause-holds
 returns-then-is_last-clause-holds g c =
     let l = c.loop-turn in
     let i = g.J.OfImage.image in
+    let rest = rest_behind i l.session.last in
     let before = g.P.Channels.seen c.args.channels.now in
     let at = g.P.Channels.seen l.channels in
     let next = g.P.Channels.seen c.next.new.self in
@@ -322,17 +334,17 @@ returns-then-is_last-clause-holds g c =
     let line = c.next.new.line.items in
     let written = c.react.new.shown.items in
     let given : c.as_slice.result.now ≡ written = search rules in
-    let d = c.in_ok-after.after in
+    let d = rest_behind i c.react.new.self.last in
     let n = c.next_number-next.result in
-    let shows : Shows i n l.control line d written =
-    subst (λ bytes. Shows i n l.control bytes d written) c.deref.ensures.value c.in_ok-after.ensures.shows in
+    let shows : Shows i n rest line d written =
+    subst (λ bytes. Shows i n rest bytes d written) c.deref.ensures.value c.in_ok-react.ensures.shows in
     let takes : TakesLine now now' line = search rules in
     let row : Gains next.rows told.rows c.react.new.self.verified.now.program.variables d.variables = search rules in
-    let made = turn i c.react.new.self.verified.now at next told now now' l.number n l.control d line written takes c.next_number-next.ensures shows
+    let made = turn i c.react.new.self.verified.now at next told now now' l.number n rest d line written takes c.next_number-next.ensures shows
     c.react.new.self.of_image c.next.ensures.rows c.next.ensures.sink c.publish.ensures.sink row in
     let all = c.write_or_hold.ensures.whole c.if-not-write_or_hold.false in
     let played : PlayedTo i before (with_held after held') now' n d =
-    one_turn i before at told after held held' c.as_slice.result.now now now' l.number n l.control d line written made c.next_number-next.ensures
+    one_turn i before at told after held held' c.as_slice.result.now now now' l.number n rest d line written made c.next_number-next.ensures
     l.invariant.played given all c.write_or_hold.ensures.rows in
     let sink : told.sink ≡ at.sink = c.publish.ensures.sink ∙ c.next.ensures.sink in
     holds_more i before at told after held held' now' l.number n d played c.next_number-next.ensures l.invariant.holds sink
@@ -351,27 +363,27 @@ returns-in-Err-clause-write g c = λ e.
     let is : c.unread_line.result ≡ play_fault.Write = one_stop _ c.unread_line.result play_fault.Write refl e in
     absurd (unread_no_write c.in-Err.fault _ (sym c.unread_line.ensures ∙ is))
 
-pub returns-in_err-after-clause-read : goal.returns-in_err-after-clause-read
-returns-in_err-after-clause-read g c =
+pub returns-in_err-react-clause-read : goal.returns-in_err-react-clause-read
+returns-in_err-react-clause-read g c =
     let i = g.J.OfImage.image in
-    let fault = c.in_err-after.field-0.0 in
+    let fault = c.in_err-react.field-0.0 in
     let exit = err_from_is_err_and c.from_residual.result c.from_residual.ensures.1 in
     let here = exit.1 in
     let same = exit.2 in
     λ e.
     let is : fault ≡ play_fault.Read = cc (here, same, e) in
-    absurd (tells_no_read i.program _ _ fault c.in_err-after.ensures.fault is)
+    absurd (tells_no_read i.program _ _ fault c.in_err-react.ensures.fault is)
 
-pub returns-in_err-after-clause-write : goal.returns-in_err-after-clause-write
-returns-in_err-after-clause-write g c =
+pub returns-in_err-react-clause-write : goal.returns-in_err-react-clause-write
+returns-in_err-react-clause-write g c =
     let i = g.J.OfImage.image in
-    let fault = c.in_err-after.field-0.0 in
+    let fault = c.in_err-react.field-0.0 in
     let exit = err_from_is_err_and c.from_residual.result c.from_residual.ensures.1 in
     let here = exit.1 in
     let same = exit.2 in
     λ e.
     let is : fault ≡ play_fault.Write = cc (here, same, e) in
-    absurd (tells_no_write i.program _ _ fault c.in_err-after.ensures.fault is)
+    absurd (tells_no_write i.program _ _ fault c.in_err-react.ensures.fault is)
 
 pub returns-clause-holds : goal.returns-clause-holds
 returns-clause-holds g c = c.loop-turn.invariant.holds

@@ -1,19 +1,18 @@
 use Rattle.std.proofs.Common.{◌≡◌, ◌-◌, [], false}
-use Rattle.sc_graph.specs.Tick.{Rests}
 use Rattle.sc_values.specs.Streams.{StaysOpen}
 use Rattle.trace_lines.specs.Lines.{ahead, has_feed}
 use Rattle.trace_player.specs.Inside.HeldBack.{HoldsBack, with_held}
+use Rattle.trace_player.specs.Inside.Resting.{IsAtRest, rest_behind}
 use Rattle.trace_player.proofs.Turning.{PlayedTo}
 use Rattle.trace_player.proofs.turns.go_on.Given as goal
 
 abbrev pub invariant-loop-turn : goal.invariant-loop-turn
 invariant-loop-turn g l = record {
   played : PlayedTo g.J.OfImage.image (g.P.Channels.seen l.fn.channels) (with_held (g.P.Channels.seen l.channels) l.held.items)
-      (ahead l.lines (g.P.Channels.seen l.channels).source.to_come) l.number l.control;
+      (ahead l.lines (g.P.Channels.seen l.channels).source.to_come) l.number (rest_behind g.J.OfImage.image l.session.last);
   holds : HoldsBack g.J.OfImage.image (g.P.Channels.seen l.fn.channels) (g.P.Channels.seen l.channels) l.held.items;
   at_hand : has_feed l.lines ≡ false → l.held.items ≡ [];
-  rests : Rests g.J.OfImage.image.program l.control;
-  room : l.room ≡ g.J.OfImage.image;
+  rests : IsAtRest g.J.OfImage.image l.session.last;
   none_read : (g.P.Channels.seen l.channels).source.failures ≡ (g.P.Channels.seen l.fn.channels).source.failures;
   none_write : (g.P.Channels.seen l.channels).sink.failures ≡ (g.P.Channels.seen l.fn.channels).sink.failures;
   going : StaysOpen (g.P.Channels.seen l.fn.channels).source.progress (g.P.Channels.seen l.channels).source.progress;
