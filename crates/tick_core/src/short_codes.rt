@@ -9,6 +9,7 @@ use sc_values::{Code, Operation, Value};
 /// The value of a code that is one operand, or one operator behind its operands, over these variables. None:
 /// it is another one, or has no value.
 #[tactic(auto, using(crate::proofs::ShortCodes::one_at, crate::proofs::ShortCodes::two_at, crate::proofs::ShortCodes::three_at, crate::proofs::ShortCodes::one_operand,))]
+#[inline(always)]
 pub(crate) fn short_value(code: &Code, variables: &[Value]) -> Option<Value>
     ensures { IfSome result (λ v. code_value code.now variables.now ≡ Some v) }
 {
@@ -22,6 +23,7 @@ pub(crate) fn short_value(code: &Code, variables: &[Value]) -> Option<Value>
 
 // The value of an operator behind one operand. None: there is none.
 #[tactic(auto, using(crate::proofs::ShortCodes::unary_of))]
+#[inline(always)]
 fn value_by_one(operand: &Operation, operator: &Operation, variables: &[Value]) -> Option<Value>
     ensures { IfSome result (λ v. code_value (operand.now ∷ operator.now ∷ []) variables.now ≡ Some v) }
 {
@@ -33,6 +35,7 @@ fn value_by_one(operand: &Operation, operator: &Operation, variables: &[Value]) 
 
 // The value of an operator behind two operands. None: there is none.
 #[tactic(auto, using(crate::proofs::ShortCodes::binary_of))]
+#[inline(always)]
 fn value_by_two(
     left: &Operation,
     right: &Operation,
@@ -49,6 +52,7 @@ fn value_by_two(
 }
 
 // The value of an operation that is an operand. None: it is an operator, or no variable is there.
+#[inline(always)]
 fn value_of(operation: &Operation, variables: &[Value]) -> Option<Value>
     ensures { result ≡ operand_value operation.now variables.now }
 {

@@ -50,6 +50,7 @@ pub(crate) fn take_step(
 }
 
 /// The code of the step from a status, where it has one.
+#[inline(always)]
 pub(crate) fn code_at(program: &Program, status: Status) -> Option<&Code>
     ensures { option_copied result ≡ code_at program.now status }
 {
@@ -122,6 +123,7 @@ fn take_step_at(
     }
 }
 
+#[inline(always)]
 fn assign(control: &mut Control, thread: ThreadId, variable: VariableId, value: Value, next: NodeId)
     ensures { control.new ≡ after (record {
       change = Put variable value;
@@ -132,6 +134,7 @@ fn assign(control: &mut Control, thread: ThreadId, variable: VariableId, value: 
     put_status(&mut control.statuses, thread, Status::At(next));
 }
 
+#[inline(always)]
 fn update(
     control: &mut Control,
     thread: ThreadId,
@@ -157,6 +160,7 @@ fn update(
 }
 
 // The thread alone moves, and no variable changes.
+#[inline(always)]
 fn go(control: &mut Control, thread: ThreadId, status: Status)
     ensures { control.new ≡ after (record { change = Keep; moves = (thread, status) ∷ [] }) control.old }
 {
@@ -214,6 +218,7 @@ fn dismiss_all(statuses: &mut Items<Status>, children: &[ThreadId])
     }
 }
 
+#[inline(always)]
 fn put_value(values: &mut Items<Value>, variable: VariableId, value: Value)
     ensures { values.new ≡ slice_set values.old variable value }
 {
@@ -224,6 +229,7 @@ fn put_value(values: &mut Items<Value>, variable: VariableId, value: Value)
 }
 
 /// Makes a thread stand so, where there is such a one.
+#[inline(always)]
 pub(crate) fn put_status(statuses: &mut Items<Status>, thread: ThreadId, status: Status)
     ensures { statuses.new ≡ slice_set statuses.old thread status }
 {
