@@ -2,6 +2,7 @@
 use Rattle.std.proofs.Common.{◌≡◌, ◌≢◌, ℕ, suc, ◌<◌, ◌≤◌, ◌⊎◌, inl, inr, Bool, true, false, not, ◌&&◌, Option, Some, None, List, [], ◌∷◌, ◌++◌}
 use Rattle.std.proofs.Common.{length, slice_get, slice_set, Contains, refl}
 use Rattle.std.proofs.Common.{sym, ap, subst, ◌∙◌, arith}
+use Rattle.std.proofs.lemmas.List.{length-set}
 use Rattle.sc_values.specs.declared.value.Value.{Value}
 use Rattle.sc_values.specs.Access.{Access}
 use Rattle.sc_values.specs.Runs.{act_of}
@@ -19,14 +20,14 @@ use Rattle.chart_machine.specs.Machine.{machine}
 use Rattle.abort_expansion.specs.Transitions.{counting, place_of}
 use Rattle.abort_expansion_laws.specs.Stages.{Entry, Watched, Silent, Correspondence}
 use Rattle.abort_expansion_laws.proofs.Supplying.{climbs_fewer, tests}
-use Rattle.abort_expansion_laws.proofs.Simulation.{Segment, segment_on}
+use Rattle.abort_expansion_laws.proofs.Segments.{Segment, segment_on}
 use Rattle.abort_expansion_laws.proofs.SilentSteps.{AtHome, climbs_home, silent_step}
 use Rattle.chart_machine_laws.proofs.LyingIn.{IsNested, LiesUnder, around, holder}
-use Rattle.abort_expansion_laws.proofs.TablesCorrespond.{IsThere, contains_map}
+use Rattle.abort_expansion_laws.proofs.TablesCorrespond.{IsThere}
 use Rattle.abort_expansion_laws.proofs.MoreValues.{same_verdict}
 use Rattle.abort_expansion_laws.proofs.FlagAccess.{number_access}
 use Rattle.abort_expansion.specs.Superstates.{stays}
-use Rattle.tick_laws.proofs.Lists.{map_contains}
+use Rattle.tick_laws.proofs.Lists.{contains_map}
 use Rattle.chart_machine_laws.proofs.ChartTables.{around_there}
 use Rattle.abort_expansion_laws.specs.CoreRows.{own, IsState, Images, CoreRows, flags_around, pair}
 use Rattle.abort_expansion_laws.specs.Related.{Stands, outside, ended, left, trying, acting, entering, guarding, staying, within, behind, IsInside}
@@ -40,13 +41,14 @@ use Rattle.abort_expansion_laws.proofs.StartingRegions.{set_behind}
 use Rattle.abort_expansion_laws.proofs.EffectFollowed.{value_size}
 use Rattle.abort_expansion_laws.proofs.CoreSteps.{takes_any}
 use Rattle.abort_expansion_laws.proofs.InsideLeaves.{AloneRows}
-use Rattle.abort_expansion_laws.proofs.Leaving.{drops, set_here, set_other, set_length}
+use Rattle.abort_expansion_laws.proofs.Leaving.{drops, set_here, set_other}
 use Rattle.abort_expansion_laws.proofs.StandsInside.{only_inside, inside_not_over, inside_present, inside_not_acting}
 use Rattle.abort_expansion_laws.proofs.DropsOut.{DropsOut, dropped_out}
 use Rattle.abort_expansion_laws.proofs.DroppedInside as now
 use Rattle.abort_expansion_laws.proofs.StagesAfterDrop.{outer_stage, outer_low, others_stay, reached_now}
 use Rattle.abort_expansion_laws.proofs.AbortNext.{AbortNext}
 use Rattle.abort_expansion_laws.proofs.AbortTaken as taken
+use Rattle.abort_expansion_laws.proofs.ThreadsAround.{thread_within}
 
 module _ (k core : Table) (i : Images) (rows : CoreRows k core i) (more : AloneRows k core i) (tree : IsNested k) (core_tree : IsNested core)
     (deep : (q s : ℕ) → Contains (around core q) s → holder core s < q)
@@ -137,7 +139,7 @@ module _ (k core : Table) (i : Images) (rows : CoreRows k core i) (more : AloneR
       same
 
   in_fork : (q : ℕ) → Contains (around k q) o → Contains (around core (i.thread_of q)) (i.main_of o)
-  in_fork q in_o = subst (λ zs. Contains zs (i.main_of o)) (sym (rows.encloses q)) (map_contains i.main_of (around k q) o in_o)
+  in_fork q in_o = thread_within k core i rows q o in_o
 
   pub stay : (h s : ℕ) → h ≢ i.thread_of r → (Contains (around core h) (i.main_of o) → is_forked (standing_of d h) ≡ true → ⊥) →
       Stage k i.thread_of c d h s → Stage k i.thread_of c1 d h s
@@ -220,7 +222,7 @@ module _ (k core : Table) (i : Images) (rows : CoreRows k core i) (more : AloneR
         was_not_over = inside_not_over k core i o (standing_of c r) next.was_inside;
         only = λ s inner. only_inside k core i o s (standing_of c r) next.was_inside inner;
         chart = refl;
-        size = set_length first.last.regions (i.thread_of r) z ∙ empty.size;
+        size = length-set first.last.regions (i.thread_of r) z ∙ empty.size;
         dropped = λ q h. set_other first.last.regions (i.thread_of r) q z (not_home q h) ∙ empty.inside q h;
         here_too = set_here first.last.regions (i.thread_of r) z home_there;
         others = λ q ne out_q. set_other first.last.regions (i.thread_of r) q z ne ∙ empty.outside q ne out_q;

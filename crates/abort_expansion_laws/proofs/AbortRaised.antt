@@ -1,6 +1,7 @@
 -- A monitor takes the test of an abort and raises its flag, and all that is inside leaves.
 use Rattle.std.proofs.Common.{◌≡◌, ◌≢◌, ℕ, suc, ◌<◌, ◌≤◌, inl, inr, ⊎_elim, Bool, true, false, pos, Option, Some, None, List, []}
 use Rattle.std.proofs.Common.{◌∷◌, ◌++◌, length, slice_get, slice_set, Contains, refl, sym, ap, subst, ◌∙◌, arith}
+use Rattle.std.proofs.lemmas.List.{length-set}
 use Rattle.sc_values.specs.declared.value.Value.{Value}
 use Rattle.sc_values.specs.declared.value.Value.TheVariants as value_is
 use Rattle.sc_values.specs.Access.{Access}
@@ -18,7 +19,7 @@ use Rattle.abort_expansion.specs.Transitions.{put, go, is_raised}
 use Rattle.tick_laws.proofs.Lists.{same_or_not}
 use Rattle.abort_expansion_laws.specs.Stages.{Entry, Watched, Silent, Correspondence, HasStage, IsSilent}
 use Rattle.abort_expansion_laws.proofs.Supplying.{climbs_step, climbs_fewer, silent_set, silent_test, sets, tests}
-use Rattle.abort_expansion_laws.proofs.Simulation.{Segment, segment_on}
+use Rattle.abort_expansion_laws.proofs.Segments.{Segment, segment_on}
 use Rattle.abort_expansion_laws.proofs.SilentSteps.{AtHome, climbs_at, silent_step}
 use Rattle.chart_machine_laws.proofs.LyingIn.{IsNested, LiesUnder, around, holder}
 use Rattle.abort_expansion_laws.proofs.MoreValues.{number_value, up_verdict, verdict_over_more}
@@ -34,7 +35,6 @@ use Rattle.abort_expansion_laws.proofs.CoreSteps.{takes, writes_last}
 use Rattle.abort_expansion_laws.proofs.AllLeave.{all_leave}
 use Rattle.abort_expansion_laws.proofs.OneLeaves.{Left, Staying}
 use Rattle.abort_expansion_laws.proofs.MayLeave.{is_forked, AreOuterOne}
-use Rattle.abort_expansion_laws.proofs.Leaving.{set_length}
 use Rattle.abort_expansion_laws.proofs.AbortNext.{AbortNext}
 
 -- a segment from fewer stages
@@ -86,7 +86,7 @@ module _ (k core : Table) (i : Images) (rows : CoreRows k core i) (tree : IsNest
   pub here2 : standing_of d2 (i.watcher_of o) ≡ at.Ended
   here2 =
       stands_same d1 d2 (i.watcher_of o) at.Ended refl
-      (let size = set_length d.regions (i.watcher_of o) watch_acts in let lt = in_core in omega (size, lt, arith))
+      (let size = length-set d.regions (i.watcher_of o) watch_acts in let lt = in_core in omega (size, lt, arith))
 
   other1 : (q : ℕ) → q ≢ i.watcher_of o → standing_of d1 q ≡ standing_of d q
   other1 q ne = stands_other d d1 (i.watcher_of o) q watch_acts refl ne
@@ -251,4 +251,4 @@ module _ (k core : Table) (i : Images) (rows : CoreRows k core i) (tree : IsNest
         (λ h s reached. (reached.0, λ e. let low = reached.1 e in omega (low, arith))) leave_steps))))
 
     pub size2 : length d2.regions ≡ length d.regions
-    size2 = set_length d1.regions (i.watcher_of o) at.Ended ∙ set_length d.regions (i.watcher_of o) watch_acts
+    size2 = length-set d1.regions (i.watcher_of o) at.Ended ∙ length-set d.regions (i.watcher_of o) watch_acts

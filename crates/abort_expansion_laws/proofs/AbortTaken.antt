@@ -4,7 +4,7 @@ use Rattle.std.proofs.Common.{◌≡◌, ◌≢◌, ℕ, suc, ◌<◌, ◌≤◌
 use Rattle.std.proofs.Common.{◌++◌, map, length, slice_get, slice_set, Contains, refl, sym, ap, subst, ◌∙◌, arith}
 use Rattle.std.specs.List.{list_all}
 use Rattle.std.specs.Prelude.{reverse}
-use Rattle.std.proofs.lemmas.List.{append_assoc}
+use Rattle.std.proofs.lemmas.List.{append_assoc, length-set}
 use Rattle.sc_values.specs.declared.value.Value.{Value}
 use Rattle.sc_values.specs.declared.value.Value.TheVariants as value_is
 use Rattle.sc_values.specs.Access.{Access, no_access}
@@ -21,13 +21,12 @@ use Rattle.chart_machine.specs.Steps.{to, moved, access_of, access_of_trigger, s
 use Rattle.chart_machine.specs.Machine.{machine}
 use Rattle.abort_expansion.specs.Flags.{aborts_around}
 use Rattle.abort_expansion.specs.Transitions.{is_number, led_by, answers}
-use Rattle.tick_laws.proofs.Lists.{same_or_not, contained, map_contains}
+use Rattle.tick_laws.proofs.Lists.{same_or_not, contained, contains_map}
 use Rattle.abort_expansion_laws.specs.Stages.{Entry, Watched, Silent, Correspondence, IsSilent}
 use Rattle.abort_expansion_laws.proofs.Supplying.{silent_idle, tests}
-use Rattle.abort_expansion_laws.proofs.Simulation.{Segment, segment_on}
+use Rattle.abort_expansion_laws.proofs.Segments.{Segment, segment_on}
 use Rattle.abort_expansion_laws.proofs.SilentSteps.{AtHome, climbs_home, silent_step}
 use Rattle.chart_machine_laws.proofs.LyingIn.{IsNested, LiesUnder, around, holder, none_in, head_or_tail, head_in, tail_in, around_around}
-use Rattle.abort_expansion_laws.proofs.TablesCorrespond.{contains_map}
 use Rattle.abort_expansion_laws.specs.CoreRows.{own, joins, Images, CoreRows, WatcherImage, SplitImage, flags_around, watchers, behind_transitions}
 use Rattle.abort_expansion_laws.specs.Related.{is_behind, IsInside, Related}
 use Rattle.abort_expansion_laws.proofs.Unchanged.{no_guards, unguarded}
@@ -38,13 +37,14 @@ use Rattle.abort_expansion_laws.proofs.InsideLeaves.{AloneRows, there_too}
 use Rattle.abort_expansion_laws.proofs.InsideAround.{all_from, inside_around}
 use Rattle.abort_expansion_laws.proofs.OneLeaves.{Left}
 use Rattle.abort_expansion_laws.proofs.MayLeave.{is_forked, AreOuterOne}
-use Rattle.abort_expansion_laws.proofs.Leaving.{drops, set_here, set_other, set_length, drops_in, drops_out, drops_length, joined}
+use Rattle.abort_expansion_laws.proofs.Leaving.{drops, set_here, set_other, drops_in, drops_out, drops_length, joined}
 use Rattle.abort_expansion_laws.proofs.AbortNext.{AbortNext}
 use Rattle.abort_expansion_laws.proofs.YetToLook.{in_reverse}
 use Rattle.abort_expansion_laws.proofs.FailedChecks.{IsDown, AllDown, checks_fail}
 use Rattle.abort_expansion_laws.proofs.Answering.{fails_on, Passed, tests_fail, Answered, answered}
 use Rattle.chart_machine_laws.proofs.ChartTables.{around_there}
 use Rattle.abort_expansion_laws.proofs.AbortRaised as raised
+use Rattle.abort_expansion_laws.proofs.ThreadsAround.{thread_within}
 
 module _ (k core : Table) (i : Images) (rows : CoreRows k core i) (more : AloneRows k core i) (tree : IsNested k) (core_tree : IsNested core)
     (deep : (q s : ℕ) → Contains (around core q) s → holder core s < q)
@@ -263,7 +263,7 @@ module _ (k core : Table) (i : Images) (rows : CoreRows k core i) (more : AloneR
     home_in4 : i.thread_of r < length d4.regions
     home_in4 =
         let lt = home_there in
-        let size = set_length (moved (drops (inside core (i.main_of o))) aborted.last.regions) (i.thread_of r) (at.Trying (i.behind_of o) all_tests) in
+        let size = length-set (moved (drops (inside core (i.main_of o))) aborted.last.regions) (i.thread_of r) (at.Trying (i.behind_of o) all_tests) in
         omega (lt, size, arith)
 
     -- ---- the continuation looks at the strong flags around, which are down
@@ -281,7 +281,7 @@ module _ (k core : Table) (i : Images) (rows : CoreRows k core i) (more : AloneR
     strong_down s y around_it flag =
         let down = next.around_down s y around_it flag in
         let in_core : Contains (around core (i.thread_of r)) (i.main_of s) =
-        subst (λ zs. Contains zs (i.main_of s)) (sym (rows.encloses r)) (map_contains i.main_of (around k r) s around_it) in
+        thread_within k core i rows r s around_it in
         let home_is : holder core (i.main_of s) ≡ corr.home y = rows.held s ∙ sym down.home_is in
         let other : corr.home y ≢ i.thread_of r = λ same. holds_other core core_tree (i.thread_of r) (i.main_of s) in_core (home_is ∙ same) in
         let one = outer_one (i.main_of s) in_core in
@@ -377,7 +377,7 @@ module _ (k core : Table) (i : Images) (rows : CoreRows k core i) (more : AloneR
           size =
               let a = passed_now.size in
               let look = look_steps.reaches.1.1.1 in
-              let b = set_length (moved (drops (inside core (i.main_of o))) aborted.last.regions) (i.thread_of r) (at.Trying (i.behind_of o) all_tests) in
+              let b = length-set (moved (drops (inside core (i.main_of o))) aborted.last.regions) (i.thread_of r) (at.Trying (i.behind_of o) all_tests) in
               let f = drops_length (inside core (i.main_of o)) aborted.last.regions in
               let g = left3.size in
               let h = size2 in omega (a, look, b, f, g, h, arith);

@@ -3,6 +3,7 @@ use Rattle.std.proofs.Common.{◌≡◌, ◌≢◌, ℕ, zero, suc, ◌<◌, ◌
 use Rattle.std.proofs.Common.{◌∷◌, ◌++◌, length, slice_set, Contains, refl, sym, ap, subst, ◌∙◌, arith}
 use Rattle.std.specs.List.{list_all}
 use Rattle.std.proofs.lemmas.Bool.{cases_lt}
+use Rattle.std.proofs.lemmas.List.{length-set}
 use Rattle.sc_values.specs.Access.{Access, no_access}
 use Rattle.core_charts.specs.declared.region.Transition.{Transition}
 use Rattle.chart_machine.specs.declared.standing.Standing.{Standing}
@@ -16,15 +17,16 @@ use Rattle.chart_machine.specs.Machine.{machine}
 use Rattle.tick_laws.proofs.Lists.{same_or_not, contained}
 use Rattle.abort_expansion_laws.specs.Stages.{Entry, Silent, Correspondence, Climbs}
 use Rattle.abort_expansion_laws.proofs.Supplying.{silent_idle, climbs_step, climbs_fewer}
-use Rattle.abort_expansion_laws.proofs.Simulation.{Segment, segment_on}
+use Rattle.abort_expansion_laws.proofs.Segments.{Segment, segment_on}
 use Rattle.abort_expansion_laws.proofs.SilentSteps.{AtHome, silent_step, no_step}
 use Rattle.chart_machine_laws.proofs.LyingIn.{IsNested, around, holder, none_in, head_or_tail, head_in, tail_in, around_around}
 use Rattle.abort_expansion_laws.specs.CoreRows.{joins}
-use Rattle.abort_expansion_laws.proofs.Leaving.{drops, set_here, set_other, set_length, drops_in, drops_out, drops_length, joined}
+use Rattle.abort_expansion_laws.proofs.Leaving.{drops, set_here, set_other, drops_in, drops_out, drops_length, joined}
 use Rattle.abort_expansion_laws.proofs.Unchanged.{unguarded}
 use Rattle.abort_expansion_laws.proofs.InsideAround.{inside_around, all_from}
 use Rattle.abort_expansion_laws.proofs.MayLeave.{is_forked, AreOuterOne, LeavesBy, MayLeave, out, over, tries, forks}
 use Rattle.abort_expansion_laws.proofs.OneLeaves as once
+use Rattle.abort_expansion_laws.proofs.NumberedRegions.{past_number}
 
 module _ (core : Table) (tree : IsNested core) (deeper : (q s : ℕ) → Contains (around core q) s → holder core s < q)
     (corr : Correspondence) (Told : Configuration → Entry → Type 0) (told : (d : Configuration) (t : ℕ) (stage : Option (ℕ × ℕ)) (a : Access) →
@@ -126,7 +128,7 @@ module _ (core : Table) (tree : IsNested core) (deeper : (q s : ℕ) → Contain
       lt1 = omega (lt, drops_length (inside core s) d.regions, arith)
 
       lt2 : n < length (slice_set (moved (drops (inside core s)) d.regions) n (at.Trying b tests))
-      lt2 = omega (lt1, set_length (moved (drops (inside core s)) d.regions) n (at.Trying b tests), arith)
+      lt2 = omega (lt1, length-set (moved (drops (inside core s)) d.regions) n (at.Trying b tests), arith)
 
       -- whoever lies in it lies deeper, and has left
       above : (r : ℕ) → Contains (inside core s) r → suc n ≤ r
@@ -209,7 +211,7 @@ module _ (core : Table) (tree : IsNested core) (deeper : (q s : ℕ) → Contain
           (λ q h. (s, inside_around core s q h, held))
           (λ q ne out_q. left_it.reaches.elsewhere q ne ∙ same1 q ne out_q) (λ q ne h. left_it.reaches.elsewhere q ne ∙ dropped1 q ne h)
           (inl left_it.reaches.here) in_n in_it left_it.reaches.variables
-          (left_it.reaches.size ∙ (set_length (moved (drops (inside core s)) d.regions) n (at.Trying b tests) ∙ drops_length (inside core s) d.regions))
+          (left_it.reaches.size ∙ (length-set (moved (drops (inside core s)) d.regions) n (at.Trying b tests) ∙ drops_length (inside core s) d.regions))
 
   stands_still : (n : ℕ) (d : Configuration) → NotForked n → Left n d → Piece d n
   stands_still n d never left =
@@ -260,9 +262,9 @@ module _ (core : Table) (tree : IsNested core) (deeper : (q s : ℕ) → Contain
         size = refl;
         waits = λ q in_q lt. refl;
         gone = λ q in_q le. inr (
-          once.out_past core tree deeper corr Told told Others home stage f first free first q le,
+          past_number first.regions q le,
           inl
-              (once.out_past core tree deeper corr Told told Others home stage f first free first q le),
+              (past_number first.regions q le),
         );
         others = λ q out_q. refl;
       }
@@ -270,7 +272,7 @@ module _ (core : Table) (tree : IsNested core) (deeper : (q s : ℕ) → Contain
   forks_in_range : (h : ℕ) → is_forked (standing_of first h) ≡ true → h < length first.regions
   forks_in_range h forked =
       ⊎_elim (λ lt. lt) (λ past. let wrong : true ≡ false = sym forked ∙ ap is_forked
-      (once.out_past core tree deeper corr Told told Others home stage f first free first h past) in absurd cc)
+      (past_number first.regions h past) in absurd cc)
       (cases_lt h (length first.regions))
 
   pub all_leave : Segment (machine core) corr Told first (AtHome Staying home stage) (λ last. AtHome Others home stage) [] (Left 0)

@@ -2,6 +2,7 @@
 use Rattle.std.proofs.Common.{◌≡◌, ◌≢◌, ℕ, zero, suc, ◌+◌, ◌<◌, ⊎_elim, false, pos, Option, Some, None, List, [], ◌∷◌, ◌++◌, length, slice_get, slice_set}
 use Rattle.std.proofs.Common.{refl, sym, ap, subst, ◌∙◌, arith}
 use Rattle.std.proofs.lemmas.Option.{same_Some}
+use Rattle.std.proofs.lemmas.List.{length-set}
 use Rattle.sc_values.specs.declared.value.Value.{Value}
 use Rattle.sc_values.specs.declared.value.Value.TheVariants as value_is
 use Rattle.sc_values.specs.Access.{Access}
@@ -18,13 +19,13 @@ use Rattle.abort_expansion.specs.Transitions.{is_number, led_by, answers}
 use Rattle.tick_laws.proofs.Lists.{same_or_not}
 use Rattle.abort_expansion_laws.specs.Stages.{Entry, Silent, Correspondence, IsSilent}
 use Rattle.abort_expansion_laws.specs.Related.{Each}
-use Rattle.abort_expansion_laws.proofs.Simulation.{Segment, segment_on}
+use Rattle.abort_expansion_laws.proofs.Segments.{Segment, segment_on}
 use Rattle.abort_expansion_laws.proofs.SilentSteps.{AtHome, climbs_home, silent_step, no_step}
 use Rattle.abort_expansion_laws.proofs.Supplying.{tests}
 use Rattle.chart_machine_laws.proofs.LyingIn.{around}
 use Rattle.abort_expansion_laws.proofs.MoreValues.{other_verdict}
 use Rattle.abort_expansion_laws.proofs.FlagAccess.{number_access}
-use Rattle.abort_expansion_laws.proofs.Leaving.{set_here, set_other, set_length}
+use Rattle.abort_expansion_laws.proofs.Leaving.{set_here, set_other}
 use Rattle.abort_expansion_laws.proofs.TestFails.{fails}
 use Rattle.abort_expansion_laws.proofs.Unchanged.{unguarded}
 
@@ -61,7 +62,7 @@ module _ (core : Table) (corr : Correspondence) (Told : Configuration → Entry 
       segment_on (machine core) corr Told d (AtHome Others home 0) (λ last. AtHome Others home 0) (λ last. AtHome Others home 0) [] [] (λ z. z ≡ e)
       (Passed d rest) one
       (subst (λ z. Piece d z rest) (sym one.reaches) (onward (tests_fail ws rest e all.1 here quiet_e
-      (let size = set_length d.regions home (at.Trying b (ws ++ rest)) in omega (there, size, arith)))))
+      (let size = length-set d.regions home (at.Trying b (ws ++ rest)) in omega (there, size, arith)))))
     where
       e : Configuration
       e = record { variables = d.variables; regions = slice_set d.regions home (at.Trying b (ws ++ rest)) }
@@ -93,7 +94,7 @@ module _ (core : Table) (corr : Correspondence) (Told : Configuration → Entry 
             reaches =
                 record {
                   variables = s.reaches.variables;
-                  size = s.reaches.size ∙ set_length d.regions home (at.Trying b (ws ++ rest));
+                  size = s.reaches.size ∙ length-set d.regions home (at.Trying b (ws ++ rest));
                   here = s.reaches.here;
                   others = λ q ne. s.reaches.others q ne ∙ other q ne;
                 };

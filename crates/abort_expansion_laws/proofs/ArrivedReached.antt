@@ -9,12 +9,12 @@ use Rattle.chart_machine_laws.proofs.LyingIn.{head_in, tail_in, outwards, top_on
 use Rattle.abort_expansion_laws.specs.CoreRows.{IsState, Images}
 use Rattle.abort_expansion_laws.specs.Related.{Related, IsInside}
 use Rattle.abort_expansion_laws.specs.Related.{guarded, open_inside}
-use Rattle.abort_expansion_laws.proofs.TablesCorrespond.{contains_map}
 use Rattle.abort_expansion_laws.proofs.StageReached.{any_in}
-use Rattle.abort_expansion_laws.proofs.BeginningSorts.{not_both}
 use Rattle.abort_expansion_laws.proofs.JustEntered.{EntryRows, JustOpen, Live, Reach, live, Above, reach}
 use Rattle.abort_expansion_laws.proofs.Arrives.{Arrives}
 use Rattle.abort_expansion_laws.proofs.OpenForks.{not_over, fork_of}
+use Rattle.abort_expansion_laws.proofs.Unchanged.{not_both}
+use Rattle.tick_laws.proofs.Lists.{contains_map}
 
 module _ (k core : Table) (i : Images) (more : EntryRows k core i) (holds_there : (s : ℕ) → IsState k s → IsThere k (holder k s))
     (c d : Configuration) (related : Related k core i c d) (r : ℕ) (next core_next : Configuration)

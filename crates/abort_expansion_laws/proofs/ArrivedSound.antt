@@ -15,7 +15,6 @@ use Rattle.abort_expansion_laws.specs.Related.{Related, IsInside, open_inside, I
 use Rattle.abort_expansion_laws.proofs.StageReached.{any_in}
 use Rattle.abort_expansion_laws.proofs.Pending.{Sound}
 use Rattle.abort_expansion_laws.proofs.InitialPairs.{chart_begins}
-use Rattle.abort_expansion_laws.proofs.BeginningSorts.{not_both}
 use Rattle.abort_expansion_laws.proofs.JustEntered.{EntryRows}
 use Rattle.abort_expansion_laws.proofs.ChartEntered.{stood_of, WasEntered, ChartReach, was_entered, none_there, ChartAbove, chart_reach, stood_present}
 use Rattle.abort_expansion_laws.proofs.ChartEntered.{reached_open, reached_inside, reached_guards}
@@ -24,6 +23,7 @@ use Rattle.abort_expansion_laws.proofs.Arrives.{Arrives}
 use Rattle.abort_expansion_laws.proofs.ArrivedReached.{outer_apart, arrived_lives}
 use Rattle.abort_expansion_laws.proofs.ArrivedWaits.{lies_or_not, outer_out}
 use Rattle.abort_expansion_laws.proofs.InsideAround.{one_in_other}
+use Rattle.abort_expansion_laws.proofs.Unchanged.{not_both}
 
 module _ (k core : Table) (i : Images) (more : EntryRows k core i) (holds_there : (s : ℕ) → IsState k s → IsThere k (holder k s))
     (alone : (v : ℕ) → (state_at core v).regions ≡ [] → inside core v ≡ [])

@@ -11,7 +11,6 @@ use Rattle.chart_machine_laws.specs.Tree.{IsThere, around, holder}
 use Rattle.abort_expansion_laws.specs.CoreRows.{own, IsState, Images}
 use Rattle.abort_expansion_laws.specs.Related.{Related}
 use Rattle.abort_expansion_laws.proofs.StageReached.{stage_of, Stage, one_at_least}
-use Rattle.abort_expansion_laws.proofs.BeginningSorts.{not_both}
 use Rattle.abort_expansion_laws.proofs.JustEntered.{EntryRows}
 use Rattle.abort_expansion_laws.proofs.ChartEntered.{IsClosed, closed_ended, closed_trying, closed_entering, Stood, stood_closed, stood_open, ChartReach}
 use Rattle.abort_expansion_laws.proofs.ChartEntered.{was_entered, none_there}
@@ -20,6 +19,7 @@ use Rattle.abort_expansion_laws.proofs.Arrives.{Arrives}
 use Rattle.abort_expansion_laws.proofs.ArrivedWaits.{lies_or_not, core_same_at, behind_same}
 use Rattle.abort_expansion_laws.proofs.ArrivedSound.{around_region, chart_in}
 use Rattle.abort_expansion_laws.proofs.StagesEntered.{reached_then}
+use Rattle.abort_expansion_laws.proofs.Unchanged.{not_both}
 
 closed_stage : (k : Table) (c : Configuration) (x : Standing) → IsClosed x → 1 ≤ stage_of k c x
 closed_stage k c _ closed_ended = omega arith

@@ -12,14 +12,15 @@ use Rattle.chart_machine_laws.specs.Tree.{IsThere, holder}
 use Rattle.abort_expansion_laws.specs.CoreRows.{IsState, Images}
 use Rattle.abort_expansion_laws.specs.Related.{Related}
 use Rattle.abort_expansion_laws.specs.Stages.{Entry, Image, Touches, Correspondence}
-use Rattle.abort_expansion_laws.proofs.Simulation.{Segment}
+use Rattle.abort_expansion_laws.proofs.Segments.{Segment}
 use Rattle.abort_expansion_laws.proofs.Supplying.{climbs_step}
 use Rattle.abort_expansion_laws.proofs.StageReached.{Stage}
-use Rattle.abort_expansion_laws.proofs.ImageSteps.{pair, Inner, under_stages}
+use Rattle.abort_expansion_laws.proofs.ImageSteps.{pair}
 use Rattle.abort_expansion_laws.proofs.Pending.{Reached}
 use Rattle.abort_expansion_laws.proofs.JustEntered.{EntryRows}
 use Rattle.abort_expansion_laws.proofs.Arrives.{Arrives}
 use Rattle.abort_expansion_laws.proofs.ArrivedStages.{arrived_stages}
+use Rattle.abort_expansion_laws.proofs.OuterStages.{Inner, under_stages}
 
 module _ (k core : Table) (i : Images) (more : EntryRows k core i) (holds_there : (s : ℕ) → IsState k s → IsThere k (holder k s))
     (alone : (v : ℕ) → (state_at core v).regions ≡ [] → inside core v ≡ []) (counts : ℕ → Bool) (written_at : ℕ → ℕ)
@@ -30,10 +31,10 @@ module _ (k core : Table) (i : Images) (more : EntryRows k core i) (holds_there 
   abbrev corr : Correspondence
   corr = pair k core i more.rows more.tree.nested counts written_at
 
-  own_stage : (h v : ℕ) → Inner k core i more.rows more.tree.nested counts written_at c d related r arrives.there arrives.present arrives.works arrives.free c
+  own_stage : (h v : ℕ) → Inner k core i more.rows c d related r arrives.there arrives.present arrives.works arrives.free c
       (λ u inner. refl) h v → ((u : ℕ) → Stage k i.thread_of c d h u → u ≤ v) × Reached k core i next core_next h v
   own_stage h v inner =
-      let both = under_stages k core i more.rows more.tree.nested counts written_at c d related r arrives.there arrives.present arrives.works arrives.free c
+      let both = under_stages k core i more.rows c d related r arrives.there arrives.present arrives.works arrives.free c
       (λ u inner. refl) d h v inner in
       (both.0, arrived_stages k core i more holds_there alone c d related r next core_next arrives h v both.1)
 

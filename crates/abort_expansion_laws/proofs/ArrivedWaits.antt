@@ -9,7 +9,7 @@ use Rattle.chart_machine.specs.declared.standing.Configuration.{Configuration}
 use Rattle.chart_machine.specs.declared.table.Table.{Table}
 use Rattle.chart_machine.specs.Table.{state_at}
 use Rattle.chart_machine.specs.Turns.{standing_of, has_ended, inside, guards as has_to_guard, LiesIn, itself, deeper}
-use Rattle.tick_laws.proofs.Lists.{same_or_not, contained}
+use Rattle.tick_laws.proofs.Lists.{same_or_not, contained, contains_map, map_contains}
 use Rattle.chart_machine_laws.specs.Tree.{IsThere, around, holder}
 use Rattle.chart_machine_laws.proofs.LyingIn.{head_in, tail_in, head_or_tail, lies_in_outer}
 use Rattle.abort_expansion_laws.specs.CoreRows.{IsState, Images}
@@ -17,8 +17,6 @@ use Rattle.abort_expansion_laws.specs.Related.{Related, Stands, outside, ended, 
 use Rattle.abort_expansion_laws.specs.Related.{front, tests_of, held_back}
 use Rattle.abort_expansion.specs.Transitions.{led}
 use Rattle.abort_expansion_laws.proofs.Fronts.{front_same}
-use Rattle.abort_expansion_laws.proofs.TablesCorrespond.{contains_map}
-use Rattle.abort_expansion_laws.proofs.InitialPairs.{in_map}
 use Rattle.abort_expansion_laws.proofs.JustEntered.{EntryRows}
 use Rattle.abort_expansion_laws.proofs.EnteredWaits.{entered_waits}
 use Rattle.abort_expansion_laws.proofs.Pending.{Waits, settled}
@@ -44,7 +42,7 @@ module _ (k core : Table) (i : Images) (more : EntryRows k core i) (holds_there 
     where
       never : q ≢ r → ¬ Contains (holders_around q) r → ¬ LiesIn k q r
       never ne out (itself same) = ne same
-      never ne out (deeper y inner held) = out (subst (Contains (holders_around q)) held (in_map (holder k) (around k q) y inner))
+      never ne out (deeper y inner held) = out (subst (Contains (holders_around q)) held (map_contains (holder k) (around k q) y inner))
 
   -- so do their threads
   pub lies_back : (q : ℕ) → LiesIn core (i.thread_of q) (i.thread_of r) → LiesIn k q r

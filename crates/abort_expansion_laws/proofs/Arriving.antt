@@ -2,6 +2,7 @@
 use Rattle.std.proofs.Common.{◌≡◌, ◌≢◌, ℕ, suc, ◌+◌, ◌<◌, ◌≤◌, inl, inr, ⊎_elim, Bool, true, false, pos, Option, Some, None, List, [], ◌∷◌}
 use Rattle.std.proofs.Common.{length, slice_get, slice_set, unwrap_or, Contains, refl, sym, ap, subst, ◌∙◌, arith, if◌then◌else◌}
 use Rattle.std.proofs.lemmas.Option.{same_Some}
+use Rattle.std.proofs.lemmas.List.{length-set}
 use Rattle.sc_values.specs.declared.value.Value.{Value}
 use Rattle.sc_values.specs.declared.value.Value.TheVariants as value_is
 use Rattle.sc_values.specs.Expr.{value as value_of}
@@ -17,26 +18,27 @@ use Rattle.chart_machine.specs.Turns.{standing_of, has_ended, has_work, guards a
 use Rattle.chart_machine.specs.Steps.{state_in, acts, moved, access_of, step}
 use Rattle.chart_machine.specs.Machine.{machine}
 use Rattle.abort_expansion.specs.Transitions.{on, count_down, counting, place_of}
-use Rattle.tick_laws.proofs.Lists.{same_or_not, map_contains}
+use Rattle.tick_laws.proofs.Lists.{same_or_not}
 use Rattle.abort_expansion_laws.specs.Stages.{Entry, Silent, Correspondence, IsSilent, Climbs}
 use Rattle.abort_expansion_laws.proofs.Supplying.{climbs_step, silent_count, combines}
-use Rattle.abort_expansion_laws.proofs.Simulation.{Segment, segment_on}
+use Rattle.abort_expansion_laws.proofs.Segments.{Segment, segment_on}
 use Rattle.abort_expansion_laws.proofs.SilentSteps.{silent_step}
 use Rattle.chart_machine_laws.proofs.LyingIn.{IsNested, around, holder, head_in}
 use Rattle.abort_expansion_laws.proofs.TablesCorrespond.{IsThere}
 use Rattle.abort_expansion_laws.specs.CoreRows.{own, IsState, is_final, Images, CoreRows, RegionImage, counter_over, pair}
 use Rattle.abort_expansion_laws.specs.Related.{IsInside, guarded, open_inside, still_in, not_ended, Stores, Related}
 use Rattle.abort_expansion_laws.specs.StageReached.{some_work}
-use Rattle.abort_expansion_laws.proofs.StageReached.{Stage, stage_of, any_in, none_of, inside_in, one_at_least, one_at_most}
-use Rattle.abort_expansion_laws.proofs.Unchanged.{no_guards, unguarded}
+use Rattle.abort_expansion_laws.proofs.StageReached.{Stage, stage_of, any_in, inside_in, one_at_least, one_at_most}
+use Rattle.abort_expansion_laws.proofs.Unchanged.{no_guards, unguarded, none_among}
 use Rattle.abort_expansion_laws.proofs.KnownVariables.{present_there}
 use Rattle.abort_expansion_laws.proofs.CounterValues.{counted_value, counted_access}
 use Rattle.abort_expansion_laws.proofs.StartingRegions.{Once, CounterRows}
 use Rattle.abort_expansion_laws.proofs.CoreSteps.{writes_on}
-use Rattle.abort_expansion_laws.proofs.Leaving.{at_number, set_here, set_other, set_length}
+use Rattle.abort_expansion_laws.proofs.Leaving.{at_number, set_here, set_other}
 use Rattle.abort_expansion_laws.proofs.EffectAhead.{BeginsAt, overwritten, none_counted}
 use Rattle.abort_expansion_laws.proofs.Owed.{Counts, Enters, chart_enters, core_enters}
 use Rattle.abort_expansion_laws.proofs.StandsInside.{inside_present}
+use Rattle.abort_expansion_laws.proofs.ThreadsAround.{thread_within}
 
 -- ---- how many are still in
 
@@ -56,7 +58,7 @@ module _ (k core : Table) (i : Images) (c : Configuration) where
       one_more : (a b : ℕ) → a + suc b ≡ suc (a + b)
       one_more a b = omega arith
 
-  at_most : (rs : List ℕ) → still_in k core i c rs ≤ length rs
+  pub at_most : (rs : List ℕ) → still_in k core i c rs ≤ length rs
   at_most [] = omega arith
   at_most (q ∷ rs) = let rest = at_most rs in one_or_none (has_ended (standing_of c q)) (still_in k core i c rs) (length rs) rest
     where
@@ -156,7 +158,7 @@ module _ (k core : Table) (i : Images) (rows : CoreRows k core i) (tree : IsNest
     }
 
     size : length zs ≡ length d.regions
-    size = sym (ap length core_regions ∙ set_length zs (i.thread_of r) z)
+    size = sym (ap length core_regions ∙ length-set zs (i.thread_of r) z)
 
     here : standing_of counting_now (i.thread_of r) ≡ acting_now
     here = let lt = image.there.1 in let same = size in set_here zs (i.thread_of r) acting_now (omega (lt, same, related.core_regions, arith))
@@ -186,7 +188,7 @@ module _ (k core : Table) (i : Images) (rows : CoreRows k core i) (tree : IsNest
     busy = any_in (λ q. has_work k c (standing_of c q)) (inside k o) r (inside_in k o r there in_o) (ap (has_work k c) stands)
 
     not_guarding : has_to_guard (standing_of c (holder k o)) ≡ false
-    not_guarding = none_of (λ v. has_to_guard (standing_of c (holder k v))) (around k r) o free in_o
+    not_guarding = none_among (λ v. has_to_guard (standing_of c (holder k v))) (around k r) o free in_o
 
     holder_there : IsThere k (holder k o)
     holder_there = present_there k core i c d related (holder k o) (inside_present k core i o (standing_of c (holder k o)) inside_o)
@@ -229,7 +231,7 @@ module _ (k core : Table) (i : Images) (rows : CoreRows k core i) (tree : IsNest
     within : corr.Within (i.thread_of r) x
     within =
         subst (λ v. Contains (around core (i.thread_of r)) (i.main_of v)) (sym owner)
-        (subst (λ vs. Contains vs (i.main_of o)) (sym (rows.encloses r)) (map_contains i.main_of (around k r) o in_o))
+        (thread_within k core i rows r o in_o)
 
     fits : IsSilent corr (i.thread_of r) (Some (corr.home x, 1)) (combines x corr.counting)
     fits =

@@ -22,16 +22,13 @@ use Rattle.abort_expansion_laws.proofs.WalkStaying.{has_none}
 use Rattle.abort_expansion_laws.proofs.EnteredAlike.{BeginsAs, begins_there, begins_counting}
 use Rattle.abort_expansion_laws.proofs.StateEntry.{Entry, entry_ends, entry_tries, entry_guards, entry_opens}
 use Rattle.abort_expansion_laws.proofs.FreshInside.{Fresh, Begins, NobodyIn, ElsewhereNobody, begins_closed, begins_open}
+use Rattle.abort_expansion_laws.proofs.Unchanged.{not_both}
 
 -- the tests of a preparation are all made on entry
 once_led_by : (places : RegionPlaces) (ts : List Transition) (last : Transition) → last.immediate ≡ true →
     at_once (map (λ t. led_by places t.trigger t) ts ++ last ∷ []) ≡ map (λ t. led_by places t.trigger t) ts ++ last ∷ []
 once_led_by places [] last e = rw (e) refl
 once_led_by places (t ∷ ts) last e = ap (λ zs. led_by places t.trigger t ∷ zs) (once_led_by places ts last e)
-
-pub not_both : (b : Bool) → b ≡ true → b ≡ false → ⊥
-not_both true e f = absurd cc
-not_both false e f = absurd cc
 
 -- who has an immediate strong abort has aborts
 strong_has : (all : List Transition) (t : Transition) (tests : List Transition) → at_once (strong_aborts all) ≡ t ∷ tests → has_aborts all ≡ true

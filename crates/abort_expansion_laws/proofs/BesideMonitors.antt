@@ -1,9 +1,8 @@
 -- Whoever is enabled below the holder of a guarded superstate lies in that, beside its monitor: the thread of a region, or another monitor. A check of
 -- its strong flag there is below the nodes that raise it.
-use Rattle.std.proofs.Common.{◌≡◌, ◌≢◌, ℕ, zero, suc, ◌<◌, ◌≤◌, ◌⊎◌, inl, inr, true, Some, List, [], ◌∷◌, ◌++◌, map}
-use Rattle.std.proofs.Common.{length, Contains, refl, sym, ap, subst, ◌∙◌, arith, unwrap_or}
-use Rattle.std.proofs.lemmas.Option.{same_Some, slice_get_past}
-use Rattle.std.proofs.lemmas.Bool.{cases_lt}
+use Rattle.std.proofs.Common.{◌≡◌, ◌≢◌, ℕ, zero, suc, ◌<◌, ◌⊎◌, inl, inr, true, Some, List, [], ◌∷◌, ◌++◌, map}
+use Rattle.std.proofs.Common.{Contains, refl, sym, ap, subst, ◌∙◌, arith}
+use Rattle.std.proofs.lemmas.Option.{same_Some}
 use Rattle.sc_values.specs.Access.{Reads, Inits, init_read}
 use Rattle.sc_graph.specs.declared.tables.Tables.{Tables}
 use Rattle.sc_graph.specs.declared.control.Control.{Control}
@@ -14,7 +13,7 @@ use Rattle.sc_graph.specs.Accesses.{accesses}
 use Rattle.sc_graph.specs.Tables.{priority}
 use Rattle.sc_graph.specs.Valid.{IsFormed, IsValid}
 use Rattle.tick_laws.proofs.Formed.{root_alone, valid_formed}
-use Rattle.tick_laws.proofs.Lists.{contains_head, map_contains}
+use Rattle.tick_laws.proofs.Lists.{contains_head}
 use Rattle.core_charts.specs.declared.region.Transition.{Transition}
 use Rattle.core_charts.specs.Aborts.{has_aborts}
 use Rattle.chart_machine.specs.declared.standing.Standing.{Standing}
@@ -39,6 +38,8 @@ use Rattle.abort_expansion_laws.proofs.MonitorsApart.{monitor_apart, monitors_ap
 use Rattle.abort_expansion_laws.proofs.StageReached.{holds_other}
 use Rattle.abort_expansion_laws.proofs.StrongNotTaken.{inside_guarding}
 use Rattle.abort_expansion_laws.proofs.OneMonitor.{one_monitor}
+use Rattle.abort_expansion_laws.proofs.NumberedRegions.{is_region}
+use Rattle.abort_expansion_laws.proofs.ThreadsAround.{thread_within}
 
 -- ---- where threads are, regions are
 
@@ -122,14 +123,7 @@ module _ (k core : Table) (i : Images) (rows : CoreRows k core i) (tree : IsNest
     lies_in (suc gens) v there below = further_in gens v there below (λ w w_there h. lies_in gens w w_there h) (around k v) refl
 
   pub core_present : (t : ℕ) → standing_of d t ≢ at.Outside → IsThere core t
-  core_present zero present = absurd (present related.no_core)
-  core_present (suc t) present = by_place (cases_lt (suc t) (suc (length core.regions)))
-    where
-      by_place : (suc t < suc (length core.regions)) ⊎ (suc (length core.regions) ≤ suc t) → IsThere core (suc t)
-      by_place (inl lt) = (omega arith, lt)
-      by_place (inr past) =
-          let far : length d.regions ≤ suc t = omega (past, related.core_regions, arith) in
-          absurd (present (ap (λ o. unwrap_or o at.Outside) (slice_get_past d.regions (suc t) far)))
+  core_present = is_region core d related.no_core related.core_regions
 
   -- ---- a guarded superstate
 
@@ -184,7 +178,7 @@ module _ (k core : Table) (i : Images) (rows : CoreRows k core i) (tree : IsNest
     region_apart : (v : ℕ) → Contains (around k v) o → ForkedApart core (i.thread_of v) (i.watcher_of o) (i.thread_of (holder k o))
     region_apart v in_o =
         monitor_apart k core i rows core_tree o (i.watcher_of o) image.encloses image.no_thread v
-        (subst (λ zs. Contains zs (i.main_of o)) (sym (rows.encloses v)) (map_contains i.main_of (around k v) o in_o))
+        (thread_within k core i rows v o in_o)
 
     other_monitor : (w : ℕ) → IsState k w → has_aborts (own k w) ≡ true → Contains (around k (holder k w)) o → i.watcher_of w ≢ i.watcher_of o
     other_monitor w there has_too in_o e =
@@ -197,7 +191,7 @@ module _ (k core : Table) (i : Images) (rows : CoreRows k core i) (tree : IsNest
         monitors_apart k core i rows core_tree o (i.watcher_of o) image.encloses image.no_thread w there has_too (other_monitor w there has_too in_o)
         (subst (λ zs. Contains zs (i.main_of o)) (sym (rows.watcher w there has_too).encloses)
         (tail_in (i.main_of w) (i.main_of o) (around core (i.thread_of (holder k w)))
-        (subst (λ zs. Contains zs (i.main_of o)) (sym (rows.encloses (holder k w))) (map_contains i.main_of (around k (holder k w)) o in_o))))
+        (thread_within k core i rows (holder k w) o in_o)))
 
     -- thread t is that of a region inside, or of another monitor there
     pub data LiesBeside (t : ℕ) : Type 0 where

@@ -1,8 +1,9 @@
 -- Steps of a chart that are followed, each by its lemma, with what the rows of an expanded chart give for it.
-use Rattle.std.proofs.Common.{◌≡◌, ℕ, ◌<◌, ⊎_elim, Bool, true, false, ◌||◌, Option, Some, None, List, [], ◌∷◌, length, slice_get}
+use Rattle.std.proofs.Common.{◌≡◌, ℕ, ◌<◌, ⊎_elim, Bool, true, false, Option, Some, None, List, [], ◌∷◌, length, slice_get}
 use Rattle.std.proofs.lemmas.Option.{same_Some}
 use Rattle.std.proofs.Common.{option_map, option_and_then, Contains, refl, sym, ap, subst, ◌∙◌}
 use Rattle.std.specs.List.{list_any}
+use Rattle.std.proofs.lemmas.Bool.{or_left, or_right}
 use Rattle.sc_values.specs.Access.{Access}
 use Rattle.sc_values.specs.Assignment.{assignment_of, access_of_assignment}
 use Rattle.sc_values.specs.Expr.{value as value_of}
@@ -55,7 +56,6 @@ use Rattle.abort_expansion_laws.proofs.KnownVariables.{Stepped, stepped, present
 use Rattle.abort_expansion_laws.proofs.LastStrongFollowed.{last_strong_followed}
 use Rattle.abort_expansion_laws.proofs.MoreRows.{alone, simple_alone, opening_rows, strong_of}
 use Rattle.abort_expansion_laws.proofs.OwnTests.{OwnTests, IsOwn}
-use Rattle.abort_expansion_laws.proofs.PreemptionKept.{ToldHere}
 use Rattle.abort_expansion_laws.proofs.QuietBegins.{GuardTold, state_with_aborts}
 use Rattle.abort_expansion_laws.proofs.RowsOfCharts as whole
 use Rattle.abort_expansion_laws.proofs.StrongNotTaken.{IsGuarding, guarding_back, MonitorGuards}
@@ -63,23 +63,15 @@ use Rattle.abort_expansion_laws.proofs.StrongNotTaken as strong
 use Rattle.abort_expansion_laws.proofs.TestFails.{IsTrying, trying_back, failing_followed, tested_is}
 use Rattle.abort_expansion_laws.proofs.TestHolds.{holding_followed}
 use Rattle.abort_expansion_laws.proofs.TestTargets.{targets_there}
-use Rattle.abort_expansion_laws.proofs.TickFollowed as ticks
-use Rattle.abort_expansion_laws.proofs.ToldSteps.{told_image, told_silent, told_weak}
+use Rattle.abort_expansion_laws.proofs.TicksOfCharts as ticks
+use Rattle.abort_expansion_laws.proofs.ToldSteps.{told_image, told_silent, told_weak, ToldHere}
 use Rattle.abort_expansion_laws.proofs.WeakNotTaken as weak
 use Rattle.abort_expansion_laws.proofs.FlagStages.{FlagStages}
-
-one_true : (a b : Bool) → a ≡ true → (a || b) ≡ true
-one_true true b e = refl
-one_true false b e = absurd cc
-
-pub other_true : (a b : Bool) → b ≡ true → (a || b) ≡ true
-other_true true b e = refl
-other_true false b e = e
 
 pub has_from : (p : Transition → Bool) (ts : List Transition) (t : Transition) → Contains ts t → p t ≡ true → list_any p ts ≡ true
 has_from p [] t h is = absurd (contains_none t h)
 has_from p (x ∷ xs) t h is =
-    ⊎_elim (λ same. one_true (p x) (list_any p xs) (ap p same ∙ is)) (λ tail. other_true (p x) (list_any p xs) (has_from p xs t tail is))
+    ⊎_elim (λ same. or_left (p x) (list_any p xs) (ap p same ∙ is)) (λ tail. or_right (p x) (list_any p xs) (has_from p xs t tail is))
     (contains_cons x t xs h)
 
 -- a state is entered by a move of the region that holds it first
@@ -237,7 +229,7 @@ module _ (c : Chart) (rules : IsChart features.Extended c) (core_rules : IsChart
           (access_of_trigger t.trigger)) next goes fails
         where
           has : has_aborts (own k o) ≡ true
-          has = other_true (has_strong (own k o)) (has_weak (own k o)) (has_from (λ z. is_weak z.kind) (own k o) t own_one is_weak_one)
+          has = or_right (has_strong (own k o)) (has_weak (own k o)) (has_from (λ z. is_weak z.kind) (own k o) t own_one is_weak_one)
 
       -- ---- a state is entered
 

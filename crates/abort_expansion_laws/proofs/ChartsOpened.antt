@@ -1,5 +1,6 @@
 -- What the moves of a fork make of its inside, of each expanded chart; so what was entered there settles.
-use Rattle.std.proofs.Common.{◌≡◌, ℕ, ◌+◌, Bool, true, false, ◌||◌, Option, None, [], ◌∷◌, Contains, refl, sym, ap, subst, ◌∙◌}
+use Rattle.std.proofs.Common.{◌≡◌, ℕ, ◌+◌, Bool, true, false, Option, None, [], ◌∷◌, Contains, refl, sym, ap, subst, ◌∙◌}
+use Rattle.std.proofs.lemmas.Bool.{or_parts}
 use Rattle.sc_values.specs.Access.{Access}
 use Rattle.core_charts.specs.declared.features.Features.TheVariants as features
 use Rattle.core_charts.specs.Aborts.{has_strong, has_weak, has_aborts}
@@ -19,7 +20,7 @@ use Rattle.abort_expansion_laws.specs.CoreRows.{own, IsSuper, Images, flags_arou
 use Rattle.abort_expansion_laws.specs.Related.{Related}
 use Rattle.abort_expansion_laws.specs.Stages.{Entry, Silent}
 use Rattle.abort_expansion_laws.specs.StageReached.{Stage}
-use Rattle.abort_expansion_laws.proofs.Simulation.{Segment}
+use Rattle.abort_expansion_laws.proofs.Segments.{Segment}
 use Rattle.abort_expansion_laws.proofs.Walked.{World, FlagsFit}
 use Rattle.abort_expansion_laws.proofs.WalkedWhole.{world}
 use Rattle.abort_expansion_laws.proofs.RowsOfCharts as whole
@@ -62,16 +63,12 @@ module _ (c : Chart) (rules : IsChart features.Extended c) (core_rules : IsChart
         super_around = λ r s h. (whole.super_there c rules core_rules r s h, whole.super_around c rules core_rules r s h);
       }
 
-  neither : (a b : Bool) → (a || b) ≡ false → (a ≡ false) × (b ≡ false)
-  neither true b e = absurd cc
-  neither false b e = (refl, e)
-
   -- who is not prepared has no flags
   pub unflagged : (u : ℕ) → IsSuper k u → is_prepared (flags_around k core i (holder k u)) (own k u) ≡ false → Unflagged k core i u
   unflagged u super plain =
       let fits : FlagsFit w u = (whole.state_fits c rules core_rules u (whole.is_state_super c rules core_rules u super)).flags super in
-      let both = neither (has_aborts (own k u)) (counts (weak_around (flags_around k core i (holder k u))) (own k u)) plain in
-      let two = neither (has_strong (own k u)) (has_weak (own k u)) both.0 in
+      let both = or_parts (has_aborts (own k u)) (counts (weak_around (flags_around k core i (holder k u))) (own k u)) plain in
+      let two = or_parts (has_strong (own k u)) (has_weak (own k u)) both.0 in
       record {
         strong = ap (λ z. z.strong) fits.are ∙ none (has_strong (own k u)) fits.first two.0;
         weak = ap (λ z. z.weak) fits.are ∙ none (has_weak (own k u)) (fits.first + one (has_strong (own k u))) two.1;

@@ -1,6 +1,7 @@
 -- When all strong tests of a superstate have failed, the strong check of each thread inside fails, one region after the other.
 use Rattle.std.proofs.Common.{◌≡◌, ◌≢◌, ℕ, zero, suc, pos, ◌+◌, ◌<◌, ◌≤◌, ◌⊎◌, inr, ⊎_elim, Bool, false, Option, Some, List, [], ◌∷◌}
-use Rattle.std.proofs.Common.{map, length, slice_get, slice_set, Contains, refl, sym, ap, subst, ◌∙◌, arith}
+use Rattle.std.proofs.Common.{length, slice_get, slice_set, Contains, refl, sym, ap, subst, ◌∙◌, arith}
+use Rattle.std.proofs.lemmas.List.{length-set}
 use Rattle.sc_values.specs.declared.value.Value.TheVariants as value_is
 use Rattle.sc_values.specs.Access.{Access}
 use Rattle.core_charts.specs.declared.region.Transition.{Transition}
@@ -16,15 +17,14 @@ use Rattle.chart_machine_laws.specs.Tree.{IsNested, IsThere, around, holder}
 use Rattle.tick_laws.proofs.Lists.{same_or_not, contained}
 use Rattle.abort_expansion_laws.specs.Stages.{Entry, Silent, Correspondence}
 use Rattle.abort_expansion_laws.specs.CoreRows.{Images, CoreRows, pair}
-use Rattle.abort_expansion_laws.proofs.Simulation.{Segment, segment_on}
+use Rattle.abort_expansion_laws.proofs.Segments.{Segment, segment_on}
 use Rattle.abort_expansion_laws.proofs.SilentSteps.{AtHome, climbs_at, silent_step, no_step}
 use Rattle.abort_expansion_laws.proofs.Supplying.{silent_test, tests}
 use Rattle.abort_expansion_laws.proofs.TestFails.{fails}
 use Rattle.abort_expansion_laws.proofs.Unchanged.{stands_same, stands_other}
-use Rattle.abort_expansion_laws.proofs.Leaving.{set_length}
 use Rattle.abort_expansion_laws.proofs.MoreValues.{lowered_verdict}
 use Rattle.abort_expansion_laws.proofs.FlagAccess.{raised_access}
-use Rattle.chart_machine_laws.proofs.LyingIn.{none_in, head_in, tail_in, head_or_tail}
+use Rattle.abort_expansion_laws.proofs.ThreadsAround.{thread_within}
 
 -- is one number among these
 there_or_not : (x : ℕ) (xs : List ℕ) → Contains xs x ⊎ (Contains xs x → ⊥)
@@ -46,13 +46,7 @@ module _ (k core : Table) (i : Images) (rows : CoreRows k core i) (tree : IsNest
 
   -- the thread of a region inside is inside of the fork
   in_fork : (s q : ℕ) → Contains (around k q) s → Contains (around core (i.thread_of q)) (i.main_of s)
-  in_fork s q inner = subst (λ zs. Contains zs (i.main_of s)) (sym (rows.encloses q)) (mapped (around k q) inner)
-    where
-      mapped : (zs : List ℕ) → Contains zs s → Contains (map i.main_of zs) (i.main_of s)
-      mapped [] h = absurd (none_in s h)
-      mapped (z ∷ zs) h =
-          ⊎_elim (λ same. subst (λ v. Contains (i.main_of v ∷ map i.main_of zs) (i.main_of s)) (sym same) (head_in (i.main_of s) (map i.main_of zs)))
-          (λ tail. tail_in (i.main_of z) (i.main_of s) (map i.main_of zs) (mapped zs tail)) (head_or_tail z s zs h)
+  in_fork s q inner = thread_within k core i rows q s inner
 
   -- the check of a region's thread
   abbrev pub sees : Bool → ℕ → Transition
@@ -137,7 +131,7 @@ module _ (k core : Table) (i : Images) (rows : CoreRows k core i) (tree : IsNest
         after =
             record {
               variables = done.variables;
-              size = set_length e.regions (i.thread_of n) (at.Trying u rest) ∙ done.size;
+              size = length-set e.regions (i.thread_of n) (at.Trying u rest) ∙ done.size;
               free = λ g. ⊎_elim (λ same. ap (λ z. has_to_guard (standing_of (placed e (i.thread_of n) u rest) z)) same ∙ ap has_to_guard here)
                   (λ ne. ap has_to_guard (other g ne) ∙ done.free g) (same_or_not g (i.thread_of n));
               passed = λ q is around_it lt.

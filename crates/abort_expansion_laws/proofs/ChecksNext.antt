@@ -21,7 +21,7 @@ use Rattle.abort_expansion_laws.proofs.LookDropped.{look}
 use Rattle.abort_expansion_laws.proofs.LooksOuter.{LooksNext, away, at_look}
 use Rattle.abort_expansion_laws.proofs.MonitorsReady.{AllReady}
 use Rattle.abort_expansion_laws.proofs.SeesFirst.{Sees, out, checks, region_sees}
-use Rattle.abort_expansion_laws.proofs.StageReached.{none_of}
+use Rattle.abort_expansion_laws.proofs.Unchanged.{none_among}
 
 -- the check of flag x is the first of these tests
 abbrev pub IsChecked : (x place : ℕ) → List Transition → Type 0
@@ -61,7 +61,8 @@ module _ (k core : Table) (i : Images) (rows : CoreRows k core i) (lone : AloneR
       ap (λ zs. zs ++ rest)
           (first_of_each k tree each others o (go b (Some (is_raised x)) [] (i.places_of q).left)
           (guards_here k core i b (i.places_of q).left c o guards_now ∙ ap (check b (i.places_of q).left) flag) own_none
-          (λ s outer. guards_not k core i b (i.places_of q).left c s (none_of (λ v. guards (standing_of c (holder k v))) (around k (holder k o)) s free outer))
+          (λ s outer. guards_not k core i b (i.places_of q).left c s
+          (none_among (λ v. guards (standing_of c (holder k v))) (around k (holder k o)) s free outer))
           (around k q) q refl in_o (λ s h ne. others_same s ne)),
     )
 

@@ -8,7 +8,7 @@ use Rattle.core_charts.specs.declared.region.Transition.{Transition}
 use Rattle.core_charts.specs.Aborts.{has_strong}
 use Rattle.chart_machine.specs.declared.table.Table.{Table}
 use Rattle.abort_expansion.specs.Transitions.{go, is_raised, check}
-use Rattle.chart_machine_laws.proofs.LyingIn.{IsNested, around, holder, none_in, head_or_tail, head_in, tail_in}
+use Rattle.chart_machine_laws.proofs.LyingIn.{IsNested, around, holder, none_in, head_or_tail}
 use Rattle.abort_expansion_laws.specs.CoreRows.{own, Images}
 use Rattle.abort_expansion_laws.proofs.Fronts.{reversed}
 
@@ -25,12 +25,6 @@ more_checks x place _ _ (checks_other many b y rest others) = checks_other (suc 
 pub strong_from : Table → List ℕ → ℕ → ℕ
 strong_from k [] n = n
 strong_from k (s ∷ zs) n = strong_from k zs (if has_strong (own k s) then suc n else n)
-
--- where none of them has, so many
-pub strong_none : (k : Table) (zs : List ℕ) (n : ℕ) → ((s : ℕ) → Contains zs s → has_strong (own k s) ≡ false) → strong_from k zs n ≡ n
-unfolding strong_from
-strong_none k [] n none = refl
-strong_none k (s ∷ zs) n none = rw (none s (head_in s zs)) (strong_none k zs n (λ u h. none u (tail_in s u zs h)))
 
 -- how many superstates around one have strong aborts
 abbrev pub strong_around : Table → ℕ → ℕ

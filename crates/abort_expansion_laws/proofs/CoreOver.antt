@@ -1,9 +1,9 @@
 -- When the chart rests and is over, so is its core.
 use Rattle.std.proofs.Common.{◌≡◌, ◌≢◌, ℕ, zero, suc, ◌+◌, ◌<◌, ◌⊎◌, inl, inr, ⊎_elim, Bool, true, false, not, ◌&&◌, ◌||◌, List, [], ◌∷◌, ◌++◌, map, length}
-use Rattle.std.proofs.Common.{unwrap_or, Contains, refl, sym, ap, subst, ◌∙◌, arith, if◌then◌else◌}
+use Rattle.std.proofs.Common.{Contains, refl, sym, ap, subst, ◌∙◌, arith, if◌then◌else◌}
 use Rattle.std.specs.Prelude.{filter}
 use Rattle.std.specs.List.{list_all, list_any}
-use Rattle.std.proofs.lemmas.Option.{slice_get_past}
+use Rattle.std.proofs.lemmas.Bool.{and_parts, false_from_ne_true}
 use Rattle.sc_values.specs.Runs.{IsOver}
 use Rattle.core_charts.specs.declared.region.Transition.{Transition}
 use Rattle.core_charts.specs.Tests.{is_join, terminations}
@@ -19,14 +19,14 @@ use Rattle.abort_expansion.specs.Flags.{has_join}
 use Rattle.abort_expansion.specs.Superstates.{stays}
 use Rattle.chart_machine_laws.proofs.LyingIn.{around, holder, head_in, tail_in}
 use Rattle.abort_expansion_laws.proofs.TablesCorrespond.{IsThere}
-use Rattle.abort_expansion_laws.proofs.KnownVariables.{both_true}
 use Rattle.abort_expansion_laws.proofs.InsideLeaves.{true_or_false}
-use Rattle.chart_machine_laws.proofs.ChartTables.{within_or_past, no_regions_past, around_there}
+use Rattle.chart_machine_laws.proofs.ChartTables.{within_or_past, around_there}
 use Rattle.abort_expansion_laws.proofs.InsideAround.{inside_around}
 use Rattle.abort_expansion_laws.specs.CoreRows.{own, IsState, IsSuper, Images, CoreRows, StayingImage, SplitImage, watchers, flags_around}
 use Rattle.abort_expansion_laws.specs.Related.{Each, is_behind, Closes}
 use Rattle.abort_expansion_laws.proofs.Owed.{RestsIn, rests_outside, rests_ended, rests_left, rests_trying, rests_staying, rests_within, rests_behind}
 use Rattle.abort_expansion_laws.proofs.Owed.{WatchRests, watch_within, watch_elsewhere, Resting}
+use Rattle.abort_expansion_laws.proofs.NumberedRegions.{past_regions, super_is_state}
 
 -- no member has it
 none_has : (p : ℕ → Bool) (xs : List ℕ) → ((x : ℕ) → Contains xs x → p x ≡ false) → list_any p xs ≡ false
@@ -42,20 +42,16 @@ all_back : (p q : ℕ → Bool) (f : ℕ → ℕ) (xs : List ℕ) → ((x : ℕ)
     list_all q xs ≡ true
 all_back p q f [] each e = refl
 all_back p q f (x ∷ xs) each e =
-    let both = both_true (p (f x)) (list_all p (map f xs)) e in
+    let both = and_parts (p (f x)) (list_all p (map f xs)) e in
     rw (each x (head_in x xs) both.0, all_back p q f xs (λ y tail. each y (tail_in x y xs tail)) both.1) refl
 
 all_first : (p : ℕ → Bool) (xs ys : List ℕ) → list_all p (xs ++ ys) ≡ true → list_all p xs ≡ true
 all_first p [] ys e = refl
-all_first p (x ∷ xs) ys e = let both = both_true (p x) (list_all p (xs ++ ys)) e in rw (both.0, all_first p xs ys both.1) refl
+all_first p (x ∷ xs) ys e = let both = and_parts (p x) (list_all p (xs ++ ys)) e in rw (both.0, all_first p xs ys both.1) refl
 
 all_last : (p : ℕ → Bool) (xs : List ℕ) (y : ℕ) → list_all p (xs ++ y ∷ []) ≡ true → p y ≡ true
-all_last p [] y e = (both_true (p y) true e).0
-all_last p (x ∷ xs) y e = all_last p xs y (both_true (p x) (list_all p (xs ++ y ∷ [])) e).1
-
-not_true : (b : Bool) → (b ≡ true → ⊥) → b ≡ false
-not_true true no_way = absurd (no_way refl)
-not_true false no_way = refl
+all_last p [] y e = (and_parts (p y) true e).0
+all_last p (x ∷ xs) y e = all_last p xs y (and_parts (p x) (list_all p (xs ++ y ∷ [])) e).1
 
 still_closed : (j a b : Bool) → (not j || a) ≡ false → (b ≡ true → a ≡ true) → (not j || b) ≡ false
 still_closed false a b e back = absurd cc
@@ -94,14 +90,11 @@ is_open false false false al e f g h = let wrong : true ≡ false = sym g ∙ h 
 module _ (k core : Table) (i : Images) (rows : CoreRows k core i) (children : (s r : ℕ) → Contains (state_at k s).regions r →
     around k r ≡ s ∷ around k (holder k s))
     (deep : (q s : ℕ) → Contains (around k q) s → holder k s < q) (c d : Configuration) (rests : Resting k core i c d) (over : IsOver (machine k) c) where
-  past : (e : Configuration) (table : Table) → length e.regions ≡ suc (length table.regions) → (r : ℕ) → length table.regions < r → standing_of e r ≡ at.Outside
-  past e table size r lt = ap (λ o. unwrap_or o at.Outside) (slice_get_past e.regions r (omega (size, lt, arith)))
-
   -- where a region is
   placed : (P : Standing → Type 0) → P at.Outside → ((r : ℕ) → IsThere k r → P (standing_of c r)) → (r : ℕ) → P (standing_of c r)
   placed P none each zero = subst P (sym rests.no_chart) none
   placed P none each (suc r) =
-      ⊎_elim (λ lt. each (suc r) (omega arith, omega (lt, arith))) (λ le. subst P (sym (past c k rests.chart_regions (suc r) (omega (le, arith)))) none)
+      ⊎_elim (λ lt. each (suc r) (omega arith, omega (lt, arith))) (λ le. subst P (sym (past_regions c k rests.chart_regions (suc r) (omega (le, arith)))) none)
       (within_or_past r (length k.regions))
 
   rests_calm : (r : ℕ) (x y : Standing) → RestsIn k core i c r x y → guards x ≡ false
@@ -143,7 +136,7 @@ module _ (k core : Table) (i : Images) (rows : CoreRows k core i) (children : (s
   idle_at r _ _ is (rests_behind s tests super held behind) inner = in_super r s tests is held inner
 
   idle_from : (n r : ℕ) → length k.regions < r + n → has_work k c (standing_of c r) ≡ false
-  idle_from zero r lt = ap (has_work k c) (past c k rests.chart_regions r (omega (lt, arith)))
+  idle_from zero r lt = ap (has_work k c) (past_regions c k rests.chart_regions r (omega (lt, arith)))
   idle_from (suc n) r lt =
       placed_at r (λ q more. idle_from n q (omega (lt, more, arith)))
     where
@@ -152,7 +145,7 @@ module _ (k core : Table) (i : Images) (rows : CoreRows k core i) (children : (s
       placed_at (suc r) inner =
           ⊎_elim (λ lt. idle_at (suc r) (standing_of c (suc r)) (standing_of d (i.thread_of (suc r))) refl
           (rests.regions (suc r) (omega arith, omega (lt, arith))) inner)
-          (λ le. ap (has_work k c) (past c k rests.chart_regions (suc r) (omega (le, arith)))) (within_or_past r (length k.regions))
+          (λ le. ap (has_work k c) (past_regions c k rests.chart_regions (suc r) (omega (le, arith)))) (within_or_past r (length k.regions))
 
   idle : (r : ℕ) → has_work k c (standing_of c r) ≡ false
   idle r = idle_from (suc (length k.regions)) r (omega arith)
@@ -167,9 +160,6 @@ module _ (k core : Table) (i : Images) (rows : CoreRows k core i) (children : (s
   ends_back q _ _ (rests_staying s tests super held stay) e = absurd cc
   ends_back q _ _ (rests_within s join tests super held stay still leads) e = absurd cc
   ends_back q _ _ (rests_behind s tests super held behind) e = absurd cc
-
-  state_there : (s : ℕ) → IsSuper k s → IsState k s
-  state_there s super = ⊎_elim (λ lt. lt) (λ le. absurd (super (no_regions_past k s le))) (within_or_past s (length k.states))
 
   child_there : (s q : ℕ) → Contains (state_at k s).regions q → IsThere k q
   child_there s q h = around_there k q s (subst (λ zs. Contains zs s) (sym (children s q h)) (head_in s (around k (holder k s))))
@@ -191,7 +181,7 @@ module _ (k core : Table) (i : Images) (rows : CoreRows k core i) (children : (s
   joins_not s tests super is stay still all = ⊎_elim with_aborts without (true_or_false (has_aborts (own k s)))
     where
       image : SplitImage k core i s
-      image = rows.split s (state_there s super) super stay
+      image = rows.split s (super_is_state k s super) super stay
 
       here : list_all (λ q. has_ended (standing_of d q)) (map i.thread_of (state_at k s).regions ++ watchers k core i s) ≡ true
       here = sym (ap (λ row. list_all (λ q. has_ended (standing_of d q)) row.regions) image.row) ∙ all
@@ -202,7 +192,8 @@ module _ (k core : Table) (i : Images) (rows : CoreRows k core i) (children : (s
           let over_too : has_ended (standing_of d (i.watcher_of s)) ≡ true =
           all_last (λ q. has_ended (standing_of d q)) (map i.thread_of (state_at k s).regions) (i.watcher_of s)
           (subst (λ zs. list_all (λ q. has_ended (standing_of d q)) (map i.thread_of (state_at k s).regions ++ zs) ≡ true) one here) in
-          let open_still = watch_open s (standing_of c (holder k s)) (standing_of d (i.watcher_of s)) tests (rests.watchers s (state_there s super) has) is in
+          let open_still =
+          watch_open s (standing_of c (holder k s)) (standing_of d (i.watcher_of s)) tests (rests.watchers s (super_is_state k s super) has) is in
           let wrong : true ≡ false = sym over_too ∙ open_still in absurd cc
 
       without : has_aborts (own k s) ≡ false → ⊥
@@ -224,14 +215,14 @@ module _ (k core : Table) (i : Images) (rows : CoreRows k core i) (children : (s
   core_idle r _ _ is (rests_trying s simple held) = refl
   core_idle r _ _ is (rests_staying s [] super held stay) = refl
   core_idle r _ _ is (rests_staying s (t ∷ tests) super held stay) =
-      let image : StayingImage k core i s = rows.staying s (state_there s super) super
+      let image : StayingImage k core i s = rows.staying s (super_is_state k s super) super
       (subst (λ q. stays (flags_around k core i q) (own k s) ≡ true) (sym held) stay) in
       still_closed (is_join t.kind) (list_all (λ q. has_ended (standing_of c q)) (state_at k s).regions)
       (list_all (λ q. has_ended (standing_of d q)) (state_at core (i.main_of s)).regions)
       (sym (ap (has_work k c) is) ∙ idle r)
       (λ all. ended_back s (sym (ap (λ row. list_all (λ q. has_ended (standing_of d q)) row.regions) image.row) ∙ all))
   core_idle r _ _ is (rests_within s join tests super held stay still leads) =
-      not_true (list_all (λ q. has_ended (standing_of d q)) (state_at core (i.main_of s)).regions)
+      false_from_ne_true (list_all (λ q. has_ended (standing_of d q)) (state_at core (i.main_of s)).regions)
       (λ all. joins_not s tests super (ap (standing_of c) held ∙ is) (subst (λ q. stays (flags_around k core i q) (own k s) ≡ false) (sym held) stay) still all)
   core_idle r _ _ is (rests_behind s tests super held behind) = refl
 
@@ -241,7 +232,7 @@ module _ (k core : Table) (i : Images) (rows : CoreRows k core i) (children : (s
 
   core_works_not : (t : ℕ) → has_work core d (standing_of d t) ≡ false
   core_works_not zero = ap (has_work core d) rests.no_core
-  core_works_not (suc t) = ⊎_elim in_core (λ le. ap (has_work core d) (past d core rests.core_regions (suc t) (omega (le, arith))))
+  core_works_not (suc t) = ⊎_elim in_core (λ le. ap (has_work core d) (past_regions d core rests.core_regions (suc t) (omega (le, arith))))
       (within_or_past t (length core.regions))
     where
       by_sort : (u : ℕ) → ((r : ℕ) × IsThere k r × (u ≡ i.thread_of r)) ⊎ ((o : ℕ) × IsState k o × (has_aborts (own k o) ≡ true) × (u ≡ i.watcher_of o)) →

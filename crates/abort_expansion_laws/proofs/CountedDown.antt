@@ -2,6 +2,7 @@
 use Rattle.std.proofs.Common.{◌≡◌, ◌≢◌, ℕ, zero, suc, pos, ◌+◌, ◌<◌, ◌≤◌, inl, inr, ⊎_elim, Bool, true, false, Option, Some, None, List, [], ◌∷◌, ◌++◌}
 use Rattle.std.proofs.Common.{map, length, slice_get, slice_set, Contains, refl, sym, ap, subst, ◌∙◌, arith, if◌then◌else◌}
 use Rattle.std.proofs.lemmas.Option.{same_Some}
+use Rattle.std.proofs.lemmas.List.{length-set}
 use Rattle.sc_values.specs.declared.value.Value.{Value}
 use Rattle.sc_values.specs.declared.value.Value.TheVariants as value_is
 use Rattle.sc_values.specs.declared.operator.Combination.TheVariants as combine
@@ -24,7 +25,6 @@ use Rattle.abort_expansion_laws.specs.CoreRows.{own, Images, CoreRows}
 use Rattle.abort_expansion_laws.specs.Related.{is_behind, Stands, ended, Watches}
 use Rattle.abort_expansion_laws.specs.Related.{IsInside, open_inside, Stores}
 use Rattle.abort_expansion_laws.proofs.Unchanged.{get_same, get_other, stands_same, stands_other, unguarded}
-use Rattle.abort_expansion_laws.proofs.Leaving.{set_length}
 use Rattle.abort_expansion_laws.proofs.StageReached.{stage_of, one_at_least}
 use Rattle.abort_expansion_laws.proofs.ImageSteps.{pair}
 use Rattle.abort_expansion_laws.proofs.CoreSteps.{takes, writes_last}
@@ -101,7 +101,7 @@ module _ (k core : Table) (i : Images) (rows : CoreRows k core i) (tree : IsNest
     e = after_counting m
 
     here : standing_of e g ≡ at.Ended
-    here = stands_same d1 e g at.Ended refl (let lt = in_core in let size = set_length d.regions g (at.Acting st.first (count_down x ∷ []) st.place) in
+    here = stands_same d1 e g at.Ended refl (let lt = in_core in let size = length-set d.regions g (at.Acting st.first (count_down x ∷ []) st.place) in
         omega (lt, size, arith))
 
     same : (t : ℕ) → t ≢ g → standing_of e t ≡ standing_of d t

@@ -23,10 +23,10 @@ use Rattle.abort_expansion_laws.specs.CoreRows.{own, IsState, is_final, Images, 
 use Rattle.abort_expansion_laws.specs.Related.{IsInside, guarded, open_inside, Stores, still_in, not_ended, Related}
 use Rattle.abort_expansion_laws.specs.Stages.{Entry, Silent, Correspondence, IsSilent}
 use Rattle.abort_expansion_laws.proofs.Supplying.{climbs_step, silent_count, combines}
-use Rattle.abort_expansion_laws.proofs.Simulation.{Segment}
 use Rattle.abort_expansion_laws.proofs.TablesCorrespond.{IsThere}
-use Rattle.abort_expansion_laws.proofs.Unchanged.{stands_same, stands_other, no_guards, unguarded, set_twice}
-use Rattle.abort_expansion_laws.proofs.StageReached.{some_work, stage_of, Stage, any_in, none_of, inside_in}
+use Rattle.abort_expansion_laws.proofs.Segments.{Segment}
+use Rattle.abort_expansion_laws.proofs.Unchanged.{stands_same, stands_other, no_guards, unguarded, set_twice, none_among}
+use Rattle.abort_expansion_laws.proofs.StageReached.{some_work, stage_of, Stage, any_in, inside_in}
 use Rattle.abort_expansion_laws.proofs.ImageSteps.{pair}
 use Rattle.abort_expansion_laws.proofs.KnownVariables.{present_there}
 use Rattle.abort_expansion_laws.proofs.CoreSteps.{writes_last}
@@ -35,6 +35,7 @@ use Rattle.abort_expansion_laws.proofs.StartingRegions.{Once, CounterRows}
 use Rattle.abort_expansion_laws.proofs.EffectFollowed.{IsActing, acting_back}
 use Rattle.abort_expansion_laws.proofs.Owed.{Counts, core_enters}
 use Rattle.abort_expansion_laws.proofs.StandsInside.{inside_present}
+use Rattle.abort_expansion_laws.proofs.Arriving.{at_most}
 
 module _ (k core : Table) (i : Images) (rows : CoreRows k core i) (tree : IsNested k) (counts : ℕ → Bool) (written_at : ℕ → ℕ)
     (Told : Configuration → Entry → Type 0)
@@ -89,14 +90,6 @@ module _ (k core : Table) (i : Images) (rows : CoreRows k core i) (tree : IsNest
       up : (a b : ℕ) → a + suc b ≡ suc (a + b)
       up a b = omega arith
 
-  at_most : (rs : List ℕ) → still_in k core i c rs ≤ length rs
-  at_most [] = omega arith
-  at_most (r ∷ rs) = let rest = at_most rs in one_or_none (has_ended (standing_of c r)) (still_in k core i c rs) (length rs) rest
-    where
-      one_or_none : (b : Bool) (n l : ℕ) → n ≤ l → (if b then 0 else 1) + n ≤ suc l
-      one_or_none true n l le = omega (le, arith)
-      one_or_none false n l le = omega (le, arith)
-
   pub left_over : (n : ℕ) × (not_ended k core i c u ≡ suc n)
   left_over = one_more (state_at k u).regions (counters.once q u us there direct)
 
@@ -104,7 +97,7 @@ module _ (k core : Table) (i : Images) (rows : CoreRows k core i) (tree : IsNest
   n = left_over.0
 
   few : n < 2147483648
-  few = let top = at_most (state_at k u).regions in let bound = counters.few u in let is = left_over.1 in omega (top, bound, is, arith)
+  few = let top = at_most k core i c (state_at k u).regions in let bound = counters.few u in let is = left_over.1 in omega (top, bound, is, arith)
 
   stored : slice_get d.variables x ≡ Some (value_is.Int (pos (suc n)))
   stored =
@@ -181,7 +174,7 @@ module _ (k core : Table) (i : Images) (rows : CoreRows k core i) (tree : IsNest
     busy = any_in (λ r. has_work k c (standing_of c r)) (inside k u) q (inside_in k u q there inner) (ap (has_work k c) stands)
 
     not_guarding : guards (standing_of c (holder k u)) ≡ false
-    not_guarding = none_of (λ z. guards (standing_of c (holder k z))) (around k q) u free inner
+    not_guarding = none_among (λ z. guards (standing_of c (holder k z))) (around k q) u free inner
 
     at_stage_one : (z : Standing) → IsInside k core i u z → guards z ≡ false → stage_of k c z ≡ 1
     at_stage_one _ (guarded tests) w = absurd cc

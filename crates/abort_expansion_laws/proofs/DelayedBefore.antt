@@ -1,9 +1,9 @@
 -- A delayed test is met in a tick that begins before it, and in no other: no step leads a region before one but its own.
-use Rattle.std.proofs.Common.{◌≡◌, ◌≢◌, ℕ, ◌<◌, ◌≤◌, ⊎_elim, Bool, true, false, not, ◌||◌, Some, None, List, [], ◌∷◌, map}
+use Rattle.std.proofs.Common.{◌≡◌, ◌≢◌, ℕ, ◌<◌, ◌≤◌, ⊎_elim, Bool, true, false, not, Some, None, List, [], ◌∷◌, map}
 use Rattle.std.proofs.Common.{length, slice_get, slice_set, unwrap_or, refl, sym, ap, subst, ◌∙◌, arith}
 use Rattle.std.specs.List.{list_any}
 use Rattle.std.proofs.lemmas.Option.{slice_get_past}
-use Rattle.std.proofs.lemmas.Bool.{cases_lt}
+use Rattle.std.proofs.lemmas.Bool.{cases_lt, or_right}
 use Rattle.sc_text.proofs.EachItem.{Each, each_append}
 use Rattle.core_charts.specs.declared.features.Features.{Features}
 use Rattle.core_charts.specs.Chart.{Chart}
@@ -86,10 +86,6 @@ module _ (k : Table) (enters : (s : ℕ) → EnteredBy IsPrompt (state_at k s)) 
 
   -- ---- a step
 
-  either : (a b : Bool) → b ≡ true → (a || b) ≡ true
-  either true b e = refl
-  either false b e = e
-
   module _ (c : Configuration) (r s : ℕ) (t : Transition) (tests : List Transition) (stands : standing_of c r ≡ at.Trying s (t ∷ tests)) (q : ℕ)
       (now : is_late (unwrap_or (slice_get (slice_set c.regions r (at.Trying s tests)) q) at.Outside) ≡ true) where
     other : q ≢ r → is_late (standing_of c q) ≡ true
@@ -101,7 +97,7 @@ module _ (k : Table) (enters : (s : ℕ) → EnteredBy IsPrompt (state_at k s)) 
         ap (λ u. slice_get (slice_set c.regions u (at.Trying s tests)) q) (sym same) ∙ get_same c.regions q (at.Trying s tests) lt in
         let rest : list_any (λ z. not z.immediate) tests ≡ true = sym (ap (λ o. is_late (unwrap_or o at.Outside)) set) ∙ now in
         ap (λ u. is_late (standing_of c u)) same
-        ∙ (ap is_late stands ∙ either (not t.immediate) (list_any (λ z. not z.immediate) tests) rest)
+        ∙ (ap is_late stands ∙ or_right (not t.immediate) (list_any (λ z. not z.immediate) tests) rest)
 
     past_all : length c.regions ≤ q → is_late (standing_of c q) ≡ true
     past_all past =

@@ -3,6 +3,7 @@ use Rattle.std.proofs.Common.{◌≡◌, ◌≢◌, ℕ, zero, suc, ◌<◌, ⊎
 use Rattle.std.proofs.Common.{subst, ◌∙◌, arith}
 use Rattle.std.specs.List.{list_all, list_any}
 use Rattle.std.proofs.lemmas.Bool.{cases_lt}
+use Rattle.std.proofs.lemmas.List.{length-set}
 use Rattle.sc_values.specs.declared.value.Value.{Value}
 use Rattle.core_charts.specs.declared.region.Transition.{Transition}
 use Rattle.core_charts.specs.Aborts.{has_aborts}
@@ -14,22 +15,23 @@ use Rattle.chart_machine.specs.Table.{state_at}
 use Rattle.chart_machine.specs.Turns.{standing_of, has_ended, guards, is_guarded, inside}
 use Rattle.chart_machine.specs.Steps.{moved}
 use Rattle.abort_expansion.specs.Transitions.{led}
-use Rattle.tick_laws.proofs.Lists.{same_or_not, contained, map_contains}
+use Rattle.tick_laws.proofs.Lists.{same_or_not, contained}
 use Rattle.chart_machine_laws.proofs.LyingIn.{IsNested, around, holder, none_in, head_or_tail, head_in, tail_in, around_around}
-use Rattle.abort_expansion_laws.proofs.TablesCorrespond.{IsThere, contains_map}
+use Rattle.abort_expansion_laws.proofs.TablesCorrespond.{IsThere}
 use Rattle.abort_expansion_laws.specs.CoreRows.{own, IsState, Images, CoreRows, WatcherImage}
-use Rattle.abort_expansion_laws.proofs.Unchanged.{none_among, both_ways}
+use Rattle.abort_expansion_laws.proofs.Unchanged.{none_among, not_both}
 use Rattle.abort_expansion_laws.specs.Related.{IsCalm, calm_outside, front, held_back, is_behind, Stands, outside, ended, left, trying, acting, entering}
 use Rattle.abort_expansion_laws.specs.Related.{Related, guarding, staying, within, behind, Watches, elsewhere, IsInside, guarded, open_inside, Stores}
 use Rattle.abort_expansion_laws.specs.Related.{FlagsAreDown, still_in, not_ended, LooksFirst}
 use Rattle.abort_expansion_laws.proofs.Fronts.{front_same}
 use Rattle.abort_expansion_laws.proofs.StageReached.{inside_in, holds_other}
-use Rattle.abort_expansion_laws.proofs.Leaving.{drops, at_number, set_here, set_other, set_length, drops_in, drops_out, drops_length}
+use Rattle.abort_expansion_laws.proofs.Leaving.{drops, at_number, set_here, set_other, drops_in, drops_out, drops_length}
 use Rattle.abort_expansion_laws.proofs.InsideAround.{inside_around}
 use Rattle.abort_expansion_laws.proofs.TestFails.{watch_other}
 use Rattle.chart_machine_laws.proofs.ChartTables.{nothing_around}
 use Rattle.abort_expansion_laws.proofs.StandsInside.{inside_present}
 use Rattle.abort_expansion_laws.proofs.LooksFirst.{out_looks, still_looks}
+use Rattle.abort_expansion_laws.proofs.ThreadsAround.{thread_within, region_within}
 
 pub all_alike : (p q : ℕ → Bool) (xs : List ℕ) → ((x : ℕ) → Contains xs x → p x ≡ q x) → list_all p xs ≡ list_all q xs
 all_alike p q [] h = refl
@@ -99,12 +101,11 @@ module _ (k core : Table) (i : Images) (rows : CoreRows k core i) (tree : IsNest
 
     -- ---- the core's side
     in_core : (q : ℕ) → In q → Contains (around core (i.thread_of q)) (i.main_of o)
-    in_core q h = subst (λ zs. Contains zs (i.main_of o)) (sym (rows.encloses q)) (map_contains i.main_of (around k q) o h)
+    in_core q h = thread_within k core i rows q o h
 
     from_core : (q : ℕ) → Contains (around core (i.thread_of q)) (i.main_of o) → In q
     from_core q h =
-        let s = contains_map i.main_of (around k q) (i.main_of o) (subst (λ zs. Contains zs (i.main_of o)) (rows.encloses q) h) in
-        subst (Contains (around k q)) (rows.main_once s.0 o s.2) s.1
+        region_within k core i rows q o h
 
     core_same : (q : ℕ) → q ≢ r → ¬ In q → standing_of d' (i.thread_of q) ≡ standing_of d (i.thread_of q)
     core_same q ne out_q = go.others (i.thread_of q) (λ e. ne (rows.region_once q r e)) (λ h. out_q (from_core q h))
@@ -330,7 +331,7 @@ module _ (k core : Table) (i : Images) (rows : CoreRows k core i) (tree : IsNest
             let around_r : Contains (around k r) s = subst (λ p. Contains (around k p) s) e around_it in
             let kept : standing_of c' (holder k s) ≡ standing_of c (holder k s) =
             same (holder k s) (holds_other k tree r s around_r) (outer_out r s r_out around_r) in
-            both_ways (guards (standing_of c (holder k s))) (ap guards (sym kept) ∙ guarded_by)
+            not_both (guards (standing_of c (holder k s))) (ap guards (sym kept) ∙ guarded_by)
             (none_among (λ v. guards (standing_of c (holder k v))) (around k r) s go.free around_r)
 
         inner : In q → IsCalm (standing_of c' q)
@@ -340,7 +341,7 @@ module _ (k core : Table) (i : Images) (rows : CoreRows k core i) (tree : IsNest
         outer ne out_q = ⊎_elim by_r other (same_or_not (holder k s) r)
           where
             by_r : holder k s ≡ r → IsCalm (standing_of c' q)
-            by_r e = absurd (both_ways (guards y) (ap guards (sym here) ∙ (ap (λ p. guards (standing_of c' p)) (sym e) ∙ guarded_by)) go.no_guard)
+            by_r e = absurd (not_both (guards y) (ap guards (sym here) ∙ (ap (λ p. guards (standing_of c' p)) (sym e) ∙ guarded_by)) go.no_guard)
 
             other : holder k s ≢ r → IsCalm (standing_of c' q)
             other far_from =
@@ -367,7 +368,7 @@ module _ (k core : Table) (i : Images) (rows : CoreRows k core i) (tree : IsNest
             (tail_in (i.main_of u) (i.main_of o) (around core (i.thread_of (holder k u))) (in_core (holder k u) h)))
 
         not_by : holder k s ≢ r
-        not_by e = both_ways (guards y) (ap guards (sym here) ∙ (ap (λ p. guards (standing_of c' p)) (sym e) ∙ guarded_by)) go.no_guard
+        not_by e = not_both (guards y) (ap guards (sym here) ∙ (ap (λ p. guards (standing_of c' p)) (sym e) ∙ guarded_by)) go.no_guard
 
     pub dropped_out : Related k core i c' d'
     dropped_out =
@@ -375,7 +376,7 @@ module _ (k core : Table) (i : Images) (rows : CoreRows k core i) (tree : IsNest
           more = go.more;
           variables = go.variables;
           flag_count = go.flag_count;
-          chart_regions = ap length go.chart ∙ (set_length (moved (drops (inside k o)) c.regions) r y ∙
+          chart_regions = ap length go.chart ∙ (length-set (moved (drops (inside k o)) c.regions) r y ∙
               (drops_length (inside k o) c.regions ∙ related.chart_regions));
           core_regions = go.size ∙ related.core_regions;
           values = go.values;

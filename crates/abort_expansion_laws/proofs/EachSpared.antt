@@ -3,7 +3,7 @@ use Rattle.std.proofs.Common.{◌≡◌, ◌≢◌, ℕ, List, [], ◌∷◌, su
 use Rattle.sc_values.specs.Access.{Access, Precedes}
 use Rattle.sc_values.specs.Runs.{Machine, act_of}
 use Rattle.abort_expansion_laws.specs.Stages.{Entry, Image, Watched, Silent, Correspondence, core_act, Overwrites, IsSpared, EachSpared}
-use Rattle.abort_expansion_laws.proofs.Simulation.{Follows}
+use Rattle.abort_expansion_laws.proofs.Segments.{Follows}
 
 -- IsQuiet r a d: as long as the thread of region r takes no step from d on, no step inside is to come before a test with access a
 module _ (n : Machine) (k : Correspondence) (Told : n.Configuration → Entry → Type 0)

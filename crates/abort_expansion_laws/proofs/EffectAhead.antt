@@ -14,7 +14,7 @@ use Rattle.abort_expansion.specs.Transitions.{counting}
 use Rattle.abort_expansion_laws.specs.CoreRows.{Images, CoreRows}
 use Rattle.abort_expansion_laws.specs.Related.{Related}
 use Rattle.abort_expansion_laws.specs.Stages.{Entry}
-use Rattle.abort_expansion_laws.proofs.Simulation.{Segment}
+use Rattle.abort_expansion_laws.proofs.Segments.{Segment}
 use Rattle.abort_expansion_laws.proofs.StageReached.{Stage}
 use Rattle.abort_expansion_laws.proofs.ImageSteps.{pair}
 use Rattle.abort_expansion_laws.proofs.Supplying.{climbs_fewer}

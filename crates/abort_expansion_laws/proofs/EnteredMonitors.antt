@@ -16,12 +16,12 @@ use Rattle.chart_machine_laws.specs.Tree.{around, holder}
 use Rattle.chart_machine_laws.proofs.LyingIn.{head_in, tail_in}
 use Rattle.abort_expansion_laws.specs.CoreRows.{own, IsState, IsSuper, Images, flags_around}
 use Rattle.abort_expansion_laws.specs.Related.{Watches, elsewhere, IsInside, guarded, open_inside, Stores}
-use Rattle.abort_expansion_laws.proofs.InitialPairs.{in_map}
 use Rattle.abort_expansion_laws.proofs.Pending.{IsOpening, IsEmpty, Covered, Flagged, still_going}
 use Rattle.abort_expansion_laws.proofs.FreshInside.{Fresh}
 use Rattle.abort_expansion_laws.proofs.BeginningSorts.{Sort, sort_ends, sort_counts, sort_tries, sort_guards, sort_prepares, sort_opens, prepared_with}
-use Rattle.abort_expansion_laws.proofs.BeginningSorts.{not_both}
 use Rattle.abort_expansion_laws.proofs.JustEntered.{EntryRows, Reach, live, behind_preparation, nowhere, opening_of}
+use Rattle.abort_expansion_laws.proofs.Unchanged.{not_both}
+use Rattle.abort_expansion_laws.proofs.ThreadsAround.{thread_within}
 
 -- a superstate that is not prepared has no flags
 pub record Unflagged (k core : Table) (i : Images) (u : ℕ) : Type 0 where
@@ -104,7 +104,7 @@ module _ (k core : Table) (i : Images) (more : EntryRows k core i) (c e : Config
         inr (
           empty (i.watcher_of o) (subst (λ zs. Contains zs (i.main_of w)) (sym round)
               (tail_in (i.main_of o) (i.main_of w) (around core (i.thread_of (holder k o)))
-              (subst (λ zs. Contains zs (i.main_of w)) (sym (more.rows.encloses (holder k o))) (in_map i.main_of (around k (holder k o)) w inner)))),
+              (thread_within k core i more.rows (holder k o) w inner))),
           (w, opened, inr inner),
         )
     entered_watched (nowhere none core_none) =

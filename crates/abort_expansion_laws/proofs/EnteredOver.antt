@@ -16,17 +16,17 @@ use Rattle.chart_machine_laws.specs.Tree.{IsThere, around, holder}
 use Rattle.chart_machine_laws.proofs.LyingIn.{none_in, head_in, head_or_tail}
 use Rattle.chart_machine_laws.proofs.ChartTables.{around_there}
 use Rattle.abort_expansion_laws.specs.CoreRows.{own, IsState, joins, Images, flags_around, counter_over}
-use Rattle.abort_expansion_laws.proofs.TablesCorrespond.{contains_map}
 use Rattle.abort_expansion_laws.proofs.SettledInOrder.{ended_back}
-use Rattle.abort_expansion_laws.proofs.InitialPairs.{in_map}
 use Rattle.abort_expansion_laws.proofs.Pending.{IsOpening, IsEmpty, IsJoining, Over, behind_parts, behind_unprepared}
-use Rattle.abort_expansion_laws.proofs.BeginningSorts.{Sort, sort_ends, sort_counts, sort_tries, sort_guards, sort_prepares, sort_opens, not_both, sort_present}
+use Rattle.abort_expansion_laws.proofs.BeginningSorts.{Sort, sort_ends, sort_counts, sort_tries, sort_guards, sort_prepares, sort_opens, sort_present}
 use Rattle.abort_expansion_laws.proofs.JustEntered.{EntryRows, Reach, live, behind_preparation, nowhere}
 use Rattle.abort_expansion_laws.proofs.EnteredMonitors.{entered_watched}
 use Rattle.abort_expansion_laws.proofs.OpenForks.{all_over}
 use Rattle.abort_expansion_laws.proofs.ForkOver.{Gone, CoreGone, fork_over}
 use Rattle.abort_expansion_laws.proofs.InsideAround.{one_in_other}
 use Rattle.abort_expansion_laws.proofs.LooksFirst.{watch_gone}
+use Rattle.abort_expansion_laws.proofs.Unchanged.{not_both}
+use Rattle.abort_expansion_laws.proofs.ThreadsAround.{thread_within}
 
 module _ (k core : Table) (i : Images) (more : EntryRows k core i) (c e : Configuration)
     (counter_joins : (s x : ℕ) → (i.flags_of s).counter ≡ Some x → has_join (own k s) ≡ true)
@@ -52,12 +52,7 @@ module _ (k core : Table) (i : Images) (more : EntryRows k core i) (c e : Config
       (λ out. let wrong : at.Within s tests ≡ at.Outside = sym is ∙ out in absurd cc) gone
 
   thread_in : (q s : ℕ) → Contains (around k q) s → Contains (around core (i.thread_of q)) (i.main_of s)
-  thread_in q s h = subst (λ zs. Contains zs (i.main_of s)) (sym (more.rows.encloses q)) (in_map i.main_of (around k q) s h)
-
-  region_in : (q s : ℕ) → Contains (around core (i.thread_of q)) (i.main_of s) → Contains (around k q) s
-  region_in q s inner =
-      let v = contains_map i.main_of (around k q) (i.main_of s) (subst (λ zs. Contains zs (i.main_of s)) (more.rows.encloses q) inner) in
-      subst (Contains (around k q)) (more.rows.main_once v.0 s v.2) v.1
+  thread_in q s h = thread_within k core i more.rows q s h
 
   -- nothing inside of it is opened later
   no_preparation : (q : ℕ) → Contains (around k q) u → ((p : ℕ) → p < q → IsThere k p → Contains (around k p) u → IsGone p) →

@@ -1,5 +1,5 @@
 -- Of what was just entered: who is opened later is fresh and empty, and who is over already has nobody left inside.
-use Rattle.std.proofs.Common.{◌≡◌, ℕ, suc, true, false, Some, None, [], ◌∷◌, length, Contains, sym, subst, ◌∙◌}
+use Rattle.std.proofs.Common.{◌≡◌, ℕ, suc, true, false, Some, None, [], ◌∷◌, length, Contains, sym, ◌∙◌}
 use Rattle.chart_machine.specs.declared.standing.Standing.TheVariants as at
 use Rattle.chart_machine.specs.declared.standing.Configuration.{Configuration}
 use Rattle.chart_machine.specs.declared.table.Table.{Table}
@@ -11,16 +11,13 @@ use Rattle.abort_expansion.specs.Superstates.{is_prepared, resets}
 use Rattle.chart_machine_laws.specs.Tree.{IsThere, around, holder}
 use Rattle.abort_expansion_laws.specs.CoreRows.{own, joins, Images, flags_around}
 use Rattle.abort_expansion_laws.proofs.Pending.{IsOpening, IsEmpty, IsFresh, IsJoining, Over, behind_unprepared}
-use Rattle.abort_expansion_laws.proofs.InitialPairs.{in_map}
-use Rattle.abort_expansion_laws.proofs.BeginningSorts.{not_both}
 use Rattle.abort_expansion_laws.proofs.JustEntered.{EntryRows, Reach}
 use Rattle.abort_expansion_laws.proofs.EnteredMonitors.{IsOpen, to_prepare, opened_now, covered_by, entered_open}
 use Rattle.abort_expansion_laws.proofs.EnteredOver.{entered_over}
+use Rattle.abort_expansion_laws.proofs.Unchanged.{not_both}
+use Rattle.abort_expansion_laws.proofs.ThreadsAround.{thread_within}
 
 module _ (k core : Table) (i : Images) (more : EntryRows k core i) (c e : Configuration) where
-  thread_in : (q u : ℕ) → Contains (around k q) u → Contains (around core (i.thread_of q)) (i.main_of u)
-  thread_in q u h = subst (λ zs. Contains zs (i.main_of u)) (sym (more.rows.encloses q)) (in_map i.main_of (around k q) u h)
-
   pub opened_later : length c.regions ≡ suc (length k.regions) → (u : ℕ) → IsOpening k core i c e u → Reach k core i more c e (holder k u) →
       IsFresh k core i c u × (IsEmpty k core i c e u × (is_guarded k c (around k (holder k u)) ≡ false))
   opened_later chart_size u a reached = by_open (entered_open k core i more c e u a.tests a.open_in_chart reached)
@@ -30,7 +27,7 @@ module _ (k core : Table) (i : Images) (more : EntryRows k core i) (c e : Config
       by_open (opened_now free super plain) = absurd (not_both (is_prepared (flags_around k core i (holder k u)) (own k u)) a.prepared plain)
       by_open (covered_by w round opening empty) =
           let wrong : at.Trying (i.entry_of u) (go true None (resets (i.flags_of u) (length (state_at k u).regions)) a.fork ∷ []) ≡ at.Outside =
-          sym a.preparing ∙ empty (i.thread_of (holder k u)) (thread_in (holder k u) w round) in
+          sym a.preparing ∙ empty (i.thread_of (holder k u)) (thread_within k core i more.rows (holder k u) w round) in
           absurd cc
 
   pub over_now : ((s x : ℕ) → (i.flags_of s).counter ≡ Some x → has_join (own k s) ≡ true) → (u : ℕ) → IsJoining k core i c e u →
@@ -46,5 +43,5 @@ module _ (k core : Table) (i : Images) (more : EntryRows k core i) (c e : Config
       by_open (opened_now free super unprepared) = entered_over k core i more c e counter_joins u a free inside
       by_open (covered_by w round opening empty) =
           let wrong : at.Within (i.main_of u) (joins a.join ∷ []) ≡ at.Outside =
-          sym a.forked ∙ empty (i.thread_of (holder k u)) (thread_in (holder k u) w round) in
+          sym a.forked ∙ empty (i.thread_of (holder k u)) (thread_within k core i more.rows (holder k u) w round) in
           absurd cc

@@ -9,7 +9,7 @@ use Rattle.abort_expansion_laws.specs.Stages.{Entry, Silent}
 use Rattle.chart_machine_laws.proofs.LyingIn.{IsNested, around, holder}
 use Rattle.abort_expansion_laws.proofs.TablesCorrespond.{IsThere}
 use Rattle.abort_expansion_laws.specs.CoreRows.{IsState, Images, CoreRows}
-use Rattle.abort_expansion_laws.proofs.Simulation.{Segment}
+use Rattle.abort_expansion_laws.proofs.Segments.{Segment}
 use Rattle.abort_expansion_laws.proofs.OpenedRows.{OpenedRows, ForkRows}
 use Rattle.abort_expansion_laws.proofs.StageReached.{Stage}
 use Rattle.abort_expansion_laws.proofs.ImageSteps.{pair}

@@ -17,11 +17,11 @@ use Rattle.abort_expansion_laws.specs.Related.{Stands, outside, ended, trying, e
 use Rattle.abort_expansion_laws.specs.Related.{tests_of}
 use Rattle.abort_expansion_laws.proofs.EnteringSimple.{simple_once}
 use Rattle.abort_expansion_laws.proofs.TestFails.{no_front}
-use Rattle.abort_expansion_laws.proofs.InitialPairs.{in_map}
 use Rattle.abort_expansion_laws.proofs.Pending.{IsJoining, Waits, settled, opening, starting, joining, ending, hidden}
 use Rattle.abort_expansion_laws.proofs.Pending.{behind_parts}
 use Rattle.abort_expansion_laws.proofs.BeginningSorts.{Sort, sort_ends, sort_counts, sort_tries, sort_guards, sort_prepares, sort_opens}
 use Rattle.abort_expansion_laws.proofs.JustEntered.{EntryRows, JustOpen, Live, Reach, live, behind_preparation, nowhere, opening_of}
+use Rattle.abort_expansion_laws.proofs.ThreadsAround.{thread_within}
 
 module _ (k core : Table) (i : Images) (more : EntryRows k core i) (c e : Configuration)
     (alone : (v : ℕ) → (state_at core v).regions ≡ [] → inside core v ≡ []) where
@@ -40,11 +40,7 @@ module _ (k core : Table) (i : Images) (more : EntryRows k core i) (c e : Config
   abbrev reached : ℕ → Type 0
   reached q = Reach k core i more c e q
 
-  thread_in : (q u : ℕ) → Contains (around k q) u → Contains (around core (i.thread_of q)) (i.main_of u)
-  thread_in q u h = subst (λ zs. Contains zs (i.main_of u)) (sym (more.rows.encloses q)) (in_map i.main_of (around k q) u h)
-
   -- ---- regions
-
   settle : (q : ℕ) (x y : Standing) → standing_of c q ≡ x → standing_of e (i.thread_of q) ≡ y → Stands k core i c q x y → Waits k core i c e q
   settle q x y in_chart in_core stands =
       settled (subst (λ z. Stands k core i c q z (standing_of e (i.thread_of q))) (sym in_chart) (subst (Stands k core i c q x) (sym in_core) stands))
@@ -152,5 +148,5 @@ module _ (k core : Table) (i : Images) (more : EntryRows k core i) (c e : Config
 
   pub entered_waits : (q : ℕ) → reached q → Waits k core i c e q
   entered_waits q (live l) = live_waits q l l.sort
-  entered_waits q (behind_preparation w inner o empty) = hidden w inner o (empty (i.thread_of q) (thread_in q w inner))
+  entered_waits q (behind_preparation w inner o empty) = hidden w inner o (empty (i.thread_of q) (thread_within k core i more.rows q w inner))
   entered_waits q (nowhere none core_none) = settle q at.Outside at.Outside (none q (itself refl)) (core_none (i.thread_of q) (itself refl)) outside

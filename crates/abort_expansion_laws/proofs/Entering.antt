@@ -16,7 +16,7 @@ use Rattle.abort_expansion_laws.specs.StageReached.{Stage}
 use Rattle.abort_expansion_laws.specs.CoreRows.{own, IsState, is_final, IsSuper, Images, flags_around, counter_over, pair}
 use Rattle.abort_expansion_laws.specs.Related.{Related}
 use Rattle.abort_expansion_laws.proofs.Supplying.{climbs_fewer}
-use Rattle.abort_expansion_laws.proofs.Simulation.{Segment}
+use Rattle.abort_expansion_laws.proofs.Segments.{Segment}
 use Rattle.abort_expansion_laws.proofs.Owed.{Counts, Enters, chart_enters, core_enters}
 use Rattle.abort_expansion_laws.proofs.StartingRegions.{CounterRows}
 use Rattle.abort_expansion_laws.proofs.EnteredMonitors.{Unflagged}

@@ -33,7 +33,7 @@ no_check : (left : ℕ) (f : Option ℕ) → at_once (check false left f) ≡ []
 no_check left None = refl
 no_check left (Some x) = refl
 
-each_check : (left : ℕ) (f : Option ℕ) → at_once (check true left f) ≡ check true left f
+pub each_check : (left : ℕ) (f : Option ℕ) → at_once (check true left f) ≡ check true left f
 each_check left None = refl
 each_check left (Some x) = refl
 

@@ -1,6 +1,7 @@
 -- The last strong abort of a superstate on entry is not taken: the superstate is opened, and its thread comes to the resets of the
 -- preparation.
 use Rattle.std.proofs.Common.{◌≡◌, ◌≢◌, ℕ, suc, ◌≤◌, true, false, None, [], ◌∷◌, length, slice_set, Contains, refl, sym, ap, subst, ◌∙◌, arith}
+use Rattle.std.proofs.lemmas.List.{length-set}
 use Rattle.core_charts.specs.declared.region.Transition.{Transition}
 use Rattle.core_charts.specs.Tests.{first_closing_tests}
 use Rattle.chart_machine.specs.declared.standing.Standing.{Standing}
@@ -16,7 +17,7 @@ use Rattle.chart_machine_laws.specs.Tree.{IsThere, around, holder}
 use Rattle.abort_expansion_laws.specs.CoreRows.{own, IsState, Images, flags_around}
 use Rattle.abort_expansion_laws.specs.Related.{Related, IsInside}
 use Rattle.abort_expansion_laws.specs.StageReached.{stage_of}
-use Rattle.abort_expansion_laws.proofs.Leaving.{set_here, set_other, set_length, moved_size}
+use Rattle.abort_expansion_laws.proofs.Leaving.{set_here, set_other, moved_size}
 use Rattle.abort_expansion_laws.proofs.TableEnds.{prepared_apart}
 use Rattle.abort_expansion_laws.proofs.KnownVariables.{present_there}
 use Rattle.abort_expansion_laws.proofs.FreshInside.{Fresh, NobodyIn, ElsewhereNobody, moved_alike, one_state}
@@ -87,7 +88,7 @@ module _ (k core : Table) (i : Images) (more : EntryRows k core i) (c d : Config
 
   fresh : Fresh k (suc (length k.regions)) (standing_of next) s
   fresh zs size none p inner =
-      moved_alike (state_at k s).opened (slice_set c.regions q opened) zs p (set_length c.regions q opened ∙ (related.chart_regions ∙ sym size))
+      moved_alike (state_at k s).opened (slice_set c.regions q opened) zs p (length-set c.regions q opened ∙ (related.chart_regions ∙ sym size))
       (set_other c.regions q p opened (other p s inner thread.held) ∙ (nobody p s inner thread.held ∙ sym (none p inner)))
 
   others : ElsewhereNobody k (suc (length k.regions)) (standing_of next) q s
@@ -126,7 +127,7 @@ module _ (k core : Table) (i : Images) (more : EntryRows k core i) (c d : Config
         free = free;
         none = nobody;
         chart_regions = moved_size (to q opened ∷ (state_at k s).opened) c.regions ∙ related.chart_regions;
-        core_regions = set_length d.regions g resetting ∙ related.core_regions;
+        core_regions = length-set d.regions g resetting ∙ related.core_regions;
         chart_values = refl;
         core_values = refl;
         unchanged = unchanged;

@@ -14,7 +14,7 @@ use Rattle.chart_machine.specs.Machine.{machine}
 use Rattle.abort_expansion.specs.Transitions.{go, led_by}
 use Rattle.abort_expansion.specs.Superstates.{is_prepared, resets}
 use Rattle.abort_expansion_laws.specs.Stages.{Entry, Image}
-use Rattle.abort_expansion_laws.proofs.Simulation.{Segment}
+use Rattle.abort_expansion_laws.proofs.Segments.{Segment}
 use Rattle.chart_machine_laws.proofs.LyingIn.{IsNested, around, holder}
 use Rattle.abort_expansion_laws.proofs.TablesCorrespond.{IsThere}
 use Rattle.abort_expansion_laws.proofs.MoreValues.{verdict_over_more}

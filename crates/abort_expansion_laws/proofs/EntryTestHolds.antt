@@ -20,8 +20,8 @@ use Rattle.chart_machine_laws.proofs.LyingIn.{IsNested, around, head_in, tail_in
 use Rattle.abort_expansion_laws.specs.CoreRows.{IsState, Images, CoreRows}
 use Rattle.abort_expansion_laws.specs.Related.{acting, Watches, IsInside, Related}
 use Rattle.abort_expansion_laws.specs.Stages.{Entry, Image, Silent}
-use Rattle.abort_expansion_laws.proofs.Simulation.{Segment}
 use Rattle.abort_expansion_laws.proofs.TablesCorrespond.{IsThere}
+use Rattle.abort_expansion_laws.proofs.Segments.{Segment}
 use Rattle.abort_expansion_laws.proofs.MoreValues.{verdict_over_more}
 use Rattle.abort_expansion_laws.proofs.Unchanged.{stands_same, never_guarded, nobody_lies}
 use Rattle.abort_expansion_laws.proofs.StageReached.{Stage}

@@ -2,6 +2,7 @@
 use Rattle.std.proofs.Common.{◌≡◌, ◌≢◌, ℕ, pos, ◌<◌, ◌≤◌, ⊎_elim, Bool, true, false, Option, Some, None, List, [], ◌∷◌, ◌++◌, length, slice_get}
 use Rattle.std.proofs.Common.{slice_set, refl, sym, ap, subst, ◌∙◌, arith}
 use Rattle.std.proofs.lemmas.Option.{same_Some}
+use Rattle.std.proofs.lemmas.List.{length-set}
 use Rattle.sc_values.specs.declared.value.Value.TheVariants as value_is
 use Rattle.sc_values.specs.Access.{Access}
 use Rattle.core_charts.specs.declared.region.Transition.{Transition}
@@ -16,10 +17,9 @@ use Rattle.abort_expansion.specs.Transitions.{go, is_raised, check, strong_check
 use Rattle.tick_laws.proofs.Lists.{same_or_not}
 use Rattle.abort_expansion_laws.specs.Stages.{Entry, Silent, Correspondence, ReadsFlag, Climbs}
 use Rattle.abort_expansion_laws.proofs.Supplying.{climbs_step, silent_test, tests}
-use Rattle.abort_expansion_laws.proofs.Simulation.{Segment}
+use Rattle.abort_expansion_laws.proofs.Segments.{Segment}
 use Rattle.chart_machine_laws.proofs.LyingIn.{around}
 use Rattle.abort_expansion_laws.proofs.Unchanged.{stands_same, stands_other, unguarded}
-use Rattle.abort_expansion_laws.proofs.Leaving.{set_length}
 use Rattle.abort_expansion_laws.proofs.TestFails.{tested_is}
 use Rattle.abort_expansion_laws.proofs.MoreValues.{lowered_verdict}
 use Rattle.abort_expansion_laws.proofs.FlagAccess.{raised_access}
@@ -106,7 +106,7 @@ module _ (core : Table) (corr : Correspondence) (Told : Configuration → Entry 
       let others : (t : ℕ) → t ≢ g → standing_of d1 t ≡ standing_of d t = λ t ne. stands_other d d1 g t (at.Trying u more) refl ne in
       let calm : Calm d1 = λ t. ⊎_elim (λ e. ap (λ z. has_to_guard (standing_of d1 z)) e ∙ ap has_to_guard here)
       (λ ne. ap has_to_guard (others t ne) ∙ none t) (same_or_not t g) in
-      let s : Passed d1 rest = on_rest d1 calm (let size = set_length d.regions g (at.Trying u more) in omega (lt, size, arith)) (all_on d d1 refl fs down.1)
+      let s : Passed d1 rest = on_rest d1 calm (let size = length-set d.regions g (at.Trying u more) in omega (lt, size, arith)) (all_on d d1 refl fs down.1)
       here in
       record {
         log = Silent g (Some (corr.home x, 1)) (tests x) ∷ s.log;
@@ -119,7 +119,7 @@ module _ (core : Table) (corr : Correspondence) (Told : Configuration → Entry 
         charted = s.charted;
         fits = (silent_test corr g (Some (corr.home x, 1)) x own.flag own.reads, s.fits);
         climbs = λ rests climbs. climbs_down x (tests x) d (s.log ++ rests) own (s.climbs rests climbs);
-        reaches = (s.reaches.0, (s.reaches.1.0, (λ t ne. s.reaches.1.1.0 t ne ∙ others t ne, s.reaches.1.1.1 ∙ set_length d.regions g (at.Trying u more))));
+        reaches = (s.reaches.0, (s.reaches.1.0, (λ t ne. s.reaches.1.1.0 t ne ∙ others t ne, s.reaches.1.1.1 ∙ length-set d.regions g (at.Trying u more))));
       }
 
   -- whether they are looked at at once, as in continuations, or not, as in monitors

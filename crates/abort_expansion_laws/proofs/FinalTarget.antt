@@ -16,13 +16,12 @@ use Rattle.tick_laws.proofs.Lists.{same_or_not}
 use Rattle.chart_machine_laws.specs.Tree.{IsThere, holder}
 use Rattle.abort_expansion_laws.specs.CoreRows.{own, is_final, Images, ends}
 use Rattle.abort_expansion_laws.specs.Related.{Related, IsInside, guarded, open_inside, IsCalm, calm_ended}
-use Rattle.abort_expansion_laws.proofs.Unchanged.{stands_same, stands_other}
+use Rattle.abort_expansion_laws.proofs.Unchanged.{stands_same, stands_other, not_both}
 use Rattle.abort_expansion_laws.proofs.KnownVariables.{present_there}
 use Rattle.abort_expansion_laws.proofs.EffectFollowed.{IsActing, acting_back}
 use Rattle.abort_expansion_laws.proofs.Owed.{chart_enters, core_enters}
 use Rattle.abort_expansion_laws.proofs.StateEntry.{Entry, entry_ends, entry_tries, entry_guards, entry_opens}
 use Rattle.abort_expansion_laws.proofs.InitialPairs.{held_there}
-use Rattle.abort_expansion_laws.proofs.BeginningSorts.{not_both}
 use Rattle.abort_expansion_laws.proofs.JustEntered.{EntryRows}
 use Rattle.abort_expansion_laws.proofs.Pending.{Sound}
 use Rattle.abort_expansion_laws.proofs.Leaving.{moved_size}

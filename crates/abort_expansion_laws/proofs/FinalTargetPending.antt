@@ -19,7 +19,6 @@ use Rattle.abort_expansion_laws.proofs.StageReached.{stage_of, Stage}
 use Rattle.abort_expansion_laws.proofs.SettledInOrder.{ended_back}
 use Rattle.abort_expansion_laws.proofs.Owed.{Counts}
 use Rattle.abort_expansion_laws.proofs.StartingRegions.{CounterRows}
-use Rattle.abort_expansion_laws.proofs.BeginningSorts.{not_both}
 use Rattle.abort_expansion_laws.proofs.JustEntered.{EntryRows}
 use Rattle.abort_expansion_laws.proofs.StagesEntered.{reached_then}
 use Rattle.abort_expansion_laws.proofs.Pending.{IsOpening, IsStarting, Flagged, Pending, IsBusy, starts, opens, joins_then, Reached}
@@ -29,6 +28,7 @@ use Rattle.abort_expansion_laws.proofs.FinalTargetValues as values_now
 use Rattle.abort_expansion_laws.proofs.FinalTargetWaits.{watcher_apart, final_waits, final_watched}
 use Rattle.abort_expansion_laws.proofs.FinalTargetOver.{child, final_over}
 use Rattle.abort_expansion_laws.proofs.LooksFirst.{still_looks}
+use Rattle.abort_expansion_laws.proofs.Unchanged.{not_both}
 
 module _ (k core : Table) (i : Images) (more : EntryRows k core i) (holds_there : (s : ℕ) → IsState k s → IsThere k (holder k s))
     (counts : ℕ → Bool) (written_at : ℕ → ℕ) (counters : CounterRows k core i more.rows counts written_at)

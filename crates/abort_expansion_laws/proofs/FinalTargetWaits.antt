@@ -21,11 +21,11 @@ use Rattle.abort_expansion_laws.proofs.Fronts.{front_same}
 use Rattle.abort_expansion_laws.proofs.StageReached.{any_in}
 use Rattle.abort_expansion_laws.proofs.TestFails.{watch_other}
 use Rattle.abort_expansion_laws.proofs.DropsOut.{all_alike}
-use Rattle.abort_expansion_laws.proofs.BeginningSorts.{not_both}
 use Rattle.abort_expansion_laws.proofs.JustEntered.{EntryRows}
 use Rattle.abort_expansion_laws.proofs.OpenForks.{not_over, fork_of}
 use Rattle.abort_expansion_laws.proofs.Pending.{IsJoining, Waits, settled, joining, ending, behind_parts}
 use Rattle.abort_expansion_laws.proofs.FinalTarget as target
+use Rattle.abort_expansion_laws.proofs.Unchanged.{not_both}
 
 module _ (k core : Table) (i : Images) (more : EntryRows k core i) (holds_there : (s : ℕ) → IsState k s → IsThere k (holder k s))
     (c d : Configuration) (related : Related k core i c d) (r s p : ℕ) (e : Effect)

@@ -1,9 +1,8 @@
 -- The first tick enters the regions of a chart: what of it waits in the core, and what holds of the chart alone.
-use Rattle.std.proofs.Common.{◌≡◌, ◌≢◌, ℕ, zero, suc, ◌<◌, ◌⊎◌, inl, inr, ⊎_elim, true, List, [], ◌∷◌, map, length, unwrap_or}
+use Rattle.std.proofs.Common.{◌≡◌, ◌≢◌, ℕ, zero, suc, ◌<◌, ◌⊎◌, inl, inr, ⊎_elim, true, List, [], ◌∷◌, map, length}
 use Rattle.std.proofs.Common.{Contains, refl, sym, ap, subst, ◌∙◌, arith}
 use Rattle.std.specs.List.{list_all}
 use Rattle.std.proofs.lemmas.List.{length-map, append-nil}
-use Rattle.std.proofs.lemmas.Option.{slice_get_past}
 use Rattle.sc_values.specs.Operator.{initial_value}
 use Rattle.sc_graph.specs.Tick.{Inputs}
 use Rattle.chart_machine.specs.declared.standing.Standing.{Standing}
@@ -14,22 +13,21 @@ use Rattle.chart_machine.specs.declared.table.Table.{Table}
 use Rattle.chart_machine.specs.Turns.{standing_of, is_guarded, LiesIn, itself, deeper}
 use Rattle.chart_machine.specs.Steps.{moved}
 use Rattle.chart_machine.specs.Machine.{initial, start, is_outside, regions_at_start}
-use Rattle.tick_laws.proofs.Lists.{contained}
+use Rattle.tick_laws.proofs.Lists.{contained, contains_map, map_contains}
 use Rattle.chart_machine_laws.specs.Tree.{IsThere, around, holder}
 use Rattle.chart_machine_laws.proofs.LyingIn.{none_in, head_in, head_or_tail}
-use Rattle.chart_machine_laws.proofs.ChartTables.{within_or_past}
 use Rattle.abort_expansion_laws.specs.CoreRows.{IsState, Images}
 use Rattle.abort_expansion_laws.specs.Related.{IsInside, open_inside}
-use Rattle.abort_expansion_laws.proofs.TablesCorrespond.{contains_map}
 use Rattle.abort_expansion_laws.proofs.Leaving.{at_number, moved_size}
 use Rattle.abort_expansion_laws.proofs.StartingRegions.{Once}
 use Rattle.abort_expansion_laws.proofs.WokenConfigurations.{started_size}
 use Rattle.abort_expansion_laws.proofs.EnteredAlike.{AreEntered}
 use Rattle.abort_expansion_laws.proofs.FreshInside.{Begins, all_entered, all_apart, in_one, look, begins_alike, nobody, nobody_there, nobody_size}
-use Rattle.abort_expansion_laws.proofs.InitialPairs.{Initials, initials, held_by, held_there, in_map, once_mapped}
+use Rattle.abort_expansion_laws.proofs.InitialPairs.{Initials, initials, held_by, held_there, once_mapped}
 use Rattle.abort_expansion_laws.proofs.BeginningSorts.{Sort, sort_of, begins_so}
 use Rattle.abort_expansion_laws.proofs.JustEntered.{EntryRows, Live, Reach, live, nowhere, Above, reach}
 use Rattle.abort_expansion_laws.proofs.ChartEntered.{Stood, stood_of, WasEntered, ChartReach, was_entered, none_there, ChartAbove, chart_reach, stood_present}
+use Rattle.abort_expansion_laws.proofs.NumberedRegions.{is_region}
 
 -- ---- where nobody was, the regions of the chart are entered
 
@@ -83,7 +81,7 @@ module _ (k core : Table) (i : Images) (more : EntryRows k core i)
   -- ---- the states in which the regions of the chart begin
 
   top_of : (x : ℕ) → Contains init.firsts x → Contains tops (holder k x)
-  top_of x h = subst (λ zs. Contains zs (holder k x)) init.holders (in_map (holder k) init.firsts x h)
+  top_of x h = subst (λ zs. Contains zs (holder k x)) init.holders (map_contains (holder k) init.firsts x h)
 
   level : (x : ℕ) → Contains init.firsts x → IsState k x × (around k (holder k x) ≡ []) × (holder k x < length (nobody k))
   level x h =
@@ -92,7 +90,7 @@ module _ (k core : Table) (i : Images) (more : EntryRows k core i)
 
   core_top : (y : ℕ) → Contains init.core_firsts y → (r : ℕ) × Contains tops r × (i.thread_of r ≡ holder core y)
   core_top y h =
-      contains_map i.thread_of tops (holder core y) (subst (λ zs. Contains zs (holder core y)) init.threads (in_map (holder core) init.core_firsts y h))
+      contains_map i.thread_of tops (holder core y) (subst (λ zs. Contains zs (holder core y)) init.threads (map_contains (holder core) init.core_firsts y h))
 
   bare : (r : ℕ) → Contains tops r → around core (i.thread_of r) ≡ []
   bare r h = more.rows.encloses r ∙ ap (map i.main_of) (top_there r h).1
@@ -243,13 +241,7 @@ module _ (k core : Table) (i : Images) (more : EntryRows k core i)
       not_zero t low (deeper u inner held) = none_in u inner
 
   pub present_there : (r : ℕ) → standing_of at_first r ≢ at.Outside → IsThere k r
-  present_there zero present = absurd (present no_region)
-  present_there (suc j) present =
-      ⊎_elim (λ lt. (omega arith, omega (lt, arith)))
-      (λ past.
-      absurd (present (ap (λ o. unwrap_or o at.Outside)
-      (slice_get_past at_first.regions (suc j) (let size = first_size k inputs in omega (past, size, arith))))))
-      (within_or_past j (length k.regions))
+  present_there = is_region k at_first no_region (first_size k inputs)
 
   -- who is there is inside of all that is around it
   -- from a region whose superstates around are entered to one of them

@@ -20,7 +20,7 @@ use Rattle.abort_expansion_laws.specs.CoreRows.{Images, pair}
 use Rattle.abort_expansion_laws.specs.Related.{Related}
 use Rattle.abort_expansion_laws.specs.StageReached.{Stage}
 use Rattle.abort_expansion_laws.proofs.Supplying.{climbs_fewer}
-use Rattle.abort_expansion_laws.proofs.Simulation.{Segment}
+use Rattle.abort_expansion_laws.proofs.Segments.{Segment}
 use Rattle.abort_expansion_laws.proofs.Pending.{Sound, Pending, Reached}
 use Rattle.abort_expansion_laws.proofs.WalkedWhole.{entered}
 use Rattle.abort_expansion_laws.proofs.FlagNumbers.{numbers_once}

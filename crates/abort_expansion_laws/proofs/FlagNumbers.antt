@@ -54,11 +54,6 @@ numbers_once (x ∷ regions) n r h =
 
 -- ---- of flags
 
-pub given_apart : (a b : Bool) (x y : ℕ) → x ≢ y → Apart (given a x) (given b y)
-given_apart true true x y ne = ne
-given_apart true false x y ne = tt
-given_apart false b x y ne = tt
-
 module _ (weak : Bool) (all : List Transition) (x : ℕ) where
   abbrev pub f : Flags
   f = flags_of weak all x

@@ -1,6 +1,6 @@
 -- At which stages the flags and counters of a core chart count as written. As a rule, strong flags at stage 0, counters at 1, weak flags at 2. Where who
 -- leaves looks at the weak flags of some superstates early, these count as written at stage 0.
-use Rattle.std.proofs.Common.{◌≡◌, ◌≢◌, ℕ, ◌<◌, ◌⊎◌, inl, inr, ⊎_elim, Bool, true, false, ◌||◌, if◌then◌else◌, Option, Some, None, List, [], ◌∷◌}
+use Rattle.std.proofs.Common.{◌≡◌, ◌≢◌, ℕ, ◌<◌, ◌⊎◌, inl, inr, Bool, true, false, if◌then◌else◌, Option, Some, None, List}
 use Rattle.std.proofs.Common.{Contains, refl, sym, ap, subst, ◌∙◌, arith}
 use Rattle.std.specs.List.{list_any}
 use Rattle.std.proofs.lemmas.Bool.Decides.{Decides-eqb}
@@ -10,29 +10,19 @@ use Rattle.core_charts.specs.Rules.{IsChart}
 use Rattle.chart_machine.specs.declared.table.Table.{Table}
 use Rattle.chart_machine.specs.Table.{table}
 use Rattle.abort_expansion.specs.Expansion.{expanded}
-use Rattle.chart_machine_laws.proofs.LyingIn.{around, holder, none_in, head_or_tail}
+use Rattle.chart_machine_laws.proofs.LyingIn.{around, holder}
 use Rattle.abort_expansion_laws.specs.CoreRows.{Images, CoreRows}
 use Rattle.abort_expansion_laws.proofs.FlagNumbers.{is_it, is_it_self}
 use Rattle.abort_expansion_laws.proofs.MoreRows.{counter_rows, is_counter, opening_rows, stage_of_write, strong_at, weak_at, writes_low}
 use Rattle.abort_expansion_laws.proofs.Resets.{Apart}
 use Rattle.abort_expansion_laws.proofs.RowsOfCharts as whole
-use Rattle.abort_expansion_laws.proofs.StageReached.{holds_other}
+use Rattle.abort_expansion_laws.proofs.StageReached.{holds_other, any_in}
 use Rattle.abort_expansion_laws.proofs.StartingRegions.{CounterRows}
 use Rattle.abort_expansion_laws.proofs.WeakSeen.{any_none}
 
-it_is : (o : Option ℕ) (x : ℕ) → is_it o x ≡ true → o ≡ Some x
+pub it_is : (o : Option ℕ) (x : ℕ) → is_it o x ≡ true → o ≡ Some x
 it_is None x e = absurd cc
 it_is (Some y) x e = ap Some ((Decides-eqb y x).0 e)
-
-any_some : (p : ℕ → Bool) (xs : List ℕ) (y : ℕ) → Contains xs y → p y ≡ true → list_any p xs ≡ true
-any_some p [] y h e = absurd (none_in y h)
-any_some p (x ∷ xs) y h e =
-    ⊎_elim (λ same. let its : p x ≡ true = ap p same ∙ e in rw (its) refl)
-    (λ tail. or_second (p x) (list_any p xs) (any_some p xs y tail e)) (head_or_tail x y xs h)
-  where
-    or_second : (a b : Bool) → b ≡ true → (a || b) ≡ true
-    or_second true b e = refl
-    or_second false b e = e
 
 module _ (c : Chart) (rules : IsChart features.Extended c) (core_rules : IsChart features.Core (expanded c)) where
   abbrev k : Table
@@ -91,7 +81,7 @@ module _ (c : Chart) (rules : IsChart features.Extended c) (core_rules : IsChart
 
     pub early_zero : (s x : ℕ) → Contains early s → (i.flags_of s).weak ≡ Some x → early_write x ≡ 0
     early_zero s x among weak =
-        ap (λ b. staged b x) (any_some (λ u. is_it (i.flags_of u).weak x) early s among (is_it_self (i.flags_of s).weak x weak))
+        ap (λ b. staged b x) (any_in (λ u. is_it (i.flags_of u).weak x) early s among (is_it_self (i.flags_of s).weak x weak))
 
     -- a flag of a superstate belongs to no other one
     not_early : (s x : ℕ) → ((i.flags_of s).strong ≡ Some x) ⊎ (((i.flags_of s).weak ≡ Some x) ⊎ ((i.flags_of s).counter ≡ Some x)) →

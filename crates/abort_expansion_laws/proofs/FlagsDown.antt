@@ -8,7 +8,6 @@ use Rattle.chart_machine.specs.declared.standing.Standing.{Standing}
 use Rattle.chart_machine.specs.declared.standing.Configuration.{Configuration}
 use Rattle.chart_machine.specs.declared.table.Table.{Table}
 use Rattle.chart_machine.specs.Turns.{standing_of, guards as has_to_guard}
-use Rattle.tick_laws.proofs.Lists.{map_contains}
 use Rattle.abort_expansion_laws.specs.Stages.{Entry, Silent, Correspondence}
 use Rattle.chart_machine_laws.proofs.LyingIn.{IsNested, around, holder, head_in, tail_in}
 use Rattle.chart_machine_laws.specs.Tree.{IsThere}
@@ -21,6 +20,7 @@ use Rattle.abort_expansion_laws.proofs.StandsInside.{inside_present}
 use Rattle.abort_expansion_laws.proofs.StartingRegions.{CounterRows}
 use Rattle.abort_expansion_laws.proofs.OpensFork.{OpeningRows}
 use Rattle.abort_expansion_laws.proofs.FailedChecks.{IsDown, AllDown}
+use Rattle.abort_expansion_laws.proofs.ThreadsAround.{thread_within}
 
 module _ (k core : Table) (i : Images) (rows : CoreRows k core i) (tree : IsNested k) (counts : ℕ → Bool) (written_at : ℕ → ℕ)
     (counters : CounterRows k core i rows counts written_at) (opening : OpeningRows k core i rows)
@@ -95,4 +95,4 @@ pub monitor_lies : (k core : Table) (i : Images) (rows : CoreRows k core i) (o :
 monitor_lies k core i rows o here has s inner =
     subst (λ zs. Contains zs (i.main_of s)) (sym (rows.watcher o here has).encloses)
     (tail_in (i.main_of o) (i.main_of s) (around core (i.thread_of (holder k o)))
-    (subst (λ zs. Contains zs (i.main_of s)) (sym (rows.encloses (holder k o))) (map_contains i.main_of (around k (holder k o)) s inner)))
+    (thread_within k core i rows (holder k o) s inner))

@@ -1,5 +1,6 @@
 -- A fork of what is over is joined: the second of the steps by which what was entered settles.
 use Rattle.std.proofs.Common.{◌≡◌, ◌≢◌, ℕ, ◌<◌, Bool, Option, Some, ◌∷◌, length, Contains, ◌∙◌}
+use Rattle.std.proofs.lemmas.List.{length-set}
 use Rattle.sc_values.specs.Access.{Access}
 use Rattle.chart_machine.specs.declared.standing.Standing.TheVariants as at
 use Rattle.chart_machine.specs.declared.standing.Configuration.{Configuration}
@@ -11,7 +12,7 @@ use Rattle.abort_expansion_laws.specs.Stages.{Entry, Silent, Correspondence}
 use Rattle.chart_machine_laws.proofs.LyingIn.{IsNested, around, holder}
 use Rattle.abort_expansion_laws.proofs.TablesCorrespond.{IsThere}
 use Rattle.abort_expansion_laws.specs.CoreRows.{IsState, Images, CoreRows}
-use Rattle.abort_expansion_laws.proofs.Leaving.{drops, set_other, set_length, drops_in, drops_out, drops_length}
+use Rattle.abort_expansion_laws.proofs.Leaving.{drops, set_other, drops_in, drops_out, drops_length}
 use Rattle.abort_expansion_laws.proofs.ImageSteps.{pair}
 use Rattle.abort_expansion_laws.proofs.Pending.{Sound, IsJoining, Pending, Reached}
 use Rattle.abort_expansion_laws.proofs.StartingRegions.{CounterRows}
@@ -46,7 +47,7 @@ module _ (k core : Table) (i : Images) (rows : CoreRows k core i) (tree : IsNest
   out_drop t ne out = set_other (moved (drops (inside core (i.main_of s))) d.regions) g t _ ne ∙ drops_out (inside core (i.main_of s)) d.regions t out
 
   size_after : length e1.regions ≡ length d.regions
-  size_after = set_length (moved (drops (inside core (i.main_of s))) d.regions) g _ ∙ drops_length (inside core (i.main_of s)) d.regions
+  size_after = length-set (moved (drops (inside core (i.main_of s))) d.regions) g _ ∙ drops_length (inside core (i.main_of s)) d.regions
 
   pub joined_up : Piece k core i rows tree counts written_at Told deeper c sound r d
   joined_up =

@@ -12,10 +12,11 @@ use Rattle.chart_machine_laws.proofs.LyingIn.{head_in, head_or_tail}
 use Rattle.chart_machine_laws.proofs.ChartTables.{around_there}
 use Rattle.abort_expansion_laws.specs.CoreRows.{own, IsState, Images}
 use Rattle.abort_expansion_laws.proofs.InsideAround.{inside_around}
-use Rattle.abort_expansion_laws.proofs.TablesCorrespond.{contains_map}
-use Rattle.abort_expansion_laws.proofs.BeginningSorts.{not_both}
 use Rattle.abort_expansion_laws.proofs.JustEntered.{EntryRows}
 use Rattle.abort_expansion_laws.proofs.Pending.{IsJoining, Over, behind_parts}
+use Rattle.abort_expansion_laws.proofs.Unchanged.{not_both}
+use Rattle.abort_expansion_laws.proofs.ThreadsAround.{region_within}
+use Rattle.tick_laws.proofs.Lists.{contains_map}
 
 module _ (k core : Table) (i : Images) (more : EntryRows k core i) (c e : Configuration) (u : ℕ) (joining : IsJoining k core i c e u) where
   -- who lies in it is gone: its own regions have ended, and nobody is deeper inside
@@ -52,8 +53,7 @@ module _ (k core : Table) (i : Images) (more : EntryRows k core i) (c e : Config
 
       region_in : (q : ℕ) → Contains (around core (i.thread_of q)) (i.main_of u) → Contains (around k q) u
       region_in q inner =
-          let v = contains_map i.main_of (around k q) (i.main_of u) (subst (λ zs. Contains zs (i.main_of u)) (more.rows.encloses q) inner) in
-          subst (Contains (around k q)) (more.rows.main_once v.0 u v.2) v.1
+          region_within k core i more.rows q u inner
 
       thread_gone : (t : ℕ) → Contains (around core t) (i.main_of u) → (standing_of e t ≡ at.Ended) ⊎ (standing_of e t ≡ at.Outside)
       thread_gone t inner = by_origin (more.rows.each t (around_there core t (i.main_of u) inner))

@@ -2,7 +2,7 @@
 -- superstate, that one was just opened too, and nobody is inside of anything else.
 use Rattle.std.proofs.Common.{◌≡◌, ◌≢◌, ℕ, zero, suc, ◌<◌, ⊎_elim, List, [], ◌∷◌, ◌++◌, map, length, slice_set, Contains}
 use Rattle.std.proofs.Common.{refl, sym, ap, subst, ◌∙◌, arith}
-use Rattle.std.proofs.lemmas.List.{length-map}
+use Rattle.std.proofs.lemmas.List.{length-map, length-set}
 use Rattle.core_charts.specs.declared.region.Transition.{Transition}
 use Rattle.core_charts.specs.Tests.{at_once, first_closing_tests}
 use Rattle.chart_machine.specs.declared.standing.Standing.{Standing}
@@ -17,7 +17,7 @@ use Rattle.tick_laws.proofs.Lists.{same_or_not}
 use Rattle.chart_machine_laws.specs.Tree.{IsTree, around, holder}
 use Rattle.chart_machine_laws.proofs.LyingIn.{none_in, head_in, tail_in, head_or_tail, around_around}
 use Rattle.abort_expansion_laws.specs.CoreRows.{own, IsState}
-use Rattle.abort_expansion_laws.proofs.Leaving.{at_number, set_here, set_other, set_length, moved_append, moved_size}
+use Rattle.abort_expansion_laws.proofs.Leaving.{at_number, set_here, set_other, moved_append, moved_size}
 use Rattle.abort_expansion_laws.proofs.StartingRegions.{Once}
 use Rattle.abort_expansion_laws.proofs.StateEntry.{Entry, entry_ends, entry_tries, entry_guards, entry_opens}
 use Rattle.abort_expansion_laws.proofs.InsideAround.{one_in_other}
@@ -28,7 +28,7 @@ pub moved_alike : (ms : List Move) (zs ys : List Standing) (q : ℕ) → length 
 moved_alike [] zs ys q size same = same
 moved_alike (m ∷ ms) zs ys q size same =
     moved_alike ms (slice_set zs m.region m.standing) (slice_set ys m.region m.standing) q
-    (set_length zs m.region m.standing ∙ (size ∙ sym (set_length ys m.region m.standing))) (set_alike zs ys m.region q m.standing size same)
+    (length-set zs m.region m.standing ∙ (size ∙ sym (length-set ys m.region m.standing))) (set_alike zs ys m.region q m.standing size same)
   where
     set_alike : (zs ys : List Standing) (r q : ℕ) (x : Standing) → length zs ≡ length ys → at_number zs q ≡ at_number ys q →
         at_number (slice_set zs r x) q ≡ at_number (slice_set ys r x) q
@@ -226,7 +226,7 @@ module _ (k : Table) (tree : IsTree k) (entries : (x : ℕ) → IsState k x → 
           (λ ys size none q inner.
           ap (λ ms. at_number (moved ms zs) q) e ∙
           moved_alike (state_at k x).opened (slice_set zs (holder k x) (at.Within x tests)) ys q
-          (set_length zs (holder k x) (at.Within x tests) ∙ sym size)
+          (length-set zs (holder k x) (at.Within x tests) ∙ sym size)
           (set_other zs (holder k x) q (at.Within x tests) (inside_ne q inner) ∙ (empty q x inner refl ∙ sym (none q inner))))
 
   -- of some states of regions side by side, that are entered where nobody is

@@ -1,8 +1,7 @@
 -- When a chart's tick is over, nobody of it guards, and nobody has work.
 use Rattle.std.proofs.Common.{◌≡◌, ℕ, zero, suc, ◌+◌, ◌<◌, Bool, true, false, not, ◌||◌, List, [], ◌∷◌, length}
-use Rattle.std.proofs.Common.{unwrap_or, Contains, refl, sym, ap, subst, ◌∙◌, arith}
+use Rattle.std.proofs.Common.{Contains, refl, sym, ap, subst, ◌∙◌, arith}
 use Rattle.std.specs.List.{list_all, list_any}
-use Rattle.std.proofs.lemmas.Option.{slice_get_past}
 use Rattle.sc_values.specs.Runs.{IsOver}
 use Rattle.core_charts.specs.declared.region.Transition.{Transition}
 use Rattle.chart_machine.specs.declared.standing.Standing.{Standing}
@@ -18,6 +17,7 @@ use Rattle.abort_expansion_laws.specs.Related.{Stands, outside, ended, left, try
 use Rattle.abort_expansion_laws.specs.Related.{guarding, staying, within, behind, Related}
 use Rattle.abort_expansion_laws.proofs.InsideAround.{inside_around}
 use Rattle.abort_expansion_laws.proofs.KnownVariables.{present_there}
+use Rattle.abort_expansion_laws.proofs.NumberedRegions.{past_number}
 
 found : (p : ℕ → Bool) (xs : List ℕ) → list_any p xs ≡ true → (y : ℕ) × Contains xs y × (p y ≡ true)
 found p [] e = absurd cc
@@ -85,7 +85,7 @@ module _ (k core : Table) (i : Images) (c d : Configuration) (related : Related 
   idle_from : (n r : ℕ) → length k.regions < r + n → has_work k c (standing_of c r) ≡ false
   idle_from zero r lt =
       let size = related.chart_regions in
-      ap (has_work k c) (ap (λ o. unwrap_or o at.Outside) (slice_get_past c.regions r (omega (size, lt, arith))))
+      ap (has_work k c) (past_number c.regions r (omega (size, lt, arith)))
   idle_from (suc n) r lt =
       by_case (has_work k c (standing_of c r)) refl
       (λ q more. idle_from n q (omega (lt, more, arith)))

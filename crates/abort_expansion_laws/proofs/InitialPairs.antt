@@ -13,12 +13,11 @@ use Rattle.chart_machine.specs.declared.table.Table.{Table}
 use Rattle.chart_machine.specs.Table.{state_at, region_at}
 use Rattle.chart_machine.specs.Steps.{to, moved}
 use Rattle.abort_expansion.specs.Superstates.{monitor_transitions}
-use Rattle.tick_laws.proofs.Lists.{contains_get}
+use Rattle.tick_laws.proofs.Lists.{contains_get, contains_map, map_contains}
 use Rattle.chart_machine_laws.specs.Tree.{IsTree, IsThere, around, holder}
 use Rattle.chart_machine_laws.proofs.LyingIn.{none_in, head_in, tail_in, head_or_tail}
 use Rattle.chart_machine_laws.proofs.ChartTables.{around_there, within_or_past}
 use Rattle.abort_expansion_laws.specs.CoreRows.{own, IsState, IsSuper, Images, CoreRows, flags_around, WatcherImage}
-use Rattle.abort_expansion_laws.proofs.TablesCorrespond.{contains_map}
 use Rattle.abort_expansion_laws.proofs.TableEnds.{no_holder_past}
 use Rattle.abort_expansion_laws.proofs.KnownVariables.{in_either}
 use Rattle.abort_expansion_laws.proofs.Leaving.{at_number}
@@ -28,12 +27,6 @@ use Rattle.abort_expansion_laws.proofs.StateEntry.{Entry}
 use Rattle.abort_expansion_laws.proofs.FreshInside.{all_entered, Fresh, Begins, Begun, begun_closed, begun_open, fresh_begins, first_standing}
 
 -- ---- lists
-
-pub in_map : (f : ℕ → ℕ) (xs : List ℕ) (x : ℕ) → Contains xs x → Contains (map f xs) (f x)
-in_map f [] x h = absurd (none_in x h)
-in_map f (y ∷ xs) x h =
-    ⊎_elim (λ same. subst (λ z. Contains (f y ∷ map f xs) (f z)) same (head_in (f y) (map f xs)))
-    (λ tail. tail_in (f y) (f x) (map f xs) (in_map f xs x tail)) (head_or_tail y x xs h)
 
 pub once_mapped : (f : ℕ → ℕ) → ((a b : ℕ) → f a ≡ f b → a ≡ b) → (r : ℕ) (rs ws : List ℕ) → Once r rs → ¬ Contains ws (f r) → Once (f r) (map f rs ++ ws)
 once_mapped f one r [] ws once out = absurd once
@@ -47,12 +40,12 @@ once_mapped f one r (x ∷ xs) ws once out =
     ))
     (λ later. inr ((λ e. later.0 (one x r e)), once_mapped f one r xs ws later.1 out)) once
 
-once_last : (w : ℕ) (rs : List ℕ) → ¬ Contains rs w → Once w (rs ++ w ∷ [])
+pub once_last : (w : ℕ) (rs : List ℕ) → ¬ Contains rs w → Once w (rs ++ w ∷ [])
 once_last w [] out = inl (refl, λ h. none_in w h)
 once_last w (r ∷ rs) out =
     inr ((λ e. out (subst (Contains (r ∷ rs)) e (head_in r rs))), once_last w rs (λ h. out (tail_in r w rs h)))
 
-entered_append : (k : Table) (xs ys : List ℕ) → all_entered k (xs ++ ys) ≡ all_entered k xs ++ all_entered k ys
+pub entered_append : (k : Table) (xs ys : List ℕ) → all_entered k (xs ++ ys) ≡ all_entered k xs ++ all_entered k ys
 entered_append k [] ys = refl
 entered_append k (x ∷ xs) ys =
     ap (λ zs. (state_at k x).entered ++ zs) (entered_append k xs ys) ∙ sym (append_assoc (state_at k x).entered (all_entered k xs) (all_entered k ys))
@@ -156,7 +149,7 @@ module _ (k core : Table) (i : Images) (rows : CoreRows k core i) (tree : IsTree
       let p = init.pairs r h in
       let level : (x : ℕ) → Contains init.firsts x →
       IsState k x × (around k (holder k x) ≡ s ∷ around k (holder k s)) × (holder k x < suc (length k.regions)) =
-      λ x among. child_level s x (subst (λ zs. Contains zs (holder k x)) init.holders (in_map (holder k) init.firsts x among)) in
+      λ x among. child_level s x (subst (λ zs. Contains zs (holder k x)) init.holders (map_contains (holder k) init.firsts x among)) in
       record {
         first = p.first;
         here = (level p.first p.among).0;
@@ -183,7 +176,7 @@ module _ (k core : Table) (i : Images) (rows : CoreRows k core i) (tree : IsTree
 
     chart_level : (x : ℕ) → Contains init.firsts x →
         IsState k x × (around k (holder k x) ≡ s ∷ around k (holder k s)) × (holder k x < suc (length k.regions))
-    chart_level x h = child_level s x (subst (λ zs. Contains zs (holder k x)) init.holders (in_map (holder k) init.firsts x h))
+    chart_level x h = child_level s x (subst (λ zs. Contains zs (holder k x)) init.holders (map_contains (holder k) init.firsts x h))
 
     -- ---- in the core
 
@@ -255,7 +248,7 @@ module _ (k core : Table) (i : Images) (rows : CoreRows k core i) (tree : IsTree
         IsState core y × (around core (holder core y) ≡ i.main_of s ∷ around core (holder core (i.main_of s)))
         × (holder core y < suc (length core.regions))
     core_level y h =
-        let direct = level_of (holder core y) (subst (λ zs. Contains zs (holder core y)) core_holders (in_map (holder core) core_all y h)) in
+        let direct = level_of (holder core y) (subst (λ zs. Contains zs (holder core y)) core_holders (map_contains (holder core) core_all y h)) in
         let there : IsThere core (holder core y) = around_there core (holder core y) (i.main_of s)
         (subst (λ zs. Contains zs (i.main_of s)) (sym direct) (head_in (i.main_of s) (around core (holder core (i.main_of s))))) in
         (held_there core y (holder core y) refl there, direct, there.1)

@@ -18,8 +18,8 @@ use Rattle.abort_expansion.specs.Superstates.{stays}
 use Rattle.abort_expansion_laws.specs.Stages.{Correspondence}
 use Rattle.chart_machine_laws.proofs.LyingIn.{IsNested, around, holder, none_in, head_or_tail}
 use Rattle.abort_expansion_laws.proofs.StageReached.{holds_other}
-use Rattle.abort_expansion_laws.proofs.TablesCorrespond.{IsThere, contains_map}
-use Rattle.chart_machine_laws.proofs.ChartTables.{no_regions_past, within_or_past, nothing_around}
+use Rattle.abort_expansion_laws.proofs.TablesCorrespond.{IsThere}
+use Rattle.chart_machine_laws.proofs.ChartTables.{within_or_past, nothing_around}
 use Rattle.abort_expansion_laws.proofs.KnownVariables.{present_there, in_either}
 use Rattle.abort_expansion_laws.specs.CoreRows.{own, IsState, IsSimple, IsSuper, joins, Images, CoreRows, SplitImage, flags_around, watchers}
 use Rattle.abort_expansion_laws.specs.CoreRows.{behind_transitions}
@@ -30,6 +30,9 @@ use Rattle.abort_expansion_laws.specs.Related.{Related, Watches, waits, looks_st
 use Rattle.abort_expansion_laws.specs.Related.{guards as watch_guards}
 use Rattle.abort_expansion_laws.proofs.MayLeave.{LeavesBy, MayLeave, over, forks}
 use Rattle.abort_expansion_laws.proofs.OneMonitor.{one_monitor}
+use Rattle.abort_expansion_laws.proofs.ThreadsAround.{region_within}
+use Rattle.abort_expansion_laws.proofs.NumberedRegions.{super_is_state}
+use Rattle.tick_laws.proofs.Lists.{contains_map}
 
 -- ---- what more is asked of the rows
 
@@ -43,11 +46,6 @@ pub record AloneRows (k core : Table) (i : Images) : Type 0 where
 pub true_or_false : (b : Bool) → (b ≡ true) ⊎ (b ≡ false)
 true_or_false true = inl refl
 true_or_false false = inr refl
-
--- who has a strong flag has strong aborts
-pub strong_of : (k core : Table) (i : Images) → AloneRows k core i → (o x : ℕ) → (i.flags_of o).strong ≡ Some x → has_strong (own k o) ≡ true
-strong_of k core i more o x flag =
-    ⊎_elim (λ e. e) (λ e. let wrong : Some x ≡ None = sym flag ∙ more.no_strong o e in absurd cc) (true_or_false (has_strong (own k o)))
 
 none_there : (b : Bool) (place : ℕ) (o : Option ℕ) → is_there o ≡ false → check b place o ≡ []
 none_there b place None e = refl
@@ -108,9 +106,6 @@ module _ (k core : Table) (i : Images) (rows : CoreRows k core i) (more : AloneR
       standing_of first (i.watcher_of s) ≡ standing_of d (i.watcher_of s)
   same_monitor s s_there has_some in_o = same (i.watcher_of s) (other_monitor s s_there has_some in_o)
 
-  state_there : (s : ℕ) → IsSuper k s → IsState k s
-  state_there s super = ⊎_elim (λ lt. lt) (λ past. absurd (super (no_regions_past k s past))) (within_or_past s (length k.states))
-
   -- a superstate inside: its fork ends, and its continuation leaves
   pub fork_leaves : (q s join : ℕ) → Contains (around k q) o → IsInside k core i s (standing_of c q) → IsSuper k s → holder k s ≡ q →
       stays (flags_around k core i q) (own k s) ≡ false → is_behind k core i c s ≡ false →
@@ -121,7 +116,7 @@ module _ (k core : Table) (i : Images) (rows : CoreRows k core i) (more : AloneR
       forks (i.main_of s) join (i.behind_of s) (at_once (behind_transitions k core i q s)) fork_held enters (more.behind_alone s) leaves_by direct
     where
       split : SplitImage k core i s
-      split = rows.split s (state_there s super) super (subst (λ p. stays (flags_around k core i p) (own k s) ≡ false) (sym held) not_staying)
+      split = rows.split s (super_is_state k s super) super (subst (λ p. stays (flags_around k core i p) (own k s) ≡ false) (sym held) not_staying)
 
       fork_held : holder core (i.main_of s) ≡ i.thread_of q
       fork_held = rows.held s ∙ ap i.thread_of held
@@ -141,7 +136,7 @@ module _ (k core : Table) (i : Images) (rows : CoreRows k core i) (more : AloneR
 
       present : (r : ℕ) → Contains (state_at k s).regions r → standing_of first (i.thread_of r) ≢ at.Outside
       present r child e =
-          let was : standing_of c r ≢ at.Outside = related.opened s r (state_there s super) inside_s child in
+          let was : standing_of c r ≢ at.Outside = related.opened s r (super_is_state k s super) inside_s child in
           there_too k core i c r (standing_of c r) (standing_of d (i.thread_of r)) (related.regions r (present_there k core i c d related r was)) was
           (λ u us round. subst (λ v. is_behind k core i c v ≡ false) (heads s u (around k (holder k s)) us (sym (children s r child) ∙ round)) open_still)
           (sym (same_first r) ∙ e)
@@ -159,8 +154,9 @@ module _ (k core : Table) (i : Images) (rows : CoreRows k core i) (more : AloneR
               let one : i.watcher_of s ≡ t =
               ⊎_elim (λ is. is) (λ rest. absurd (none_in t rest))
               (head_or_tail (i.watcher_of s) t [] (subst (λ zs. Contains zs t) its_own h)) in
-              monitor_there k core i s (standing_of c (holder k s)) (standing_of d (i.watcher_of s)) (related.watchers s (state_there s super) some) inside_s
-              (sym (same_monitor s (state_there s super) some in_s) ∙ (ap (standing_of first) one ∙ e))
+              monitor_there k core i s (standing_of c (holder k s)) (standing_of d (i.watcher_of s))
+              (related.watchers s (super_is_state k s super) some) inside_s
+              (sym (same_monitor s (super_is_state k s super) some in_s) ∙ (ap (standing_of first) one ∙ e))
 
       direct : (t : ℕ) → Contains (state_at core (i.main_of s)).regions t →
           (around core t ≡ i.main_of s ∷ around core (i.thread_of q)) × (standing_of first t ≢ at.Outside)
@@ -174,8 +170,7 @@ module _ (k core : Table) (i : Images) (rows : CoreRows k core i) (more : AloneR
 
   from_core : (q : ℕ) → Contains (around core (i.thread_of q)) (i.main_of o) → Contains (around k q) o
   from_core q h =
-      let s = contains_map i.main_of (around k q) (i.main_of o) (subst (λ zs. Contains zs (i.main_of o)) (rows.encloses q) h) in
-      subst (Contains (around k q)) (rows.main_once s.0 o s.2) s.1
+      region_within k core i rows q o h
 
   core_there : (t : ℕ) → Contains (around core t) (i.main_of o) → IsThere core t
   core_there zero h = absurd (none_in (i.main_of o) h)

@@ -4,7 +4,7 @@ use Rattle.std.proofs.Common.{◌≡◌, ◌≢◌, ℕ, pos, ◌<◌, ◌≤◌
 use Rattle.std.proofs.Common.{length, slice_get, slice_set, Contains, refl, sym, ap, subst, ◌∙◌, arith}
 use Rattle.std.specs.Prelude.{reverse, filter}
 use Rattle.std.specs.List.{list_any}
-use Rattle.std.proofs.lemmas.List.{append-nil}
+use Rattle.std.proofs.lemmas.List.{append-nil, length-set}
 use Rattle.std.proofs.lemmas.Bool.{or_parts}
 use Rattle.sc_values.specs.declared.value.Value.TheVariants as value_is
 use Rattle.sc_values.specs.Access.{Access, no_access}
@@ -26,24 +26,25 @@ use Rattle.abort_expansion.specs.Transitions.{check, strong_checks, answers}
 use Rattle.abort_expansion.specs.Superstates.{stays}
 use Rattle.tick_laws.proofs.Lists.{same_or_not, contained}
 use Rattle.abort_expansion_laws.specs.Stages.{Entry, Silent, Correspondence}
-use Rattle.chart_machine_laws.proofs.LyingIn.{IsNested, around, holder, none_in, head_in, tail_in, head_or_tail}
+use Rattle.chart_machine_laws.proofs.LyingIn.{IsNested, around, holder, head_in, tail_in}
 use Rattle.abort_expansion_laws.proofs.TablesCorrespond.{IsThere}
 use Rattle.abort_expansion_laws.specs.CoreRows.{own, IsState, Images, CoreRows, SplitImage, joins, flags_around, behind_transitions}
 use Rattle.chart_machine.specs.Steps.{step}
 use Rattle.abort_expansion_laws.specs.Related.{held_back, IsInside, guarded, open_inside, Stores}
-use Rattle.abort_expansion_laws.proofs.Simulation.{Segment}
+use Rattle.abort_expansion_laws.proofs.Segments.{Segment}
 use Rattle.abort_expansion_laws.proofs.Supplying.{climbs_step, silent_idle}
-use Rattle.abort_expansion_laws.proofs.Leaving.{drops, at_number, set_here, set_other, set_length, drops_in, drops_out, drops_length, joined}
+use Rattle.abort_expansion_laws.proofs.Leaving.{drops, at_number, set_here, set_other, drops_in, drops_out, drops_length, joined}
 use Rattle.abort_expansion_laws.proofs.InsideAround.{all_from}
-use Rattle.abort_expansion_laws.proofs.StageReached.{stage_of, none_of, holds_other, one_at_least}
+use Rattle.abort_expansion_laws.proofs.StageReached.{stage_of, holds_other, one_at_least}
 use Rattle.abort_expansion_laws.proofs.ImageSteps.{pair}
 use Rattle.abort_expansion_laws.proofs.Pending.{Sound, IsJoining, Over, Covered, Flagged, Pending, joins_then, Reached, behind_parts}
 use Rattle.abort_expansion_laws.proofs.StartingRegions.{CounterRows}
 use Rattle.abort_expansion_laws.proofs.CalmPending.{all_calm}
 use Rattle.abort_expansion_laws.proofs.FailedChecks.{IsDown, AllDown, checks_fail}
-use Rattle.abort_expansion_laws.proofs.EnteringSimple.{once_append, weak_once}
-use Rattle.abort_expansion_laws.proofs.Unchanged.{unguarded}
+use Rattle.abort_expansion_laws.proofs.EnteringSimple.{once_append, weak_once, each_check}
+use Rattle.abort_expansion_laws.proofs.Unchanged.{unguarded, none_among}
 use Rattle.abort_expansion_laws.proofs.YetToLook.{in_reverse}
+use Rattle.abort_expansion_laws.proofs.ThreadsAround.{thread_within}
 
 -- ---- what the continuation tests
 
@@ -55,15 +56,11 @@ pub no_answers : (at_places : RegionPlaces) (flag : Option ℕ) (n : ℕ) → an
 no_answers at_places None n = refl
 no_answers at_places (Some x) n = refl
 
-one_once : (left : ℕ) (f : Option ℕ) → at_once (check true left f) ≡ check true left f
-one_once left None = refl
-one_once left (Some x) = refl
-
 pub strong_once : (left : ℕ) (flags : List Flags) → at_once (strong_checks true left flags) ≡ strong_checks true left flags
 strong_once left [] = refl
 strong_once left (f ∷ flags) =
     once_append (check true left f.strong) (strong_checks true left flags)
-    ∙ (ap (λ zs. zs ++ at_once (strong_checks true left flags)) (one_once left f.strong) ∙ ap (λ zs. check true left f.strong ++ zs) (strong_once left flags))
+    ∙ (ap (λ zs. zs ++ at_once (strong_checks true left flags)) (each_check left f.strong) ∙ ap (λ zs. check true left f.strong ++ zs) (strong_once left flags))
 
 module _ (k core : Table) (i : Images) where
   none_left : (r s : ℕ) → has_aborts (own k s) ≡ false → has_join (own k s) ≡ false →
@@ -195,13 +192,7 @@ module _ (k core : Table) (i : Images) (rows : CoreRows k core i) (tree : IsNest
     within_it : corr.Within g x
     within_it =
         subst (λ z. Contains (around core g) (i.main_of z)) (sym (strong_of u x flag))
-        (subst (λ zs. Contains zs (i.main_of u)) (sym (rows.encloses r)) (mapped (around k r) around_it))
-      where
-        mapped : (zs : List ℕ) → Contains zs u → Contains (map i.main_of zs) (i.main_of u)
-        mapped [] h = absurd (none_in u h)
-        mapped (z ∷ zs) h =
-            ⊎_elim (λ e. subst (λ v. Contains (i.main_of v ∷ map i.main_of zs) (i.main_of u)) (sym e) (head_in (i.main_of u) (map i.main_of zs)))
-            (λ t. tail_in (i.main_of z) (i.main_of u) (map i.main_of zs) (mapped zs t)) (head_or_tail z u zs h)
+        (thread_within k core i rows r u around_it)
 
     at_least : (w : Standing) → IsInside k core i u w → has_to_guard w ≡ false → 1 ≤ stage_of k c w
     at_least _ (guarded tests) e = absurd cc
@@ -215,7 +206,7 @@ module _ (k core : Table) (i : Images) (rows : CoreRows k core i) (tree : IsNest
           regions = λ q q_there e.
               let here_too : holder k u ≡ q = rows.region_once (holder k u) q (sym home_is ∙ e) in
               let calm_there : has_to_guard (standing_of c (holder k u)) ≡ false =
-              none_of (λ v. has_to_guard (standing_of c (holder k v))) (around k r) u (subst (λ z. is_guarded k c (around k z) ≡ false) held over_it.free)
+              none_among (λ v. has_to_guard (standing_of c (holder k v))) (around k r) u (subst (λ z. is_guarded k c (around k z) ≡ false) held over_it.free)
               around_it in
               subst (λ z. 1 ≤ stage_of k c (standing_of c z)) here_too (at_least (standing_of c (holder k u)) inside_u calm_there);
           chart = λ e. omega arith;
@@ -245,7 +236,7 @@ module _ (k core : Table) (i : Images) (rows : CoreRows k core i) (tree : IsNest
       × (((t : ℕ) → t ≢ g → standing_of z t ≡ standing_of after_join t) × (length z.regions ≡ length after_join.regions))))
   joins_fork =
       let t = checks_fail core corr Told told g (i.behind_of s) (i.places_of r).left Left (flags_around k core i r) (held_back k core i r) after_join calm_after
-      (let lt = in_after in let size = set_length (moved (drops (inside core (i.main_of s))) d.regions) g (at.Trying (i.behind_of s) checks) in
+      (let lt = in_after in let size = length-set (moved (drops (inside core (i.main_of s))) d.regions) g (at.Trying (i.behind_of s) checks) in
       omega (lt, size, arith))
       (all_down (reverse (around k r)) (λ u h. in_reverse (around k r) u h)) here in
       record {

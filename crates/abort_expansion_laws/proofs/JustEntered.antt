@@ -22,8 +22,9 @@ use Rattle.abort_expansion_laws.proofs.Pending.{IsOpening, IsEmpty}
 use Rattle.abort_expansion_laws.proofs.EnteredAlike.{BeginsAs, OpensAlike}
 use Rattle.abort_expansion_laws.proofs.StateEntry.{Entry}
 use Rattle.abort_expansion_laws.proofs.FreshInside.{Fresh, NobodyIn, ElsewhereNobody}
-use Rattle.abort_expansion_laws.proofs.InitialPairs.{both_begin, held_by, in_map}
+use Rattle.abort_expansion_laws.proofs.InitialPairs.{both_begin, held_by}
 use Rattle.abort_expansion_laws.proofs.BeginningSorts.{Sort, sort_ends, sort_counts, sort_tries, sort_guards, sort_prepares, sort_opens, sort_of, begins_so}
+use Rattle.abort_expansion_laws.proofs.ThreadsAround.{thread_within}
 
 -- what is asked of both tables, where something is entered
 pub record EntryRows (k core : Table) (i : Images) : Type 0 where
@@ -103,7 +104,7 @@ module _ (k core : Table) (i : Images) (more : EntryRows k core i) (c e : Config
     in_u = subst (λ zs. Contains zs u) (sym round) (head_in u us)
 
     thread_in_u : Contains (around core (i.thread_of q)) (i.main_of u)
-    thread_in_u = subst (λ zs. Contains zs (i.main_of u)) (sym (more.rows.encloses q)) (in_map i.main_of (around k q) u in_u)
+    thread_in_u = thread_within k core i more.rows q u in_u
 
     below : (p : ℕ) → LiesIn k p q → Contains (around k p) u
     below p lies = around_outer k more.tree.nested (around k p) p q u refl lies in_u

@@ -1,9 +1,9 @@
 -- What an expression that has a value reads is there; and what a step of a chart gives.
-use Rattle.std.proofs.Common.{◌≡◌, ◌≢◌, ℕ, zero, suc, ◌<◌, ◌≤◌, ◌⊎◌, inl, inr, ⊎_elim, Bool, true, false, not, ◌&&◌, Option, Some, None, List, [], ◌∷◌, ◌++◌}
-use Rattle.std.proofs.Common.{length, option_and_then, Contains, refl, sym, ap, subst, ◌∙◌, arith}
-use Rattle.std.proofs.lemmas.Option.{slice_get_within, slice_get_past}
-use Rattle.std.specs.Prelude.{option_map, unwrap_or}
-use Rattle.std.proofs.lemmas.Bool.{cases_lt}
+use Rattle.std.proofs.Common.{◌≡◌, ◌≢◌, ℕ, ◌<◌, ◌⊎◌, inl, inr, ⊎_elim, Bool, true, false, not, ◌&&◌, Option, Some, None, List, [], ◌∷◌, ◌++◌}
+use Rattle.std.proofs.Common.{length, option_and_then, Contains, sym, subst, ◌∙◌, arith}
+use Rattle.std.proofs.lemmas.Option.{slice_get_within}
+use Rattle.std.specs.Prelude.{option_map}
+use Rattle.std.proofs.lemmas.Bool.{and_parts, not-true}
 use Rattle.sc_values.specs.declared.value.Value.{Value}
 use Rattle.sc_values.specs.declared.operator.BinaryOperator.{BinaryOperator}
 use Rattle.sc_values.specs.declared.operator.UnaryOperator.{UnaryOperator}
@@ -29,6 +29,7 @@ use Rattle.abort_expansion_laws.proofs.TablesCorrespond.{IsThere}
 use Rattle.abort_expansion_laws.proofs.MoreValues.{Got, got}
 use Rattle.abort_expansion_laws.specs.CoreRows.{Images}
 use Rattle.abort_expansion_laws.specs.Related.{Related}
+use Rattle.abort_expansion_laws.proofs.NumberedRegions.{is_region}
 
 pub in_either : (xs ys : List ℕ) (x : ℕ) → Contains (xs ++ ys) x → Contains xs x ⊎ Contains ys x
 in_either [] ys x h = inr h
@@ -77,14 +78,6 @@ trigger_known values (Some e) b is x (inr (inr w)) = let e = w.1 in absurd cc
 
 -- ---- a step of a chart, taken apart
 
-pub both_true : (a b : Bool) → (a && b) ≡ true → (a ≡ true) × (b ≡ true)
-both_true true b e = (refl, e)
-both_true false b e = absurd cc
-
-pub not_so : (b : Bool) → not b ≡ true → b ≡ false
-not_so true e = absurd cc
-not_so false e = refl
-
 pub record Stepped (k : Table) (r : ℕ) (c next : Configuration) : Type 0 where
   pub works : has_work k c (standing_of c r) ≡ true
   pub free : is_guarded k c (around k r) ≡ false
@@ -97,17 +90,10 @@ pub stepped : (k : Table) (r : ℕ) (c next : Configuration) → step k r c ≡ 
 stepped k r c next h =
     let parts = only_if_some (is_enabled k c r) (option_map (λ d. after d c) (change_of k c r (standing_of c r))) next h in
     let change = map_some (λ d. after d c) (change_of k c r (standing_of c r)) next parts.1 in
-    let on = both_true (has_work k c (standing_of c r)) (not (is_guarded k c (around k r)) && inside_is_done k c (standing_of c r)) parts.0 in
-    let two = both_true (not (is_guarded k c (around k r))) (inside_is_done k c (standing_of c r)) on.1 in
-    record { works = on.0; free = not_so (is_guarded k c (around k r)) two.0; done = two.1; change = change.0; does = change.1; is = change.2 }
+    let on = and_parts (has_work k c (standing_of c r)) (not (is_guarded k c (around k r)) && inside_is_done k c (standing_of c r)) parts.0 in
+    let two = and_parts (not (is_guarded k c (around k r))) (inside_is_done k c (standing_of c r)) on.1 in
+    record { works = on.0; free = not-true (is_guarded k c (around k r)) two.0; done = two.1; change = change.0; does = change.1; is = change.2 }
 
 -- whoever stands somewhere is a region of the table
 pub present_there : (k core : Table) (i : Images) (c d : Configuration) → Related k core i c d → (r : ℕ) → standing_of c r ≢ at.Outside → IsThere k r
-present_there k core i c d related zero present = absurd (present related.no_chart)
-present_there k core i c d related (suc j) present = by_place (cases_lt (suc j) (suc (length k.regions)))
-  where
-    by_place : (suc j < suc (length k.regions)) ⊎ (suc (length k.regions) ≤ suc j) → IsThere k (suc j)
-    by_place (inl lt) = (omega arith, lt)
-    by_place (inr past) =
-        let far : length c.regions ≤ suc j = omega (past, related.chart_regions, arith) in
-        absurd (present (ap (λ o. unwrap_or o at.Outside) (slice_get_past c.regions (suc j) far)))
+present_there k core i c d related = is_region k c related.no_chart related.chart_regions

@@ -13,7 +13,7 @@ use Rattle.chart_machine.specs.Turns.{standing_of, guards, is_guarded, is_enable
 use Rattle.chart_machine.specs.Steps.{to, state_in, acts, moved, change_of, step, access_of}
 use Rattle.chart_machine.specs.Machine.{machine}
 use Rattle.abort_expansion_laws.specs.Stages.{Entry, Image, Silent}
-use Rattle.abort_expansion_laws.proofs.Simulation.{Segment}
+use Rattle.abort_expansion_laws.proofs.Segments.{Segment}
 use Rattle.chart_machine_laws.proofs.LyingIn.{IsNested, around, holder}
 use Rattle.abort_expansion_laws.proofs.TablesCorrespond.{IsThere}
 use Rattle.abort_expansion_laws.specs.CoreRows.{IsState, Images, CoreRows, RegionImage}

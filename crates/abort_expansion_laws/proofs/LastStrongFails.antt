@@ -1,6 +1,7 @@
 -- The last strong test of a superstate fails: its inside has its turn, and each thread there goes on behind its strong check.
 use Rattle.std.proofs.Common.{◌≡◌, ◌≢◌, ℕ, pos, ◌<◌, ⊎_elim, Bool, true, false, Some, List, [], ◌∷◌, ◌++◌, map, length, slice_get}
 use Rattle.std.proofs.Common.{slice_set, Contains, refl, sym, ap, subst, ◌∙◌, arith}
+use Rattle.std.proofs.lemmas.List.{length-set}
 use Rattle.sc_values.specs.declared.value.Value.TheVariants as value_is
 use Rattle.core_charts.specs.declared.region.Transition.{Transition}
 use Rattle.core_charts.specs.Tests.{weak_aborts, terminations, closing_tests, is_join}
@@ -19,14 +20,13 @@ use Rattle.tick_laws.proofs.Lists.{same_or_not, contained}
 use Rattle.abort_expansion_laws.specs.CoreRows.{own, IsState, IsSuper, Images, CoreRows, flags_around}
 use Rattle.abort_expansion_laws.specs.Related.{monitor_last, LooksFirst, front, is_behind, Stands, within}
 use Rattle.abort_expansion_laws.specs.Related.{Watches, waits, looks_strong, looks, elsewhere, raises}
-use Rattle.abort_expansion_laws.specs.Related.{raise_each, still_in, Stores, IsInside, guarded, open_inside, FlagsAreDown, Closes, Related, IsCalm}
+use Rattle.abort_expansion_laws.specs.Related.{raise_each, Stores, IsInside, guarded, open_inside, Closes, Related, IsCalm}
 use Rattle.abort_expansion_laws.specs.Related.{calm_within, guards as watch_guards}
 use Rattle.abort_expansion_laws.proofs.StageReached.{holds_other}
-use Rattle.abort_expansion_laws.proofs.Unchanged.{stands_same, stands_other, no_guards, never_guarded, none_among, both_ways}
+use Rattle.abort_expansion_laws.proofs.Unchanged.{stands_same, stands_other, no_guards, never_guarded, none_among, not_both}
 use Rattle.abort_expansion_laws.proofs.KnownVariables.{present_there}
 use Rattle.abort_expansion_laws.proofs.StrongNotTaken.{IsGuarding, guarding_back, MonitorGuards, inside_guarding}
 use Rattle.abort_expansion_laws.proofs.InsideLeaves.{AloneRows}
-use Rattle.abort_expansion_laws.proofs.Leaving.{set_length}
 use Rattle.abort_expansion_laws.proofs.MoreValues.{verdict_over_more}
 use Rattle.abort_expansion_laws.proofs.TestFails.{fails}
 use Rattle.abort_expansion_laws.proofs.LaterTicks.{closes_whole}
@@ -37,6 +37,7 @@ use Rattle.abort_expansion_laws.proofs.FrontFirst.{front_first}
 use Rattle.abort_expansion_laws.proofs.InsideAround.{one_in_other}
 use Rattle.abort_expansion_laws.proofs.LooksFirst.{still_looks}
 use Rattle.abort_expansion_laws.proofs.OneMonitor.{one_monitor}
+use Rattle.abort_expansion_laws.proofs.RegionMoved.{RegionMoved, ends_alike, back_inside, still_inside, was_present, is_present, down_still}
 
 map_empty : (xs : List (ℕ × Transition)) → map (λ (x : ℕ × Transition). x.1) xs ≡ [] → xs ≡ []
 map_empty [] e = refl
@@ -161,10 +162,31 @@ module _ (k core : Table) (i : Images) (rows : CoreRows k core i) (lone : AloneR
 
     -- ---- where everybody stands then
 
-    ends_alike : (q : ℕ) → has_ended (standing_of c' q) ≡ has_ended (standing_of c q)
-    ends_alike q =
-        ⊎_elim (λ e. ap (λ p. has_ended (standing_of c' p)) e ∙ (ap has_ended here ∙ sym (ap (λ p. has_ended (standing_of c p)) e ∙ ap has_ended stands)))
-        (λ ne. ap has_ended (elsewhere_in_chart q ne)) (same_or_not q r)
+    opened_inside : (s : ℕ) → IsInside k core i s opened_now → s ≡ o
+    opened_inside s h = of_standing opened_now h refl
+      where
+        of_standing : (w : Standing) → IsInside k core i s w → w ≡ opened_now → s ≡ o
+        of_standing _ (guarded tests) f = absurd cc
+        of_standing _ (open_inside tests) f = cc
+
+    moved_so : RegionMoved k core i c r opened_now c'
+    moved_so =
+        record {
+          here = here;
+          elsewhere = elsewhere_in_chart;
+          ends = sym (ap has_ended stands);
+          was_there = λ out. let wrong : at.Guarding o (t ∷ []) ≡ at.Outside = sym stands ∙ out in absurd cc;
+          is_there = λ out. let wrong : opened_now ≡ at.Outside = out in absurd cc;
+          inside = λ s held h.
+              let one : s ≡ o = inside_guarding k core i o s (standing_of c r) h (t ∷ []) stands in
+              subst (λ v. IsInside k core i v opened_now) (sym one) (open_inside (closing_tests (own k o)));
+          inside_back = λ s held h.
+              subst (IsInside k core i s) (sym stands)
+              (subst (λ v. IsInside k core i v (at.Guarding o (t ∷ []))) (sym (opened_inside s h)) (guarded (t ∷ [])));
+        }
+
+    pub same_ends : (q : ℕ) → has_ended (standing_of c' q) ≡ has_ended (standing_of c q)
+    same_ends = ends_alike k core i c r opened_now c' moved_so
 
     calm_inside : (q : ℕ) → IsThere k q → Contains (around k q) o → IsCalm (standing_of c q)
     calm_inside q is inner = related.calm q o is inner guards_there
@@ -176,7 +198,7 @@ module _ (k core : Table) (i : Images) (rows : CoreRows k core i) (lone : AloneR
     pub first_inside : (q : ℕ) → IsThere k q → Contains (around k q) o → HasFirst (λ b. check_of b q) (standing_of d1 (i.thread_of q))
     first_inside q is inner =
         subst (HasFirst (λ b. check_of b q)) (sym (thread_same q))
-        (has_first k core i c c' ends_alike q (λ b. check_of b q) (λ b. front_one q b inner) (standing_of c q) (standing_of d (i.thread_of q))
+        (has_first k core i c c' same_ends q (λ b. check_of b q) (λ b. front_one q b inner) (standing_of c q) (standing_of d (i.thread_of q))
         (related.regions q is) (calm_inside q is inner))
 
     module _ (e : Configuration) (variables : e.variables ≡ d1.variables) (size : length e.regions ≡ length d1.regions)
@@ -212,14 +234,14 @@ module _ (k core : Table) (i : Images) (rows : CoreRows k core i) (lone : AloneR
           inside_region ne inner =
               subst (λ w. Stands k core i c' q w (standing_of e (i.thread_of q))) (sym (elsewhere_in_chart q ne))
               (subst (Stands k core i c' q (standing_of c q)) (sym (passed q is inner ∙ ap tail_of (thread_same q)))
-              (stands_dropped k core i c c' ends_alike q (λ b. check_of b q) (λ b. front_one q b inner) (standing_of c q)
+              (stands_dropped k core i c c' same_ends q (λ b. check_of b q) (λ b. front_one q b inner) (standing_of c q)
               (standing_of d (i.thread_of q)) (related.regions q is) (calm_inside q is inner)))
 
           outside_region : q ≢ r → (Contains (around k q) o → ⊥) → Stands k core i c' q (standing_of c' q) (standing_of e (i.thread_of q))
           outside_region ne out =
               subst (λ w. Stands k core i c' q w (standing_of e (i.thread_of q))) (sym (elsewhere_in_chart q ne))
               (subst (Stands k core i c' q (standing_of c q)) (sym (thread_kept q out))
-              (stands_to k core i c c' ends_alike q (standing_of c q) (standing_of d (i.thread_of q)) (related.regions q is)
+              (stands_to k core i c c' same_ends q (standing_of c q) (standing_of d (i.thread_of q)) (related.regions q is)
               (λ present b. front_as_before q is out present b)))
 
           other_region : q ≢ r → Stands k core i c' q (standing_of c' q) (standing_of e (i.thread_of q))
@@ -260,53 +282,6 @@ module _ (k core : Table) (i : Images) (rows : CoreRows k core i) (lone : AloneR
               (related.watchers u is has_too))
               (same_or_not (holder k u) r))
 
-      -- ---- who is inside
-
-      opened_inside : (s : ℕ) → IsInside k core i s opened_now → s ≡ o
-      opened_inside s h = of_standing opened_now h refl
-        where
-          of_standing : (w : Standing) → IsInside k core i s w → w ≡ opened_now → s ≡ o
-          of_standing _ (guarded tests) f = absurd cc
-          of_standing _ (open_inside tests) f = cc
-
-      was_inside : (s : ℕ) → IsInside k core i s (standing_of c' (holder k s)) → IsInside k core i s (standing_of c (holder k s))
-      was_inside s h = ⊎_elim same other (same_or_not (holder k s) r)
-        where
-          same : holder k s ≡ r → IsInside k core i s (standing_of c (holder k s))
-          same f =
-              let one : s ≡ o = opened_inside s (subst (IsInside k core i s) (ap (standing_of c') f ∙ here) h) in
-              subst (IsInside k core i s) (sym (ap (standing_of c) f ∙ stands)) (subst (λ v. IsInside k core i v (at.Guarding o (t ∷ []))) (sym one)
-              (guarded (t ∷ [])))
-
-          other : holder k s ≢ r → IsInside k core i s (standing_of c (holder k s))
-          other ne = subst (IsInside k core i s) (elsewhere_in_chart (holder k s) ne) h
-
-      is_inside : (s : ℕ) → IsInside k core i s (standing_of c (holder k s)) → IsInside k core i s (standing_of c' (holder k s))
-      is_inside s h = ⊎_elim same other (same_or_not (holder k s) r)
-        where
-          same : holder k s ≡ r → IsInside k core i s (standing_of c' (holder k s))
-          same f =
-              let one : s ≡ o = inside_guarding k core i o s (standing_of c (holder k s)) h (t ∷ []) (ap (standing_of c) f ∙ stands) in
-              subst (IsInside k core i s) (sym (ap (standing_of c') f ∙ here))
-              (subst (λ v. IsInside k core i v opened_now) (sym one) (open_inside (closing_tests (own k o))))
-
-          other : holder k s ≢ r → IsInside k core i s (standing_of c' (holder k s))
-          other ne = subst (IsInside k core i s) (sym (elsewhere_in_chart (holder k s) ne)) h
-
-      present_before : (q : ℕ) → standing_of c' q ≢ at.Outside → standing_of c q ≢ at.Outside
-      present_before q present out =
-          ⊎_elim (λ f. let wrong : at.Guarding o (t ∷ []) ≡ at.Outside = sym stands ∙ (ap (standing_of c) (sym f) ∙ out) in absurd cc)
-          (λ ne. present (elsewhere_in_chart q ne ∙ out)) (same_or_not q r)
-
-      present_after : (q : ℕ) → standing_of c q ≢ at.Outside → standing_of c' q ≢ at.Outside
-      present_after q present out =
-          ⊎_elim (λ f. let wrong : opened_now ≡ at.Outside = sym here ∙ (ap (standing_of c') (sym f) ∙ out) in absurd cc)
-          (λ ne. present (sym (elsewhere_in_chart q ne) ∙ out)) (same_or_not q r)
-
-      still_same : (rs : List ℕ) → still_in k core i c' rs ≡ still_in k core i c rs
-      still_same [] = refl
-      still_same (q ∷ rs) = rw (ends_alike q, still_same rs) refl
-
       closes_now : (s : ℕ) (tests : List Transition) → standing_of c' (holder k s) ≡ at.Within s tests → Closes k core i s tests
       closes_now s tests f = ⊎_elim same other (same_or_not (holder k s) r)
         where
@@ -343,7 +318,7 @@ module _ (k core : Table) (i : Images) (rows : CoreRows k core i) (lone : AloneR
           ⊎_elim
           (λ f.
           let around_r : Contains (around k r) s = subst (λ q. Contains (around k q) s) (ap (holder k) f ∙ region.held) inner in
-          absurd (both_ways (has_to_guard (standing_of c (holder k s))) was
+          absurd (not_both (has_to_guard (standing_of c (holder k s))) was
           (none_among (λ v. has_to_guard (standing_of c (holder k v))) (around k r) s free around_r)))
           (λ differ.
           still_looks k core i u (standing_of d (i.watcher_of u)) (standing_of e (i.watcher_of u))
@@ -361,8 +336,8 @@ module _ (k core : Table) (i : Images) (rows : CoreRows k core i) (lone : AloneR
             more = related.more;
             variables = variables ∙ related.variables;
             flag_count = ap length variables ∙ related.flag_count;
-            chart_regions = set_length c.regions r opened_now ∙ related.chart_regions;
-            core_regions = size ∙ (set_length d.regions (i.watcher_of o) watching_now ∙ related.core_regions);
+            chart_regions = length-set c.regions r opened_now ∙ related.chart_regions;
+            core_regions = size ∙ (length-set d.regions (i.watcher_of o) watching_now ∙ related.core_regions);
             values = related.values;
             no_chart = elsewhere_in_chart 0 (not_zero r there.0) ∙ related.no_chart;
             no_core =
@@ -371,16 +346,14 @@ module _ (k core : Table) (i : Images) (rows : CoreRows k core i) (lone : AloneR
             regions = regions_now;
             watchers = watchers_now;
             flags = λ s is h.
-                let old : FlagsAreDown k core i c d.variables s = related.flags s is (was_inside s h) in
-                record {
-                  strong = subst (λ vs. Stores k core i vs (i.flags_of s).strong 0) (sym variables) old.strong;
-                  weak = subst (λ vs. Stores k core i vs (i.flags_of s).weak 0) (sym variables) old.weak;
-                  counter =
-                      subst (λ vs. Stores k core i vs (i.flags_of s).counter (still_in k core i c' (state_at k s).regions)) (sym variables)
-                      (subst (Stores k core i d.variables (i.flags_of s).counter) (sym (still_same (state_at k s).regions)) old.counter);
-                };
-            enclosed = λ q s is present inner. is_inside s (related.enclosed q s is (present_before q present) inner);
-            opened = λ s q is h child. present_after q (related.opened s q is (was_inside s h) child);
+                down_still k core i c r opened_now c' moved_so rows d.variables e.variables (λ x high. ap (λ vs. slice_get vs x) variables) s
+                (related.flags s is (back_inside k core i c r opened_now c' moved_so s h));
+            enclosed = λ q s is present inner.
+                still_inside k core i c r opened_now c' moved_so s
+                (related.enclosed q s is (was_present k core i c r opened_now c' moved_so q present) inner);
+            opened = λ s q is h child.
+                is_present k core i c r opened_now c' moved_so q
+                (related.opened s q is (back_inside k core i c r opened_now c' moved_so s h) child);
             closes_last = closes_now;
             calm = calm_now;
             unseen = unseen_now;

@@ -1,8 +1,10 @@
 -- The last strong test of a superstate that fails is followed: by the monitor's test, and the strong check of each thread inside.
-use Rattle.std.proofs.Common.{◌≡◌, ◌≢◌, ℕ, suc, ◌≤◌, inl, inr, ⊎_elim, Bool, true, false, ◌||◌, Option, Some, None}
+use Rattle.std.proofs.Common.{◌≡◌, ◌≢◌, ℕ, suc, ◌≤◌, inl, inr, ⊎_elim, Bool, true, false, Option, Some, None}
 use Rattle.std.proofs.Common.{List, [], ◌∷◌, length, slice_set, Contains, refl, sym, ap, subst, ◌∙◌, arith}
 use Rattle.std.specs.List.{list_any}
 use Rattle.std.proofs.lemmas.Option.{same_Some}
+use Rattle.std.proofs.lemmas.Bool.{or_parts}
+use Rattle.std.proofs.lemmas.List.{length-set}
 use Rattle.sc_values.specs.Access.{Access}
 use Rattle.sc_values.specs.Runs.{act_of}
 use Rattle.core_charts.specs.declared.region.Transition.{Transition}
@@ -12,21 +14,21 @@ use Rattle.chart_machine.specs.declared.standing.Standing.TheVariants as at
 use Rattle.chart_machine.specs.declared.standing.Configuration.{Configuration}
 use Rattle.chart_machine.specs.declared.table.Table.{Table}
 use Rattle.chart_machine.specs.Table.{state_at}
-use Rattle.chart_machine.specs.Turns.{standing_of, has_ended, guards as has_to_guard, is_guarded, has_work, may_close, inside}
+use Rattle.chart_machine.specs.Turns.{standing_of, has_ended, is_guarded, has_work, may_close, inside}
 use Rattle.chart_machine.specs.Steps.{to, after, change_of, step, verdict, access_of, access_of_trigger}
 use Rattle.chart_machine.specs.Machine.{machine}
 use Rattle.core_charts.specs.Aborts.{has_aborts}
-use Rattle.chart_machine_laws.specs.Tree.{IsNested, IsThere, LiesUnder, around, holder}
+use Rattle.chart_machine_laws.specs.Tree.{IsNested, IsThere, around, holder}
 use Rattle.tick_laws.proofs.Lists.{same_or_not}
 use Rattle.abort_expansion_laws.specs.Stages.{Entry, Watched, Silent, Correspondence, HasStage}
 use Rattle.abort_expansion_laws.specs.CoreRows.{own, IsState, IsSuper, Images, CoreRows, pair}
-use Rattle.abort_expansion_laws.specs.Related.{IsInside, guarded, open_inside, Related}
+use Rattle.abort_expansion_laws.specs.Related.{Related}
 use Rattle.abort_expansion_laws.specs.StageReached.{some_work, stage_of, Stage}
-use Rattle.abort_expansion_laws.proofs.StageReached.{any_in, none_of, inside_in, holds_other, one_at_least, one_at_most, either_rises}
+use Rattle.abort_expansion_laws.proofs.StageReached.{holds_other, one_at_least, either_rises}
 use Rattle.abort_expansion_laws.proofs.Supplying.{climbs_step, climbs_fewer}
-use Rattle.abort_expansion_laws.proofs.Simulation.{Segment, segment_on}
+use Rattle.abort_expansion_laws.proofs.Segments.{Segment, segment_on}
 use Rattle.abort_expansion_laws.proofs.SilentSteps.{AtHome}
-use Rattle.abort_expansion_laws.proofs.KnownVariables.{trigger_known, Stepped, stepped, present_there}
+use Rattle.abort_expansion_laws.proofs.KnownVariables.{trigger_known, Stepped, stepped}
 use Rattle.abort_expansion_laws.proofs.TestFails.{tested_is}
 use Rattle.abort_expansion_laws.proofs.StrongNotTaken.{MonitorGuards, trigger_plain}
 use Rattle.abort_expansion_laws.proofs.InsideLeaves.{AloneRows}
@@ -34,7 +36,7 @@ use Rattle.abort_expansion_laws.proofs.WokenConfigurations.{all_ended_too}
 use Rattle.abort_expansion_laws.proofs.FrontsChanged.{tail_of, HasFirst, one_first, none_first}
 use Rattle.abort_expansion_laws.proofs.ChecksInside.{Passes, nothing_checked, checked, Done, checks_pass}
 use Rattle.abort_expansion_laws.proofs.LastStrongFails as last
-use Rattle.abort_expansion_laws.proofs.StandsInside.{inside_present}
+use Rattle.abort_expansion_laws.proofs.OuterStages.{under_stages}
 
 module _ (k core : Table) (i : Images) (rows : CoreRows k core i) (lone : AloneRows k core i) (tree : IsNested k)
     (core_children : (s r : ℕ) → Contains (state_at core s).regions r → around core r ≡ s ∷ around core (holder core s))
@@ -78,9 +80,7 @@ module _ (k core : Table) (i : Images) (rows : CoreRows k core i) (lone : AloneR
   -- ---- stages
 
   ends_alike : (q : ℕ) → has_ended (standing_of c' q) ≡ has_ended (standing_of c q)
-  ends_alike q =
-      ⊎_elim (λ e. ap (λ p. has_ended (standing_of c' p)) e ∙ (ap has_ended here ∙ sym (ap (λ p. has_ended (standing_of c p)) e ∙ ap has_ended stands)))
-      (λ ne. ap has_ended (elsewhere q ne)) (same_or_not q r)
+  ends_alike = last.same_ends k core i rows lone tree core_children children c d related r o x o_there super t stands monitor has flag free
 
   closes_alike : (s : ℕ) (tests : List Transition) → may_close k c' s tests ≡ may_close k c s tests
   closes_alike s [] = refl
@@ -96,14 +96,10 @@ module _ (k core : Table) (i : Images) (rows : CoreRows k core i) (lone : AloneR
   work_alike (at.Acting s effects target) = refl
   work_alike (at.Within s tests) = closes_alike s tests
 
-  neither : (a b : Bool) → (a || b) ≡ false → (a ≡ false) × (b ≡ false)
-  neither true b e = absurd cc
-  neither false b e = (refl, e)
-
   quiet : (qs : List ℕ) → list_any (λ q. has_work k c (standing_of c q)) qs ≡ false → list_any (λ q. has_work k c' (standing_of c' q)) qs ≡ false
   quiet [] e = refl
   quiet (q ∷ qs) e =
-      let both = neither (has_work k c (standing_of c q)) (list_any (λ p. has_work k c (standing_of c p)) qs) e in
+      let both = or_parts (has_work k c (standing_of c q)) (list_any (λ p. has_work k c (standing_of c p)) qs) e in
       ⊎_elim (λ same. let wrong : true ≡ false = sym works ∙ (ap (λ p. has_work k c (standing_of c p)) (sym same) ∙ both.0) in absurd cc)
       (λ ne. rw (work_alike (standing_of c' q) ∙ (ap (has_work k c) (elsewhere q ne) ∙ both.0), quiet qs both.1) refl) (same_or_not q r)
 
@@ -125,32 +121,11 @@ module _ (k core : Table) (i : Images) (rows : CoreRows k core i) (lone : AloneR
   low_before : stage_of k c (standing_of c r) ≡ 0
   low_before = ap (stage_of k c) stands
 
-  -- what is around the region: its stage is 1 at most before, and at least then
-  module _ (s : ℕ) (inner : Contains (around k r) s) where
-    stands_inside : IsInside k core i s (standing_of c (holder k s))
-    stands_inside = related.enclosed r s there (λ e. let wrong : at.Guarding o (t ∷ []) ≡ at.Outside = sym stands ∙ e in absurd cc) inner
+  present : standing_of c r ≢ at.Outside
+  present e = let wrong : at.Guarding o (t ∷ []) ≡ at.Outside = sym stands ∙ e in absurd cc
 
-    holder_there : IsThere k (holder k s)
-    holder_there = present_there k core i c d related (holder k s) (inside_present k core i s (standing_of c (holder k s)) stands_inside)
-
-    not_guarding : has_to_guard (standing_of c (holder k s)) ≡ false
-    not_guarding = none_of (λ v. has_to_guard (standing_of c (holder k v))) (around k r) s free inner
-
-    busy : some_work k c s ≡ true
-    busy = any_in (λ q. has_work k c (standing_of c q)) (inside k s) r (inside_in k s r there inner) works
-
-    low : (w : Standing) → IsInside k core i s w → stage_of k c w ≤ 1
-    low _ (guarded tests) = omega arith
-    low _ (open_inside tests) = rw (busy) (one_at_most (has_aborts (own k s)))
-
-    high : (w : Standing) → IsInside k core i s w → has_to_guard w ≡ false → 1 ≤ stage_of k c' w
-    high _ (guarded tests) e = absurd cc
-    high _ (open_inside tests) e = one_at_least (has_aborts (own k s)) (some_work k c' s) (list_any (λ u. is_weak u.kind) tests)
-
-    high_there : 1 ≤ stage_of k c' (standing_of c' (holder k s))
-    high_there =
-        subst (λ w. 1 ≤ stage_of k c' w) (sym (elsewhere (holder k s) (holds_other k tree r s inner)))
-        (high (standing_of c (holder k s)) stands_inside not_guarding)
+  holders_same : (s : ℕ) → Contains (around k r) s → standing_of c' (holder k s) ≡ standing_of c (holder k s)
+  holders_same s inner = elsewhere (holder k s) (holds_other k tree r s inner)
 
   not_root : r ≡ 0 → ⊥
   not_root e = let lt = there.0 in omega (lt, e, arith)
@@ -163,35 +138,9 @@ module _ (k core : Table) (i : Images) (rows : CoreRows k core i) (lone : AloneR
     λ u before. let le = before.regions r there is.0 in omega (le, low_before, arith),
     (λ ne. absurd (ne (is.0 ∙ sym home_is)), λ e. let zero_is = is.1 in omega (zero_is, arith)),
   )
-  own_stages h n (inr inner) = by_kind inner.0 inner.1 inner.2 inner.3
-    where
-      by_kind : (b : ℕ) → LiesUnder k r b → h ≡ i.thread_of b → n ≡ 1 → ((u : ℕ) → Stage k i.thread_of c d h u → u ≤ n) × Home h n
-      by_kind b (inr root) is one = (
-        λ u before. let le = before.chart (is ∙ ap i.thread_of root) in omega (le, one, arith),
-        (
-          λ ne. record {
-            regions = λ q q_there e. let same : q ≡ 0 = rows.region_once q 0 (sym e ∙ (is ∙ ap i.thread_of root)) in let lt = q_there.0 in
-                absurd (omega (same, lt, arith));
-            chart = λ e. omega (one, arith);
-          },
-          λ e. omega (one, arith),
-        ),
-      )
-      by_kind b (inl under) is one = (
-        λ u before.
-            let le = before.regions (holder k under.0) (holder_there under.0 under.1) (is ∙ ap i.thread_of (sym under.2)) in
-            let most = low under.0 under.1 (standing_of c (holder k under.0)) (stands_inside under.0 under.1) in omega (le, most, one, arith),
-        (
-          λ ne. record {
-            regions = λ q q_there e.
-                let same : holder k under.0 ≡ q = under.2 ∙ rows.region_once b q (sym is ∙ e) in
-                let least : 1 ≤ stage_of k c' (standing_of c' q) = subst (λ p. 1 ≤ stage_of k c' (standing_of c' p)) same (high_there under.0 under.1) in
-                omega (least, one, arith);
-            chart = λ e. omega (one, arith);
-          },
-          λ e. omega (one, arith),
-        ),
-      )
+  own_stages h n (inr inner) =
+      let its = under_stages k core i rows c d related r there present works free c' holders_same d1 h n inner in
+      let one = inner.3 in (its.0, (λ ne. its.1, λ e. omega (one, arith)))
 
   stages_stay : (h n : ℕ) → i.watcher_of o ≢ h → Stage k i.thread_of c d h n → Home h n
   stages_stay h n other before = (
@@ -289,7 +238,7 @@ module _ (k core : Table) (i : Images) (rows : CoreRows k core i) (lone : AloneR
       second =
           checks_pass k core i rows tree counts written_at Told told o x flag_of high_flag not_counter written_first Others
           (λ q. tail_of (standing_of d1 (i.thread_of q))) d1
-          (Rattle.abort_expansion_laws.proofs.Leaving.set_length d.regions (i.watcher_of o) _ ∙ related.core_regions)
+          (length-set d.regions (i.watcher_of o) _ ∙ related.core_regions)
           (last.flag_down k core i rows lone tree core_children children c d related r o x o_there super t stands monitor has flag)
           (λ q is inner. passes_of q (standing_of d1 (i.thread_of q))
           (last.first_inside k core i rows lone tree core_children children c d related r o x o_there super t stands monitor has flag free q is inner))

@@ -1,7 +1,8 @@
 -- At the end of a tick each test that a thread has left fails, at stage 3 of the superstate whose flag or counter it reads.
 use Rattle.std.proofs.Common.{◌≡◌, ◌≢◌, ℕ, zero, suc, ◌+◌, ◌<◌, ◌≤◌, ◌⊎◌, ⊎_elim, false, Option, Some, List, [], ◌∷◌, ◌++◌}
-use Rattle.std.proofs.Common.{length, slice_set, unwrap_or, refl, sym, ap, subst, ◌∙◌, arith}
-use Rattle.std.proofs.lemmas.Option.{slice_get_past, same_Some}
+use Rattle.std.proofs.Common.{length, slice_set, refl, sym, ap, subst, ◌∙◌, arith}
+use Rattle.std.proofs.lemmas.Option.{same_Some}
+use Rattle.std.proofs.lemmas.List.{length-set}
 use Rattle.sc_values.specs.Access.{Access}
 use Rattle.core_charts.specs.declared.region.Transition.{Transition}
 use Rattle.chart_machine.specs.declared.standing.Standing.{Standing}
@@ -14,12 +15,12 @@ use Rattle.chart_machine.specs.Machine.{machine}
 use Rattle.chart_machine_laws.specs.Tree.{around, holder}
 use Rattle.tick_laws.proofs.Lists.{same_or_not}
 use Rattle.abort_expansion_laws.specs.Stages.{Entry, Silent, Correspondence, ReadsFlag, Climbs}
-use Rattle.abort_expansion_laws.proofs.Simulation.{Segment, segment_on}
+use Rattle.abort_expansion_laws.proofs.Segments.{Segment, segment_on}
 use Rattle.abort_expansion_laws.proofs.SilentSteps.{silent_step, no_step}
 use Rattle.abort_expansion_laws.proofs.Supplying.{silent_test, tests, climbs_step}
 use Rattle.abort_expansion_laws.proofs.TestFails.{fails}
 use Rattle.abort_expansion_laws.proofs.Unchanged.{stands_same, stands_other}
-use Rattle.abort_expansion_laws.proofs.Leaving.{set_length}
+use Rattle.abort_expansion_laws.proofs.NumberedRegions.{past_number}
 
 -- without tests that are left
 abbrev pub last_of : Standing → Standing
@@ -95,7 +96,7 @@ module _ (core : Table) (corr : Correspondence) (Told : Configuration → Entry 
   inside_core : (e : Configuration) (t u : ℕ) (rest : List Transition) → standing_of e t ≡ at.Trying u rest → t < length e.regions
   inside_core e t u rest is =
       ⊎_elim (λ lt. lt)
-      (λ past. let wrong : at.Outside ≡ at.Trying u rest = sym (ap (λ o. unwrap_or o at.Outside) (slice_get_past e.regions t past)) ∙ is in absurd cc)
+      (λ past. let wrong : at.Outside ≡ at.Trying u rest = sym (past_number e.regions t past) ∙ is in absurd cc)
       (below_or_not t (length e.regions))
 
   -- one thread has made its tests, and nothing else has changed
@@ -142,7 +143,7 @@ module _ (core : Table) (corr : Correspondence) (Told : Configuration → Entry 
             reaches =
                 record {
                   variables = s.reaches.variables;
-                  size = s.reaches.size ∙ set_length e.regions n (at.Trying u rest);
+                  size = s.reaches.size ∙ length-set e.regions n (at.Trying u rest);
                   here = s.reaches.here;
                   other = λ g ne. s.reaches.other g ne ∙ other g ne;
                 };
@@ -201,5 +202,5 @@ module _ (core : Table) (corr : Correspondence) (Told : Configuration → Entry 
   all_passed e done t =
       ⊎_elim (λ lt. done.passed t lt)
       (λ past.
-      let out : standing_of d t ≡ at.Outside = ap (λ o. unwrap_or o at.Outside) (slice_get_past d.regions t past) in
+      let out : standing_of d t ≡ at.Outside = past_number d.regions t past in
       done.waiting t past ∙ (out ∙ sym (ap last_of out))) (below_or_not t (length d.regions))

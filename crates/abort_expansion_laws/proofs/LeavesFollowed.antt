@@ -1,6 +1,7 @@
 -- The steps of a chart by which a superstate is left are followed: aborts that are taken, and terminations.
 use Rattle.std.proofs.Common.{◌≡◌, ◌≢◌, ℕ, ◌<◌, ◌⊎◌, inl, inr, Bool, true, false, not, ◌&&◌, Some, None, List, [], ◌∷◌, length, map, slice_get}
 use Rattle.std.proofs.Common.{option_map, Contains, refl, sym, ap, subst, ◌∙◌}
+use Rattle.std.proofs.lemmas.Bool.{or_right}
 use Rattle.sc_values.specs.declared.value.Kind.TheVariants as kind_is
 use Rattle.sc_graph.specs.Steps.{takes_kind}
 use Rattle.core_charts.specs.declared.features.Features.TheVariants as features
@@ -26,14 +27,13 @@ use Rattle.chart_machine_laws.proofs.ChartTables.{around_there}
 use Rattle.abort_expansion_laws.specs.Stages.{Entry}
 use Rattle.abort_expansion_laws.specs.CoreRows.{own, IsState, IsSuper, joins, Images, CoreRows, flags_around}
 use Rattle.abort_expansion_laws.specs.Related.{Stands, outside, ended, left, trying, acting, entering, guarding, staying, within, behind, Related}
-use Rattle.abort_expansion_laws.proofs.CasesFollowed.{has_from, other_true}
+use Rattle.abort_expansion_laws.proofs.CasesFollowed.{has_from}
 use Rattle.abort_expansion_laws.proofs.CasesFollowed as cases
 use Rattle.abort_expansion_laws.proofs.FlagStages.{FlagStages, WeakFits}
 use Rattle.abort_expansion_laws.proofs.TickRows.{alone_rows, start_rows}
 use Rattle.abort_expansion_laws.proofs.KnownVariables.{Stepped}
 use Rattle.abort_expansion_laws.proofs.MoreRows.{alone, opening_rows, strong_of, counter_given}
 use Rattle.abort_expansion_laws.proofs.OwnTests.{OwnTests, IsOwn}
-use Rattle.abort_expansion_laws.proofs.PreemptionKept.{ToldHere}
 use Rattle.abort_expansion_laws.proofs.QuietBegins.{state_with_aborts}
 use Rattle.abort_expansion_laws.proofs.RowsOfCharts as whole
 use Rattle.abort_expansion_laws.proofs.SplitTerminates.{split_terminates, split_enters}
@@ -41,8 +41,8 @@ use Rattle.abort_expansion_laws.proofs.StayingTerminates.{staying_terminates, st
 use Rattle.abort_expansion_laws.proofs.StrongNotTaken.{IsGuarding, MonitorGuards}
 use Rattle.abort_expansion_laws.proofs.StrongTaken.{strong_followed, strong_entered}
 use Rattle.abort_expansion_laws.proofs.TestTargets.{ends_untested}
-use Rattle.abort_expansion_laws.proofs.TickFollowed as ticks
-use Rattle.abort_expansion_laws.proofs.ToldSteps.{told_silent, told_weak}
+use Rattle.abort_expansion_laws.proofs.TicksOfCharts as ticks
+use Rattle.abort_expansion_laws.proofs.ToldSteps.{told_silent, told_weak, ToldHere}
 use Rattle.abort_expansion_laws.proofs.WeakNotTaken.{within_back, MonitorWaits}
 use Rattle.abort_expansion_laws.proofs.WeakTaken.{weak_followed, weak_entered}
 
@@ -183,7 +183,7 @@ module _ (c : Chart) (rules : IsChart features.Extended c) (core_rules : IsChart
           (holds : verdict now.variables t.trigger ≡ Some true) (own_one : Contains (own k o) t) (is_weak_one : is_weak t.kind ≡ true)
           (monitor : MonitorWaits k core i o t tests (standing_of d (i.watcher_of o))) where
         weak_has : has_aborts (own k o) ≡ true
-        weak_has = other_true (has_strong (own k o)) (has_weak (own k o)) (has_from (λ z. is_weak z.kind) (own k o) t own_one is_weak_one)
+        weak_has = or_right (has_strong (own k o)) (has_weak (own k o)) (has_from (λ z. is_weak z.kind) (own k o) t own_one is_weak_one)
 
         weak_here : IsState k o
         weak_here = state_with_aborts k o weak_has

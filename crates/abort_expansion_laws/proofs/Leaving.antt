@@ -2,6 +2,7 @@
 use Rattle.std.proofs.Common.{◌≡◌, ◌≢◌, ℕ, zero, suc, ◌<◌, ⊎_elim, true, false, not, Some, None, List, [], ◌∷◌, ◌++◌, map, length, slice_get, slice_set}
 use Rattle.std.proofs.Common.{unwrap_or, Contains, refl, sym, ap, subst, ◌∙◌, arith}
 use Rattle.std.specs.List.{list_all}
+use Rattle.std.proofs.lemmas.List.{length-set}
 use Rattle.core_charts.specs.declared.region.Transition.{Transition}
 use Rattle.chart_machine.specs.declared.standing.Standing.{Standing}
 use Rattle.chart_machine.specs.declared.standing.Standing.TheVariants as at
@@ -42,14 +43,9 @@ set_here [] r x lt = absurd (omega (lt, arith))
 set_here (z ∷ zs) zero x lt = refl
 set_here (z ∷ zs) (suc r) x lt = set_here zs r x (omega (lt, arith))
 
-pub set_length : (zs : List Standing) (r : ℕ) (x : Standing) → length (slice_set zs r x) ≡ length zs
-set_length [] r x = refl
-set_length (z ∷ zs) zero x = refl
-set_length (z ∷ zs) (suc r) x = ap suc (set_length zs r x)
-
 pub moved_size : (ms : List Move) (zs : List Standing) → length (moved ms zs) ≡ length zs
 moved_size [] zs = refl
-moved_size (m ∷ ms) zs = moved_size ms (slice_set zs m.region m.standing) ∙ set_length zs m.region m.standing
+moved_size (m ∷ ms) zs = moved_size ms (slice_set zs m.region m.standing) ∙ length-set zs m.region m.standing
 
 pub stay_out : (rs : List ℕ) (zs : List Standing) (q : ℕ) → at_number zs q ≡ at.Outside → at_number (moved (drops rs) zs) q ≡ at.Outside
 stay_out [] zs q e = e
@@ -72,7 +68,7 @@ drops_out (r ∷ rs) zs q none =
 
 pub drops_length : (rs : List ℕ) (zs : List Standing) → length (moved (drops rs) zs) ≡ length zs
 drops_length [] zs = refl
-drops_length (r ∷ rs) zs = drops_length rs (slice_set zs r at.Outside) ∙ set_length zs r at.Outside
+drops_length (r ∷ rs) zs = drops_length rs (slice_set zs r at.Outside) ∙ length-set zs r at.Outside
 
 pub moved_append : (a b : List Move) (zs : List Standing) → moved (a ++ b) zs ≡ moved b (moved a zs)
 moved_append [] b zs = refl

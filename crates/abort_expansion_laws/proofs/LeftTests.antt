@@ -1,10 +1,10 @@
 -- When a chart's tick is over, what its core has left: a weak check in each thread inside of a superstate with weak aborts, and the
 -- count test of each monitor that has one. They fail.
-use Rattle.std.proofs.Common.{◌≡◌, ◌≢◌, ℕ, zero, suc, pos, ◌+◌, ◌<◌, ◌≤◌, ◌⊎◌, inl, inr, Bool, true, false, not, ◌||◌, ◌&&◌, Option, Some, None}
-use Rattle.std.proofs.Common.{List, [], ◌∷◌, ◌++◌, map, length, slice_get, unwrap_or, Contains, refl, sym, ap, subst, ◌∙◌, arith, if◌then◌else◌}
+use Rattle.std.proofs.Common.{◌≡◌, ◌≢◌, ℕ, zero, suc, pos, ◌+◌, ◌<◌, ◌≤◌, ◌⊎◌, inl, inr, Bool, true, false, not, ◌||◌, Option, Some, None}
+use Rattle.std.proofs.Common.{List, [], ◌∷◌, ◌++◌, map, length, slice_get, Contains, refl, sym, ap, subst, ◌∙◌, arith}
 use Rattle.std.specs.Prelude.{filter, reverse}
-use Rattle.std.specs.List.{list_all, list_any}
-use Rattle.std.proofs.lemmas.Option.{none-some, same_Some, slice_get_past}
+use Rattle.std.specs.List.{list_any}
+use Rattle.std.proofs.lemmas.Option.{none-some, same_Some}
 use Rattle.sc_values.specs.declared.value.Value.TheVariants as value_is
 use Rattle.sc_values.specs.Access.{Access}
 use Rattle.sc_values.specs.Runs.{IsOver}
@@ -15,7 +15,7 @@ use Rattle.chart_machine.specs.declared.standing.Standing.TheVariants as at
 use Rattle.chart_machine.specs.declared.standing.Configuration.{Configuration}
 use Rattle.chart_machine.specs.declared.table.Table.{Table}
 use Rattle.chart_machine.specs.Table.{state_at}
-use Rattle.chart_machine.specs.Turns.{standing_of, has_ended, has_work, inside}
+use Rattle.chart_machine.specs.Turns.{standing_of, has_work, inside}
 use Rattle.chart_machine.specs.Machine.{machine}
 use Rattle.core_charts.specs.Aborts.{has_aborts}
 use Rattle.abort_expansion.specs.Transitions.{go, is_raised, is_number, check, weak_checks}
@@ -26,7 +26,7 @@ use Rattle.abort_expansion_laws.specs.Stages.{Entry, Silent, Correspondence}
 use Rattle.abort_expansion_laws.specs.CoreRows.{own, IsState, Images, CoreRows, flags_around, pair}
 use Rattle.abort_expansion_laws.specs.Related.{Each, front, held_back, Stands, outside, ended, left, trying, acting, entering, guarding, staying}
 use Rattle.abort_expansion_laws.specs.Related.{within, behind, Watches, waits, looks_strong, looks, elsewhere, raise_each}
-use Rattle.abort_expansion_laws.specs.Related.{still_in, not_ended, Stores, IsInside, guarded, open_inside}
+use Rattle.abort_expansion_laws.specs.Related.{not_ended, Stores, IsInside, guarded, open_inside}
 use Rattle.abort_expansion_laws.specs.Related.{Closes, Related, monitor_last}
 use Rattle.abort_expansion_laws.specs.Related.{guards as watch_guards}
 use Rattle.abort_expansion_laws.proofs.Fronts.{front_free}
@@ -43,7 +43,9 @@ use Rattle.abort_expansion_laws.proofs.LaterTicks.{weak_no_join, each_more}
 use Rattle.abort_expansion_laws.proofs.IdleChart.{free, idle}
 use Rattle.abort_expansion_laws.proofs.LastTests.{Ends, nothing_left, some_left, FailsAtLast, none_left, one_more, fails_both}
 use Rattle.abort_expansion_laws.proofs.YetToLook.{in_reverse}
-use Rattle.tick_laws.proofs.Lists.{map_contains}
+use Rattle.abort_expansion_laws.proofs.WeakSeen.{still_none}
+use Rattle.abort_expansion_laws.proofs.NumberedRegions.{past_number}
+use Rattle.abort_expansion_laws.proofs.ThreadsAround.{thread_within}
 
 none_any : (P : ℕ → Bool) (xs : List ℕ) → ((y : ℕ) → P y ≡ false) → list_any P xs ≡ false
 none_any P [] none = refl
@@ -178,7 +180,7 @@ module _ (k core : Table) (i : Images) (rows : CoreRows k core i) (lone : AloneR
     weak_all = weak_fail (reverse (around k r)) (λ s h. in_reverse (around k r) s h)
 
   in_fork : (r s : ℕ) → Contains (around k r) s → Contains (around core (i.thread_of r)) (i.main_of s)
-  in_fork r s inner = subst (λ zs. Contains zs (i.main_of s)) (sym (rows.encloses r)) (map_contains i.main_of (around k r) s inner)
+  in_fork r s inner = thread_within k core i rows r s inner
 
   -- a thread with its weak checks alone
   weak_left : (r : ℕ) → IsThere k r → standing_of c r ≢ at.Outside → (u : ℕ) → EndsAt (i.thread_of r) (at.Trying u (held_back k core i r))
@@ -206,16 +208,6 @@ module _ (k core : Table) (i : Images) (rows : CoreRows k core i) (lone : AloneR
 
   -- ---- count tests
 
-  still_none : (rs : List ℕ) → still_in k core i c rs ≡ 0 → list_all (λ r. has_ended (standing_of c r)) rs ≡ true
-  still_none [] e = refl
-  still_none (r ∷ rs) e = by_end (has_ended (standing_of c r)) refl e (λ rest. still_none rs rest)
-    where
-      by_end : (b : Bool) → has_ended (standing_of c r) ≡ b → (if b then 0 else 1) + still_in k core i c rs ≡ 0 →
-          (still_in k core i c rs ≡ 0 → list_all (λ q. has_ended (standing_of c q)) rs ≡ true) →
-          (has_ended (standing_of c r) && list_all (λ q. has_ended (standing_of c q)) rs) ≡ true
-      by_end true is e rest = rw (is) (rest (omega (e, arith)))
-      by_end false is e rest = absurd (omega (e, arith))
-
   -- a counter is not down to 0: else the termination would have its turn
   not_counted : (o x : ℕ) (tests : List Transition) → standing_of c (holder k o) ≡ at.Within o tests → (i.flags_of o).counter ≡ Some x →
       not_ended k core i c o ≢ 0
@@ -231,7 +223,7 @@ module _ (k core : Table) (i : Images) (rows : CoreRows k core i) (lone : AloneR
           none_left [] are = let wrong : [] ≡ join.0 ∷ join.1.0 = are ∙ join.1.1 in absurd cc
           none_left (u ∷ some) are = absurd cc
       by_tests (t ∷ tests) e closes =
-          works_not (holder k o) (at.Within o (t ∷ tests)) e (rw (still_none (state_at k o).regions none) (or_true (not (is_join t.kind))))
+          works_not (holder k o) (at.Within o (t ∷ tests)) e (rw (still_none k core i c (state_at k o).regions none) (or_true (not (is_join t.kind))))
         where
           or_true : (b : Bool) → (b || true) ≡ true
           or_true true = refl
@@ -312,4 +304,4 @@ module _ (k core : Table) (i : Images) (rows : CoreRows k core i) (lone : AloneR
       by_place (inr past) =
           let size = related.core_regions in
           subst (EndsAt (suc j))
-          (sym (ap (λ o. unwrap_or o at.Outside) (slice_get_past d.regions (suc j) (omega (past, size, arith))))) (nothing_left at.Outside refl)
+          (sym (past_number d.regions (suc j) (omega (past, size, arith)))) (nothing_left at.Outside refl)

@@ -2,7 +2,7 @@ pub mod Commuting
 pub mod FreeFlags
 pub mod StagesKept
 pub mod Supplying
-pub mod Simulation
+pub mod Segments
 pub mod EachSpared
 pub mod TablesCorrespond
 pub mod ListsOfTicks
@@ -11,9 +11,11 @@ pub mod MoreValues
 pub mod CalmStandings
 pub mod Fronts
 pub mod Unchanged
+pub mod RegionMoved
 pub mod RegionGoesOn
 pub mod StageReached
 pub mod FrontFirst
+pub mod OuterStages
 pub mod ImageSteps
 pub mod KnownVariables
 pub mod TestFails
@@ -27,6 +29,8 @@ pub mod MonitorGoesOn
 pub mod MonitorSteps
 pub mod StrongNotTaken
 pub mod SimpleRows
+pub mod ThreadsAround
+pub mod NumberedRegions
 pub mod StandsInside
 pub mod DropsOut
 pub mod MonitorsApart
@@ -195,11 +199,11 @@ pub mod QuietBegins
 pub mod SeesFirst
 pub mod BesideMonitors
 pub mod QuietAtStart
-pub mod TickFollowed
-pub mod PreemptionFollows
+pub mod TicksOfCharts
+pub mod BetweenTicks
 pub mod ToldSteps
 pub mod TestsSpared
-pub mod PreemptionKept
+pub mod OwnTestsKept
 pub mod CasesFollowed
 pub mod LeavesFollowed
 pub mod WeakTestReady

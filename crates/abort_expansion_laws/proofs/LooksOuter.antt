@@ -4,6 +4,7 @@ use Rattle.std.proofs.Common.{◌≡◌, ◌≢◌, ℕ, ◌<◌, inl, ⊎_elim,
 use Rattle.std.proofs.Common.{refl, sym, ap, subst, ◌∙◌, arith}
 use Rattle.std.specs.Prelude.{reverse}
 use Rattle.std.proofs.lemmas.List.Elements.{Contains-append_right}
+use Rattle.std.proofs.lemmas.List.{length-set}
 use Rattle.sc_values.specs.Access.{Access}
 use Rattle.core_charts.specs.declared.region.Transition.{Transition}
 use Rattle.core_charts.specs.Aborts.{has_aborts}
@@ -18,13 +19,12 @@ use Rattle.abort_expansion_laws.specs.Stages.{Entry, Silent, Correspondence}
 use Rattle.chart_machine_laws.proofs.LyingIn.{IsNested, around, holder, none_in, head_or_tail, head_in}
 use Rattle.abort_expansion_laws.specs.CoreRows.{own, IsState, Images, CoreRows}
 use Rattle.abort_expansion_laws.specs.Related.{looks_at, LooksFirst, looks_never, looks_first, Related}
-use Rattle.abort_expansion_laws.proofs.StageReached.{Stage, any_in, none_of, inside_in}
+use Rattle.abort_expansion_laws.proofs.StageReached.{Stage, any_in, inside_in}
 use Rattle.abort_expansion_laws.proofs.ImageSteps.{pair}
 use Rattle.abort_expansion_laws.proofs.KnownVariables.{present_there}
 use Rattle.abort_expansion_laws.proofs.StandsInside.{inside_present}
-use Rattle.abort_expansion_laws.proofs.Simulation.{Segment}
-use Rattle.abort_expansion_laws.proofs.Unchanged.{no_guards, stands_same, stands_other}
-use Rattle.abort_expansion_laws.proofs.Leaving.{set_length}
+use Rattle.abort_expansion_laws.proofs.Segments.{Segment}
+use Rattle.abort_expansion_laws.proofs.Unchanged.{no_guards, stands_same, stands_other, none_among}
 use Rattle.abort_expansion_laws.proofs.StartingRegions.{CounterRows}
 use Rattle.abort_expansion_laws.proofs.OpensFork.{OpeningRows}
 use Rattle.abort_expansion_laws.proofs.FailedChecks.{placed, one_fails}
@@ -101,7 +101,7 @@ module _ (k core : Table) (i : Images) (rows : CoreRows k core i) (tree : IsNest
           opened = related.enclosed (holder k s) a there guard_present outer;
           busy = any_in (λ q. has_work k c (standing_of c q)) (inside k a) (holder k s) (inside_in k a (holder k s) there outer)
               (guards_works (standing_of c (holder k s)) guards_now);
-          free = none_of (λ v. has_to_guard (standing_of c (holder k v))) (around k (holder k s)) a free outer;
+          free = none_among (λ v. has_to_guard (standing_of c (holder k v))) (around k (holder k s)) a free outer;
           lies = monitor_lies k core i rows o o_there has a around_it;
         }
 
@@ -121,7 +121,7 @@ module _ (k core : Table) (i : Images) (rows : CoreRows k core i) (tree : IsNest
             values = refl;
             here = stands_same z after g (at.Trying (i.watching_of o) rest) refl g_less;
             others = λ t ne. stands_other z after g t (at.Trying (i.watching_of o) rest) refl ne;
-            size = set_length z.regions g (at.Trying (i.watching_of o) rest);
+            size = length-set z.regions g (at.Trying (i.watching_of o) rest);
           }
 
       -- its superstate is open, so whoever guards around it has a strong flag; a does not guard
@@ -148,7 +148,7 @@ module _ (k core : Table) (i : Images) (rows : CoreRows k core i) (tree : IsNest
           differs same =
               let wrong : true ≡ false =
               sym on ∙ (ap (λ w. has_to_guard (standing_of c (holder k w))) same
-              ∙ none_of (λ w. has_to_guard (standing_of c (holder k w))) (around k (holder k s)) a free outer) in
+              ∙ none_among (λ w. has_to_guard (standing_of c (holder k w))) (around k (holder k s)) a free outer) in
               absurd cc
 
       related_after : Related k core i c after

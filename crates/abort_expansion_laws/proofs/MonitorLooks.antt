@@ -17,10 +17,10 @@ use Rattle.chart_machine_laws.proofs.LyingIn.{IsNested, around, holder}
 use Rattle.chart_machine_laws.specs.Tree.{IsThere}
 use Rattle.abort_expansion_laws.specs.CoreRows.{own, IsState, Images, CoreRows, WatcherImage}
 use Rattle.abort_expansion_laws.specs.Related.{Watches, LooksFirst, Related}
-use Rattle.abort_expansion_laws.proofs.StageReached.{Stage, any_in, none_of, inside_in}
+use Rattle.abort_expansion_laws.proofs.StageReached.{Stage, any_in, inside_in}
 use Rattle.abort_expansion_laws.proofs.ImageSteps.{pair}
-use Rattle.abort_expansion_laws.proofs.Simulation.{Segment}
-use Rattle.abort_expansion_laws.proofs.Unchanged.{no_guards}
+use Rattle.abort_expansion_laws.proofs.Segments.{Segment}
+use Rattle.abort_expansion_laws.proofs.Unchanged.{no_guards, none_among}
 use Rattle.abort_expansion_laws.proofs.StartingRegions.{CounterRows}
 use Rattle.abort_expansion_laws.proofs.OpensFork.{OpeningRows}
 use Rattle.abort_expansion_laws.proofs.FailedChecks.{looks_fail}
@@ -60,7 +60,7 @@ module _ (k core : Table) (i : Images) (rows : CoreRows k core i) (tree : IsNest
         here = super_there r s around_it;
         opened = related.enclosed r s there present around_it;
         busy = any_in (λ q. has_work k c (standing_of c q)) (inside k s) r (inside_in k s r there around_it) works;
-        free = none_of (λ v. has_to_guard (standing_of c (holder k v))) (around k r) s free around_it;
+        free = none_among (λ v. has_to_guard (standing_of c (holder k v))) (around k r) s free around_it;
         lies = monitor_lies k core i rows o o_there has s (subst (λ q. Contains (around k q) s) (sym held) around_it);
       }
 
@@ -70,7 +70,7 @@ module _ (k core : Table) (i : Images) (rows : CoreRows k core i) (tree : IsNest
       LooksFirst k core i o s (at.Trying (i.watching_of o) rest)
   none_unseen s inner guards =
       let around_r : Contains (around k r) s = subst (λ q. Contains (around k q) s) held inner in
-      let wrong : true ≡ false = sym guards ∙ none_of (λ v. has_to_guard (standing_of c (holder k v))) (around k r) s free around_r in absurd cc
+      let wrong : true ≡ false = sym guards ∙ none_among (λ v. has_to_guard (standing_of c (holder k v))) (around k r) s free around_r in absurd cc
 
   -- ---- it looks, and what follows does so from there
 

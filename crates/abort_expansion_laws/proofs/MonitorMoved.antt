@@ -14,7 +14,7 @@ use Rattle.chart_machine_laws.proofs.LyingIn.{around, holder}
 use Rattle.abort_expansion_laws.specs.CoreRows.{own, IsState, Images, CoreRows, WatcherImage}
 use Rattle.abort_expansion_laws.specs.Related.{Stores, Stands, Watches, FlagsAreDown, LooksFirst, not_ended, Related}
 use Rattle.abort_expansion_laws.proofs.StageReached.{Stage}
-use Rattle.abort_expansion_laws.proofs.Simulation.{Segment, segment_on}
+use Rattle.abort_expansion_laws.proofs.Segments.{Segment, segment_on}
 use Rattle.abort_expansion_laws.proofs.Supplying.{climbs_fewer}
 use Rattle.abort_expansion_laws.proofs.LooksFirst.{still_looks}
 use Rattle.abort_expansion_laws.proofs.OneMonitor.{one_monitor}

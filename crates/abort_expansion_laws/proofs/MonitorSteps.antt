@@ -1,31 +1,27 @@
 -- An abort test of a region that the monitor of its superstate makes: it is followed by one step of the core.
 use Rattle.std.proofs.Common.{◌≡◌, ◌≢◌, ℕ, ◌<◌, ◌≤◌, ◌⊎◌, inl, inr, ⊎_elim, Bool, true, false, Some, [], ◌∷◌, length, Contains, refl}
 use Rattle.std.proofs.Common.{sym, ap, subst, ◌∙◌, arith}
-use Rattle.std.specs.List.{list_any}
 use Rattle.sc_values.specs.Access.{Access, Nothing}
 use Rattle.sc_values.specs.Runs.{act_of}
-use Rattle.core_charts.specs.Tests.{is_weak}
-use Rattle.core_charts.specs.Aborts.{has_aborts}
 use Rattle.chart_machine.specs.declared.standing.Standing.{Standing}
 use Rattle.chart_machine.specs.declared.standing.Configuration.{Configuration}
 use Rattle.chart_machine.specs.declared.table.Table.{Table}
-use Rattle.chart_machine.specs.Turns.{standing_of, guards, has_work, is_guarded, inside}
+use Rattle.chart_machine.specs.Turns.{standing_of, has_work, is_guarded}
 use Rattle.chart_machine.specs.Steps.{access_of, step}
 use Rattle.chart_machine.specs.Machine.{machine}
 use Rattle.tick_laws.proofs.Lists.{same_or_not}
 use Rattle.abort_expansion_laws.specs.Stages.{Entry, Watched, Touches}
 use Rattle.abort_expansion_laws.proofs.Supplying.{climbs_step}
-use Rattle.abort_expansion_laws.proofs.Simulation.{Segment}
-use Rattle.chart_machine_laws.proofs.LyingIn.{IsNested, LiesUnder, around, holder}
+use Rattle.abort_expansion_laws.proofs.Segments.{Segment}
+use Rattle.chart_machine_laws.proofs.LyingIn.{IsNested, around, holder}
 use Rattle.abort_expansion_laws.proofs.TablesCorrespond.{IsThere}
-use Rattle.abort_expansion_laws.specs.CoreRows.{own, Images, CoreRows}
-use Rattle.abort_expansion_laws.specs.Related.{IsInside, guarded, open_inside, Related}
+use Rattle.abort_expansion_laws.specs.CoreRows.{Images, CoreRows}
+use Rattle.abort_expansion_laws.specs.Related.{Related}
 use Rattle.abort_expansion_laws.proofs.Unchanged.{stands_other, stands_same}
 use Rattle.abort_expansion_laws.proofs.MonitorGoesOn.{MonitorGoesOn, monitor_goes_on, same_shape}
 use Rattle.abort_expansion_laws.proofs.ImageSteps.{pair}
-use Rattle.abort_expansion_laws.proofs.StageReached.{some_work, stage_of, Stage, any_in, none_of, inside_in, holds_other, one_at_least, one_at_most, stage_kept}
-use Rattle.abort_expansion_laws.proofs.StandsInside.{inside_present}
-use Rattle.abort_expansion_laws.proofs.KnownVariables.{present_there}
+use Rattle.abort_expansion_laws.proofs.StageReached.{stage_of, Stage, holds_other, stage_kept}
+use Rattle.abort_expansion_laws.proofs.OuterStages.{Inner, under_stages}
 
 module _ (k core : Table) (i : Images) (rows : CoreRows k core i) (tree : IsNested k) (counts : ℕ → Bool) (written_at : ℕ → ℕ) where
   -- region q has work and nobody guards it; the monitor of superstate o makes the same test, and both go on
@@ -47,59 +43,14 @@ module _ (k core : Table) (i : Images) (rows : CoreRows k core i) (tree : IsNest
     elsewhere : (r : ℕ) → r ≢ q → standing_of c' r ≡ standing_of c r
     elsewhere r ne = stands_other c c' q r y s.goes.chart ne
 
-    module _ (u : ℕ) (inner : Contains (around k q) u) where
-      stands_inside : IsInside k core i u (standing_of c (holder k u))
-      stands_inside = related.enclosed q u s.goes.there s.goes.was_there inner
+    holders_same : (u : ℕ) → Contains (around k q) u → standing_of c' (holder k u) ≡ standing_of c (holder k u)
+    holders_same u inner = elsewhere (holder k u) (holds_other k tree q u inner)
 
-      holder_there : IsThere k (holder k u)
-      holder_there = present_there k core i c d related (holder k u) (inside_present k core i u (standing_of c (holder k u)) stands_inside)
+    abbrev Within : ℕ → ℕ → Type 0
+    Within = Inner k core i rows c d related q s.goes.there s.goes.was_there s.works s.free c' holders_same
 
-      not_guarding : guards (standing_of c (holder k u)) ≡ false
-      not_guarding = none_of (λ v. guards (standing_of c (holder k v))) (around k q) u s.free inner
-
-      busy : some_work k c u ≡ true
-      busy = any_in (λ r. has_work k c (standing_of c r)) (inside k u) q (inside_in k u q s.goes.there inner) s.works
-
-      low : (x : Standing) → IsInside k core i u x → stage_of k c x ≤ 1
-      low _ (guarded tests) = omega arith
-      low _ (open_inside tests) = rw (busy) (one_at_most (has_aborts (own k u)))
-
-      high : (x : Standing) → IsInside k core i u x → guards x ≡ false → 1 ≤ stage_of k c' x
-      high _ (guarded tests) e = absurd cc
-      high _ (open_inside tests) e = one_at_least (has_aborts (own k u)) (some_work k c' u) (list_any (λ t. is_weak t.kind) tests)
-
-      high_there : 1 ≤ stage_of k c' (standing_of c' (holder k u))
-      high_there =
-          subst (λ x. 1 ≤ stage_of k c' x) (sym (elsewhere (holder k u) (holds_other k tree q u inner)))
-          (high (standing_of c (holder k u)) stands_inside not_guarding)
-
-    abbrev Inner : ℕ → ℕ → Type 0
-    Inner h v = (b : ℕ) × LiesUnder k q b × (h ≡ i.thread_of b) × (v ≡ 1)
-
-    stages : (h v : ℕ) → Inner h v → ((u : ℕ) → Stage k i.thread_of c d h u → u ≤ v) × Stage k i.thread_of c' d' h v
-    stages h v (b, under, is, one) = by_kind under
-      where
-        by_kind : LiesUnder k q b → ((u : ℕ) → Stage k i.thread_of c d h u → u ≤ v) × Stage k i.thread_of c' d' h v
-        by_kind (inr root) = (
-          λ u before. let n = before.chart (is ∙ ap i.thread_of root) in omega (n, one, arith),
-          record {
-            regions = λ r there e. let same : r ≡ 0 = rows.region_once r 0 (sym e ∙ (is ∙ ap i.thread_of root)) in let lt = there.0 in
-                absurd (omega (same, lt, arith));
-            chart = λ e. omega (one, arith);
-          },
-        )
-        by_kind (inl inner) = (
-          λ u before.
-              let n = before.regions (holder k inner.0) (holder_there inner.0 inner.1) (is ∙ ap i.thread_of (sym inner.2)) in
-              let m = low inner.0 inner.1 (standing_of c (holder k inner.0)) (stands_inside inner.0 inner.1) in omega (n, m, one, arith),
-          record {
-            regions = λ r there e.
-                let same : holder k inner.0 ≡ r = inner.2 ∙ rows.region_once b r (sym is ∙ e) in
-                let n : 1 ≤ stage_of k c' (standing_of c' r) = subst (λ x. 1 ≤ stage_of k c' (standing_of c' x)) same (high_there inner.0 inner.1) in
-                omega (n, one, arith);
-            chart = λ e. omega (one, arith);
-          },
-        )
+    stages : (h v : ℕ) → Within h v → ((u : ℕ) → Stage k i.thread_of c d h u → u ≤ v) × Stage k i.thread_of c' d' h v
+    stages = under_stages k core i rows c d related q s.goes.there s.goes.was_there s.works s.free c' holders_same d'
 
     in_chart : q < length c.regions
     in_chart = let lt = s.goes.there.1 in omega (lt, related.chart_regions, arith)
@@ -119,7 +70,7 @@ module _ (k core : Table) (i : Images) (rows : CoreRows k core i) (tree : IsNest
       },
     )
 
-    all_stages : (h v : ℕ) → ((h ≡ i.thread_of q) × (v ≡ stage)) ⊎ Inner h v → ((u : ℕ) → Stage k i.thread_of c d h u → u ≤ v) × Stage k i.thread_of c' d' h v
+    all_stages : (h v : ℕ) → ((h ≡ i.thread_of q) × (v ≡ stage)) ⊎ Within h v → ((u : ℕ) → Stage k i.thread_of c d h u → u ≤ v) × Stage k i.thread_of c' d' h v
     all_stages h v (inl is) = own_stage h v is.0 is.1
     all_stages h v (inr inner) = stages h v inner
 

@@ -5,9 +5,9 @@ use Rattle.chart_machine.specs.Turns.{LiesIn, itself, deeper, ForkedApart, holde
 use Rattle.chart_machine_laws.proofs.LyingIn.{IsNested, around, holder, none_in, head_or_tail, head_in, inwards}
 use Rattle.chart_machine_laws.proofs.ChartTables.{around_there}
 use Rattle.chart_machine_laws.specs.Tree.{IsThere}
-use Rattle.abort_expansion_laws.proofs.TablesCorrespond.{contains_map}
 use Rattle.core_charts.specs.Aborts.{has_aborts}
 use Rattle.abort_expansion_laws.specs.CoreRows.{IsState, own, Images, CoreRows}
+use Rattle.tick_laws.proofs.Lists.{contains_map}
 
 module _ (k : Table) (tree : IsNested k) where
   -- the region of a superstate in which another one lies

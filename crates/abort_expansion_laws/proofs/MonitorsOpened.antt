@@ -5,14 +5,14 @@ use Rattle.chart_machine.specs.declared.standing.Standing.TheVariants as at
 use Rattle.chart_machine.specs.declared.standing.Configuration.{Configuration}
 use Rattle.chart_machine.specs.declared.table.Table.{Table}
 use Rattle.chart_machine.specs.Turns.{standing_of, guards as has_to_guard, is_guarded}
-use Rattle.tick_laws.proofs.Lists.{map_contains}
 use Rattle.chart_machine_laws.proofs.LyingIn.{around, holder, head_in, tail_in}
 use Rattle.abort_expansion_laws.specs.CoreRows.{own, IsState, Images, CoreRows}
 use Rattle.abort_expansion_laws.specs.Related.{IsInside, LooksFirst}
 use Rattle.abort_expansion_laws.proofs.LooksFirst.{open_or_out, out_looks, still_looks}
-use Rattle.abort_expansion_laws.proofs.StageReached.{none_of}
 use Rattle.abort_expansion_laws.proofs.OpenedRows.{WithinIt, Opens, OpenedRows}
 use Rattle.abort_expansion_laws.proofs.Pending.{IsOpening, IsEmpty}
+use Rattle.abort_expansion_laws.proofs.Unchanged.{none_among}
+use Rattle.abort_expansion_laws.proofs.ThreadsAround.{thread_within}
 
 module _ (k core : Table) (i : Images) (rows : CoreRows k core i) (opened_rows : OpenedRows k core i) (c d e : Configuration) (s : ℕ)
     (opens_it : Opens k core i c d e s) (empty : (v : ℕ) → IsOpening k core i c e v → IsEmpty k core i c e v) where
@@ -24,7 +24,7 @@ module _ (k core : Table) (i : Images) (rows : CoreRows k core i) (opened_rows :
         (λ same. subst (λ w. Contains (i.main_of u ∷ around core (i.thread_of (holder k u))) (i.main_of w)) (sym same)
         (head_in (i.main_of u) (around core (i.thread_of (holder k u)))))
         (λ further. tail_in (i.main_of u) (i.main_of v) (around core (i.thread_of (holder k u)))
-        (subst (λ zs. Contains zs (i.main_of v)) (sym (rows.encloses (holder k u))) (map_contains i.main_of (around k (holder k u)) v further)))
+        (thread_within k core i rows (holder k u) v further))
         which)
 
     -- a superstate with aborts is not opened at once: its preparation goes before, or that of one around it
@@ -56,5 +56,5 @@ module _ (k core : Table) (i : Images) (rows : CoreRows k core i) (opened_rows :
         where
           none_around : Contains (around k (holder k s)) v → ⊥
           none_around round =
-              let wrong : true ≡ false = sym guarded_by ∙ none_of (λ w. has_to_guard (standing_of c (holder k w))) (around k (holder k s)) v free round in
+              let wrong : true ≡ false = sym guarded_by ∙ none_among (λ w. has_to_guard (standing_of c (holder k w))) (around k (holder k s)) v free round in
               absurd cc

@@ -16,11 +16,11 @@ use Rattle.chart_machine_laws.proofs.LyingIn.{IsNested, around, holder}
 use Rattle.chart_machine_laws.proofs.ChartTables.{within_or_past}
 use Rattle.abort_expansion_laws.specs.CoreRows.{own, IsState, Images, CoreRows}
 use Rattle.abort_expansion_laws.specs.Related.{IsInside, Related}
-use Rattle.abort_expansion_laws.proofs.StageReached.{Stage, none_of}
+use Rattle.abort_expansion_laws.proofs.StageReached.{Stage}
 use Rattle.abort_expansion_laws.proofs.ImageSteps.{pair}
 use Rattle.abort_expansion_laws.proofs.KnownVariables.{present_there}
 use Rattle.abort_expansion_laws.proofs.StandsInside.{inside_present}
-use Rattle.abort_expansion_laws.proofs.Simulation.{Segment, segment_on}
+use Rattle.abort_expansion_laws.proofs.Segments.{Segment, segment_on}
 use Rattle.abort_expansion_laws.proofs.StartingRegions.{CounterRows}
 use Rattle.abort_expansion_laws.proofs.OpensFork.{OpeningRows}
 use Rattle.abort_expansion_laws.proofs.OneMonitor.{one_monitor}
@@ -30,6 +30,7 @@ use Rattle.abort_expansion_laws.proofs.LooksBefore.{looked_first}
 use Rattle.abort_expansion_laws.proofs.LooksFirst.{open_or_out}
 use Rattle.abort_expansion_laws.proofs.LooksOuter.{LooksNext, away, looks_outer}
 use Rattle.abort_expansion_laws.proofs.Outermost.{Outermost, outermost, outermost_one}
+use Rattle.abort_expansion_laws.proofs.Unchanged.{none_among}
 
 module _ (k core : Table) (i : Images) where
   pub record IsReady (c d : Configuration) (o : ℕ) : Type 0 where
@@ -111,7 +112,7 @@ module _ (k core : Table) (i : Images) (rows : CoreRows k core i) (tree : IsNest
         looked = λ is its own_free. looked;
         next = λ is its s x inner flag guards_now s_free.
             let wrong : true ≡ false =
-            sym guards_now ∙ none_of (λ v. has_to_guard (standing_of c (holder k v))) (around k (holder k o)) s free inner in
+            sym guards_now ∙ none_among (λ v. has_to_guard (standing_of c (holder k v))) (around k (holder k o)) s free inner in
             absurd cc;
       })))
 

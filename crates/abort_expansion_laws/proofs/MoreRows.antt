@@ -1,8 +1,8 @@
 -- What more the table of each expanded chart has: the map of states, flags and counters, and what nothing lies inside of.
-use Rattle.std.proofs.Common.{◌≡◌, ◌≢◌, ℕ, zero, suc, ◌+◌, ◌<◌, ◌≤◌, ◌⊎◌, inl, inr, ⊎_elim, Bool, true, false, ◌||◌, ◌&&◌, Option, Some, None, List, []}
-use Rattle.std.proofs.Common.{◌∷◌, ◌++◌, map, length, slice_get, Contains, refl, sym, ap, subst, ◌∙◌, arith, if◌then◌else◌}
+use Rattle.std.proofs.Common.{◌≡◌, ◌≢◌, ℕ, ◌+◌, ◌<◌, ◌≤◌, ◌⊎◌, inl, inr, ⊎_elim, Bool, true, false, ◌||◌, ◌&&◌, Option, Some, None, List, []}
+use Rattle.std.proofs.Common.{◌∷◌, ◌++◌, map, length, Contains, refl, sym, ap, subst, ◌∙◌, arith, if◌then◌else◌}
 use Rattle.std.specs.Prelude.{option_map}
-use Rattle.std.proofs.lemmas.Option.{same_Some, slice_get_within}
+use Rattle.std.proofs.lemmas.Option.{slice_get_within}
 use Rattle.sc_values.specs.declared.value.Kind.TheVariants as kind_is
 use Rattle.sc_graph.specs.Steps.{takes_kind}
 use Rattle.core_charts.specs.declared.features.Features.TheVariants as features
@@ -22,7 +22,6 @@ use Rattle.abort_expansion.specs.Superstates.{stays, is_prepared}
 use Rattle.abort_expansion.specs.Expansion.{expanded}
 use Rattle.abort_expansion_laws.specs.CoreRows.{own, IsState, IsSuper, IsSimple, Images, flags_around, CoreRows}
 use Rattle.abort_expansion_laws.proofs.InsideAround.{inside_around}
-use Rattle.abort_expansion_laws.proofs.TablesCorrespond.{contains_map}
 use Rattle.abort_expansion_laws.proofs.SeenAlike.{IsMap}
 use Rattle.abort_expansion_laws.proofs.Resets.{Apart}
 use Rattle.abort_expansion_laws.proofs.OpensFork.{OpeningRows}
@@ -33,6 +32,7 @@ use Rattle.abort_expansion_laws.proofs.RowsOfCharts as whole
 use Rattle.abort_expansion_laws.proofs.TableEnds.{prepared_apart}
 use Rattle.abort_expansion_laws.proofs.FlagNumbers.{no_one, numbers_once, strong_weak, strong_counter, weak_counter, is_it}
 use Rattle.abort_expansion_laws.proofs.FlagNumbers.{is_it_self, is_it_other}
+use Rattle.tick_laws.proofs.Lists.{contains_map}
 
 module _ (c : Chart) (rules : IsChart features.Extended c) (core_rules : IsChart features.Core (expanded c)) where
   abbrev k : Table

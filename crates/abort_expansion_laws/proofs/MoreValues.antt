@@ -3,6 +3,7 @@ use Rattle.std.proofs.Common.{◌≡◌, ◌≢◌, ℕ, zero, suc, Bool, true, 
 use Rattle.std.proofs.Common.{ap, sym, ◌∙◌}
 use Rattle.std.specs.Ordering.{int_eq}
 use Rattle.std.proofs.lemmas.Bool.Decides.{Decides-int_eq}
+use Rattle.std.proofs.lemmas.Bool.{false_from_ne_true}
 use Rattle.sc_values.specs.declared.value.Value.{Value}
 use Rattle.sc_values.specs.declared.value.Value.TheVariants as value_is
 use Rattle.sc_values.specs.declared.operator.BinaryOperator.{BinaryOperator}
@@ -96,12 +97,8 @@ number_verdict x n m values is = ap (option_and_then truth) (of_flag binary.Equa
 pub lowered_verdict : (x : ℕ) (values : List Value) → slice_get values x ≡ Some (value_is.Int (pos 0)) → verdict values (Some (is_raised x)) ≡ Some false
 lowered_verdict x values is = raised_verdict x 0 values is
 
-not_true : (b : Bool) → (b ≡ true → ⊥) → b ≡ false
-not_true true never = absurd (never refl)
-not_true false never = refl
-
 unequal : (n m : ℕ) → n ≢ m → int_eq (pos n) (pos m) ≡ false
-unequal n m differ = not_true (int_eq (pos n) (pos m)) (λ same. let both : pos n ≡ pos m = (Decides-int_eq (pos n) (pos m)).0 same in differ cc)
+unequal n m differ = false_from_ne_true (int_eq (pos n) (pos m)) (λ same. let both : pos n ≡ pos m = (Decides-int_eq (pos n) (pos m)).0 same in differ cc)
 
 pub up_verdict : (x n : ℕ) (values : List Value) → slice_get values x ≡ Some (value_is.Int (pos n)) → n ≢ 0 → verdict values (Some (is_raised x)) ≡ Some true
 up_verdict x n values is up = raised_verdict x n values is ∙ ap (λ b. Some (not b)) (unequal n 0 up)

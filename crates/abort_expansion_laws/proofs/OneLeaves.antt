@@ -1,7 +1,6 @@
 -- Once a flag is raised, one thread inside its superstate leaves, and which stages are reached while those that lie deeper have left.
 use Rattle.std.proofs.Common.{◌≡◌, ◌≢◌, ℕ, suc, ◌<◌, ◌≤◌, ◌⊎◌, inl, inr, ⊎_elim, true, false, Option, Some, List, []}
-use Rattle.std.proofs.Common.{◌∷◌, length, slice_set, unwrap_or, Contains, refl, sym, ap, subst, ◌∙◌, arith}
-use Rattle.std.proofs.lemmas.Option.{slice_get_past}
+use Rattle.std.proofs.Common.{◌∷◌, length, slice_set, Contains, refl, sym, ap, subst, ◌∙◌, arith}
 use Rattle.std.proofs.lemmas.Bool.{cases_lt}
 use Rattle.sc_values.specs.Access.{Access}
 use Rattle.core_charts.specs.declared.region.Transition.{Transition}
@@ -15,15 +14,17 @@ use Rattle.chart_machine.specs.Machine.{machine}
 use Rattle.tick_laws.proofs.Lists.{same_or_not, contained}
 use Rattle.abort_expansion_laws.specs.Stages.{Entry, Silent, Correspondence, Climbs}
 use Rattle.std.proofs.lemmas.Option.{same_Some}
+use Rattle.std.proofs.lemmas.List.{length-set}
 use Rattle.abort_expansion_laws.proofs.Supplying.{climbs_step}
-use Rattle.abort_expansion_laws.proofs.Simulation.{Segment, segment_on}
+use Rattle.abort_expansion_laws.proofs.Segments.{Segment, segment_on}
 use Rattle.abort_expansion_laws.proofs.SilentSteps.{AtHome, climbs_at, climbs_over, silent_step}
 use Rattle.chart_machine_laws.proofs.LyingIn.{IsNested, around, holder, around_around}
 use Rattle.abort_expansion_laws.proofs.StageReached.{holds_other}
 use Rattle.abort_expansion_laws.proofs.TestFails.{fails}
-use Rattle.abort_expansion_laws.proofs.Leaving.{set_here, set_other, set_length, leaves}
+use Rattle.abort_expansion_laws.proofs.Leaving.{set_here, set_other, leaves}
 use Rattle.abort_expansion_laws.proofs.Unchanged.{unguarded}
 use Rattle.abort_expansion_laws.proofs.MayLeave.{is_forked, IsOfInner, IsOfOuter, IsStaged, AreOuterOne, LeavesBy, leads_out, fails_before}
+use Rattle.abort_expansion_laws.proofs.NumberedRegions.{past_number}
 
 module _ (core : Table) (tree : IsNested core) (deeper : (q s : ℕ) → Contains (around core q) s → holder core s < q)
     (corr : Correspondence) (Told : Configuration → Entry → Type 0) (told : (d : Configuration) (t : ℕ) (stage : Option (ℕ × ℕ)) (a : Access) →
@@ -98,11 +99,8 @@ module _ (core : Table) (tree : IsNested core) (deeper : (q s : ℕ) → Contain
       )
       by_place q in_q le ne (inr none) = gone_alike d e n q (same q ne none) (weaker d n q (left.gone q in_q le))
 
-  pub out_past : (d : Configuration) (q : ℕ) → length d.regions ≤ q → standing_of d q ≡ at.Outside
-  out_past d q past = ap (λ o. unwrap_or o at.Outside) (slice_get_past d.regions q past)
-
   pub in_range : (d : Configuration) (q : ℕ) (x : Standing) → standing_of d q ≡ x → x ≢ at.Outside → q < length d.regions
-  in_range d q x stands present = ⊎_elim (λ lt. lt) (λ past. absurd (present (sym stands ∙ out_past d q past))) (cases_lt q (length d.regions))
+  in_range d q x stands present = ⊎_elim (λ lt. lt) (λ past. absurd (present (sym stands ∙ past_number d.regions q past))) (cases_lt q (length d.regions))
 
   -- not in it, or there already
   pub skips : (n : ℕ) (d : Configuration) → Left (suc n) d → (In n → Gone d n n) → Left n d
@@ -229,7 +227,7 @@ module _ (core : Table) (tree : IsNested core) (deeper : (q s : ℕ) → Contain
         (ap access_of stands) silent (λ more climbs. climbs_by n (access_of_trigger w.trigger) staged within more climbs)
         (record {
           variables = refl;
-          size = set_length d.regions n at.Ended;
+          size = length-set d.regions n at.Ended;
           here = set_here d.regions n at.Ended lt;
           elsewhere = λ q ne. set_other d.regions n q at.Ended ne;
         })
@@ -253,7 +251,7 @@ module _ (core : Table) (tree : IsNested core) (deeper : (q s : ℕ) → Contain
         here = set_here d.regions n (at.Trying s rest) lt
 
         lt_e : n < length e.regions
-        lt_e = let size = set_length d.regions n (at.Trying s rest) in omega (lt, size, arith)
+        lt_e = let size = length-set d.regions n (at.Trying s rest) in omega (lt, size, arith)
 
         quiet_e : (t : ℕ) → guards (standing_of e t) ≡ false
         quiet_e t =
@@ -272,7 +270,7 @@ module _ (core : Table) (tree : IsNested core) (deeper : (q s : ℕ) → Contain
               reaches =
                   record {
                     variables = g.reaches.variables;
-                    size = g.reaches.size ∙ set_length d.regions n (at.Trying s rest);
+                    size = g.reaches.size ∙ length-set d.regions n (at.Trying s rest);
                     here = g.reaches.here;
                     elsewhere = λ q ne. g.reaches.elsewhere q ne ∙ set_other d.regions n q (at.Trying s rest) ne;
                   };

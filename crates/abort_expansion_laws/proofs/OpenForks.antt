@@ -16,7 +16,7 @@ use Rattle.tick_laws.proofs.Lists.{list_all_at}
 use Rattle.chart_machine_laws.specs.Tree.{holder}
 use Rattle.abort_expansion_laws.specs.CoreRows.{own, joins, Images, flags_around}
 use Rattle.abort_expansion_laws.specs.Related.{Stands, outside, ended, left, trying, acting, entering, guarding, staying, within, behind, is_behind}
-use Rattle.abort_expansion_laws.proofs.BeginningSorts.{not_both}
+use Rattle.abort_expansion_laws.proofs.Unchanged.{not_both}
 
 module _ (k core : Table) (i : Images) (c : Configuration) where
   -- all regions of what is over have ended

@@ -229,7 +229,7 @@ module _ (k : Table) where
       subst (StateMovesBy n) (sym (fold_out-State Subtree Subtree region_subtree state_subtree s))
       (layer_moves o.name o.is_initial o.is_final o.regions o.transitions each n in_range)
 
-  numbers_length : (ps : List Subtree) (n : ℕ) → length (state_numbers ps n) ≡ length ps
+  pub numbers_length : (ps : List Subtree) (n : ℕ) → length (state_numbers ps n) ≡ length ps
   numbers_length [] n = refl
   numbers_length (p ∷ ps) n = ap suc (numbers_length ps (n + p.states))
 
@@ -311,16 +311,3 @@ charts_enter f c rules s lt = (opens_within f c rules s lt).entry
 -- each transition of a state leads to a state of its region, and so do the tests of regions inside of it where they are entered
 pub charts_lead : (f : Features) (c : Chart) → IsChart f c → (s : ℕ) → s < length (table c).states → Each (Leads (table c) s) (own (table c) s)
 charts_lead f c rules s lt = (opens_within f c rules s lt).targets
-
-pub charts_open_leading : (f : Features) (c : Chart) → IsChart f c → (s : ℕ) → s < length (table c).states →
-    Each (λ m. LeadingStanding (table c) m.standing) (state_at (table c) s).opened
-charts_open_leading f c rules s lt =
-    each_more (MoveIn (table c) (s ∷ [])) (λ m. LeadingStanding (table c) m.standing) (state_at (table c) s).opened (λ m inner. inner.1)
-    (opens_within f c rules s lt).moves
-
--- and those of all regions as the chart is opened
-pub charts_begin_leading : (f : Features) (c : Chart) → IsChart f c → Each (λ m. LeadingStanding (table c) m.standing) (table c).opened
-charts_begin_leading f c rules =
-    each_more (MoveIn (table c) []) (λ m. LeadingStanding (table c) m.standing) (table c).opened (λ m inner. inner.1)
-    (side_enters (table c) c.regions (regions_move (table c) f c.variables depth_limit c.regions rules.regions) whole
-    (holds_whole c.variables c.regions))

@@ -1,6 +1,7 @@
 -- Where a fork is opened, whoever is not in it stands as before: what was to be opened, started or joined is so still.
-use Rattle.std.proofs.Common.{◌≡◌, ◌≢◌, ℕ, ◌<◌, ⊎_elim, Bool, true, false, Option, None, List, []}
-use Rattle.std.proofs.Common.{◌∷◌, map, length, slice_set, Contains, sym, ap, subst, ◌∙◌, arith, ◌≤◌, pos, ◌++◌, refl}
+use Rattle.std.proofs.Common.{◌≡◌, ◌≢◌, ℕ, ◌<◌, Bool, true, false, Option, None, List, []}
+use Rattle.std.proofs.Common.{◌∷◌, length, slice_set, Contains, sym, ap, subst, ◌∙◌, arith, ◌≤◌, pos, ◌++◌, refl}
+use Rattle.std.proofs.lemmas.List.{length-set}
 use Rattle.sc_values.specs.Access.{Access}
 use Rattle.core_charts.specs.declared.region.Transition.{Transition}
 use Rattle.chart_machine.specs.declared.standing.Standing.{Standing}
@@ -15,10 +16,10 @@ use Rattle.abort_expansion.specs.Superstates.{resets}
 use Rattle.abort_expansion_laws.specs.Stages.{Entry, Silent}
 use Rattle.abort_expansion_laws.specs.CoreRows.{Images, CoreRows, SplitImage, joins}
 use Rattle.abort_expansion_laws.specs.Related.{is_behind}
-use Rattle.chart_machine_laws.proofs.LyingIn.{IsNested, around, holder, none_in, head_in, tail_in, head_or_tail}
-use Rattle.abort_expansion_laws.proofs.TablesCorrespond.{IsThere, contains_map}
-use Rattle.abort_expansion_laws.proofs.Leaving.{at_number, set_here, set_other, set_length, moved_size}
-use Rattle.abort_expansion_laws.proofs.Pending.{Sound, IsOpening, IsStarting, IsJoining}
+use Rattle.chart_machine_laws.proofs.LyingIn.{IsNested, around, holder}
+use Rattle.abort_expansion_laws.proofs.TablesCorrespond.{IsThere}
+use Rattle.abort_expansion_laws.proofs.Leaving.{at_number, set_here, set_other, moved_size}
+use Rattle.abort_expansion_laws.proofs.Pending.{Sound, IsOpening, IsStarting, IsJoining, opening_kept, starting_kept, joining_kept}
 use Rattle.abort_expansion_laws.proofs.Pending.{IsEmpty, Pending}
 use Rattle.abort_expansion_laws.proofs.Pending.{behind_unprepared}
 use Rattle.abort_expansion_laws.proofs.OpensFork.{OpeningRows, forked, forks, image}
@@ -27,6 +28,7 @@ use Rattle.sc_values.specs.declared.value.Value.{Value}
 use Rattle.sc_values.specs.declared.value.Value.TheVariants as value_is
 use Rattle.abort_expansion_laws.proofs.Resets.{Every, set_all}
 use Rattle.abort_expansion_laws.proofs.StartingRegions.{set_behind}
+use Rattle.abort_expansion_laws.proofs.ThreadsAround.{thread_within, region_within}
 
 pub set_all_behind : (xs : List (ℕ × ℕ)) (vs more : List Value) → Every (λ (x : ℕ × ℕ). length vs ≤ x.0) xs →
     (zs : List Value) × (set_all xs (vs ++ more) ≡ vs ++ zs)
@@ -43,9 +45,6 @@ module _ (k core : Table) (i : Images) (rows : CoreRows k core i) (tree : IsNest
     (o : IsOpening k core i c d s) where
   abbrev h : ℕ
   h = i.thread_of (holder k s)
-
-  abbrev n : ℕ
-  n = length (state_at k s).regions
 
   abbrev fork : SplitImage k core i s
   fork = image k core i rows tree counts written_at Told told more c r d p there s held o
@@ -74,17 +73,10 @@ module _ (k core : Table) (i : Images) (rows : CoreRows k core i) (tree : IsNest
   -- a region's thread is in the fork of a superstate that is around the region
   pub region_in : (u q : ℕ) → Contains (around core (i.thread_of q)) (i.main_of u) → Contains (around k q) u
   region_in u q inner =
-      let v = contains_map i.main_of (around k q) (i.main_of u) (subst (λ zs. Contains zs (i.main_of u)) (rows.encloses q) inner) in
-      subst (Contains (around k q)) (rows.main_once v.0 u v.2) v.1
+      region_within k core i rows q u inner
 
   pub in_thread : (u q : ℕ) → Contains (around k q) u → Contains (around core (i.thread_of q)) (i.main_of u)
-  in_thread u q inner = subst (λ zs. Contains zs (i.main_of u)) (sym (rows.encloses q)) (mapped (around k q) inner)
-    where
-      mapped : (zs : List ℕ) → Contains zs u → Contains (map i.main_of zs) (i.main_of u)
-      mapped [] e = absurd (none_in u e)
-      mapped (y ∷ zs) e =
-          ⊎_elim (λ f. subst (λ v. Contains (i.main_of v ∷ map i.main_of zs) (i.main_of u)) (sym f) (head_in (i.main_of u) (map i.main_of zs)))
-          (λ t. tail_in (i.main_of y) (i.main_of u) (map i.main_of zs) (mapped zs t)) (head_or_tail y u zs e)
+  in_thread u q inner = thread_within k core i rows q u inner
 
   not_in_itself : ¬ Contains (around k (holder k s)) s
   not_in_itself inner = let up = deeper (holder k s) s inner in omega (up, arith)
@@ -108,7 +100,7 @@ module _ (k core : Table) (i : Images) (rows : CoreRows k core i) (tree : IsNest
   same t ne out = at_z t ∙ (fork_rows.opens_inside s t d1.regions o.there o.super out ∙ set_other d.regions h t W ne)
 
   pub size : length z.regions ≡ length d.regions
-  size = ap length regions_are ∙ (moved_size (state_at core (i.main_of s)).opened d1.regions ∙ set_length d.regions h W)
+  size = ap length regions_are ∙ (moved_size (state_at core (i.main_of s)).opened d1.regions ∙ length-set d.regions h W)
 
   in_fork_ne : (t : ℕ) → Contains (around core t) (i.main_of s) → t ≢ h
   in_fork_ne t inner e = h_out (subst (λ v. Contains (around core v) (i.main_of s)) e inner)
@@ -119,8 +111,8 @@ module _ (k core : Table) (i : Images) (rows : CoreRows k core i) (tree : IsNest
         tests = o.tests;
         there = o.there;
         chart_size = sound.chart_regions;
-        core_size = set_length d.regions h W ∙ p.core_regions;
-        same_size = size ∙ sym (set_length d.regions h W);
+        core_size = length-set d.regions h W ∙ p.core_regions;
+        same_size = size ∙ sym (length-set d.regions h W);
         open_in_chart = o.open_in_chart;
         untested = o.untested;
         free = free;
@@ -147,18 +139,8 @@ module _ (k core : Table) (i : Images) (rows : CoreRows k core i) (tree : IsNest
 
   pub opening_z : (u : ℕ) → u ≢ s → IsOpening k core i c d u → IsOpening k core i c z u
   opening_z u ne a =
-      record {
-        tests = a.tests;
-        fork = a.fork;
-        there = a.there;
-        super = a.super;
-        split = a.split;
-        prepared = a.prepared;
-        untested = a.untested;
-        open_in_chart = a.open_in_chart;
-        leads = a.leads;
-        preparing = keeps (i.thread_of (holder k u)) _ (λ e. ne (same_super u a.tests a.open_in_chart e)) a.preparing (λ e. absurd cc);
-      }
+      opening_kept k core i c d z u a
+      (keeps (i.thread_of (holder k u)) _ (λ e. ne (same_super u a.tests a.open_in_chart e)) a.preparing (λ e. absurd cc))
 
   pub opening_not_here : (u : ℕ) → IsOpening k core i c z u → i.thread_of (holder k u) ≢ h
   opening_not_here u a e =
@@ -168,57 +150,21 @@ module _ (k core : Table) (i : Images) (rows : CoreRows k core i) (tree : IsNest
 
   pub opening_back : (u : ℕ) → ¬ Contains (around k (holder k u)) s → IsOpening k core i c z u → IsOpening k core i c d u
   opening_back u out a =
-      record {
-        tests = a.tests;
-        fork = a.fork;
-        there = a.there;
-        super = a.super;
-        split = a.split;
-        prepared = a.prepared;
-        untested = a.untested;
-        open_in_chart = a.open_in_chart;
-        leads = a.leads;
-        preparing = sym (same (i.thread_of (holder k u)) (opening_not_here u a) (λ inner. out (region_in s (holder k u) inner))) ∙ a.preparing;
-      }
+      opening_kept k core i c z d u a
+      (sym (same (i.thread_of (holder k u)) (opening_not_here u a) (λ inner. out (region_in s (holder k u) inner))) ∙ a.preparing)
 
   pub starting_z : (q u : ℕ) → q ≢ r → IsStarting k core i c d q u → IsStarting k core i c z q u
   starting_z q u ne a =
-      record {
-        outer = a.outer;
-        first = a.first;
-        place = a.place;
-        counter = a.counter;
-        direct = a.direct;
-        counts = a.counts;
-        there = a.there;
-        tests = a.tests;
-        open_in_chart = a.open_in_chart;
-        over_in_chart = a.over_in_chart;
-        alone = a.alone;
-        ends = a.ends;
-        counting = keeps (i.thread_of q) _ (λ e. ne (rows.region_once q (holder k s) e ∙ held)) a.counting (λ e. absurd cc);
-      }
+      starting_kept k core i c d z q u a
+      (keeps (i.thread_of q) _ (λ e. ne (rows.region_once q (holder k s) e ∙ held)) a.counting (λ e. absurd cc))
 
   starting_not_r : (q u : ℕ) → standing_of c q ≡ at.Ended → q ≢ r
   starting_not_r q u over e = let wrong : at.Within s o.tests ≡ at.Ended = sym in_chart ∙ (ap (standing_of c) (sym e) ∙ over) in absurd cc
 
   pub starting_back : (q u : ℕ) → ¬ Contains (around k q) s → IsStarting k core i c z q u → IsStarting k core i c d q u
   starting_back q u out a =
-      record {
-        outer = a.outer;
-        first = a.first;
-        place = a.place;
-        counter = a.counter;
-        direct = a.direct;
-        counts = a.counts;
-        there = a.there;
-        tests = a.tests;
-        open_in_chart = a.open_in_chart;
-        over_in_chart = a.over_in_chart;
-        alone = a.alone;
-        ends = a.ends;
-        counting = sym (thread_same q (starting_not_r q u a.over_in_chart) out) ∙ a.counting;
-      }
+      starting_kept k core i c z d q u a
+      (sym (thread_same q (starting_not_r q u a.over_in_chart) out) ∙ a.counting)
 
   -- the superstate itself is prepared, and so is never joined
   pub not_joining : (u : ℕ) → is_behind k core i c u ≡ true → u ≢ s
@@ -228,28 +174,11 @@ module _ (k core : Table) (i : Images) (rows : CoreRows k core i) (tree : IsNest
 
   pub joining_z : (u : ℕ) → IsJoining k core i c d u → IsJoining k core i c z u
   joining_z u a =
-      record {
-        tests = a.tests;
-        join = a.join;
-        there = a.there;
-        super = a.super;
-        over = a.over;
-        open_in_chart = a.open_in_chart;
-        leads = a.leads;
-        forked = keeps (i.thread_of (holder k u)) _ (λ e. not_joining u a.over (same_super u a.tests a.open_in_chart e)) a.forked (λ e. absurd cc);
-      }
+      joining_kept k core i c d z u a
+      (keeps (i.thread_of (holder k u)) _ (λ e. not_joining u a.over (same_super u a.tests a.open_in_chart e)) a.forked (λ e. absurd cc))
 
   pub joining_back : (u : ℕ) → ¬ Contains (around k (holder k u)) s → IsJoining k core i c z u → IsJoining k core i c d u
   joining_back u out a =
-      record {
-        tests = a.tests;
-        join = a.join;
-        there = a.there;
-        super = a.super;
-        over = a.over;
-        open_in_chart = a.open_in_chart;
-        leads = a.leads;
-        forked =
-            sym (same (i.thread_of (holder k u)) (λ e. not_joining u a.over (same_super u a.tests a.open_in_chart e))
-            (λ inner. out (region_in s (holder k u) inner))) ∙ a.forked;
-      }
+      joining_kept k core i c z d u a
+      (sym (same (i.thread_of (holder k u)) (λ e. not_joining u a.over (same_super u a.tests a.open_in_chart e))
+      (λ inner. out (region_in s (holder k u) inner))) ∙ a.forked)

@@ -17,7 +17,7 @@ use Rattle.chart_machine.specs.Machine.{machine}
 use Rattle.abort_expansion.specs.Transitions.{go}
 use Rattle.abort_expansion.specs.Superstates.{is_prepared}
 use Rattle.abort_expansion_laws.specs.Stages.{Entry, Silent, Correspondence}
-use Rattle.abort_expansion_laws.proofs.Simulation.{Segment}
+use Rattle.abort_expansion_laws.proofs.Segments.{Segment}
 use Rattle.chart_machine_laws.proofs.LyingIn.{IsNested, holder}
 use Rattle.abort_expansion_laws.proofs.TablesCorrespond.{IsThere}
 use Rattle.abort_expansion_laws.specs.CoreRows.{own, Images, CoreRows, SplitImage, joins, flags_around}

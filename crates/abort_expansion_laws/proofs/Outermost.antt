@@ -5,7 +5,7 @@ use Rattle.chart_machine.specs.declared.table.Table.{Table}
 use Rattle.chart_machine.specs.Turns.{standing_of, guards as has_to_guard, is_guarded}
 use Rattle.chart_machine_laws.proofs.LyingIn.{IsNested, around, holder, head_in, tail_in}
 use Rattle.abort_expansion_laws.proofs.InsideAround.{one_in_other}
-use Rattle.abort_expansion_laws.proofs.StageReached.{none_of}
+use Rattle.abort_expansion_laws.proofs.Unchanged.{none_among}
 
 module _ (k : Table) (tree : IsNested k) (c : Configuration) where
   pub record Outermost (zs : List ℕ) : Type 0 where
@@ -48,5 +48,5 @@ module _ (k : Table) (tree : IsNested k) (c : Configuration) where
       never : (a b : ℕ) → is_guarded k c (around k (holder k a)) ≡ false → has_to_guard (standing_of c (holder k b)) ≡ true →
           Contains (around k (holder k a)) b → ⊥
       never a b free guards_b outer =
-          let wrong : true ≡ false = sym guards_b ∙ none_of (λ v. has_to_guard (standing_of c (holder k v))) (around k (holder k a)) b free outer in
+          let wrong : true ≡ false = sym guards_b ∙ none_among (λ v. has_to_guard (standing_of c (holder k v))) (around k (holder k a)) b free outer in
           absurd cc

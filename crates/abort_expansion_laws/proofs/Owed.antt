@@ -4,7 +4,6 @@
 use Rattle.std.proofs.Common.{◌≡◌, ◌≢◌, ℕ, suc, Bool, true, false, Option, Some, List, [], ◌∷◌, ◌++◌, map, length, slice_set, Contains}
 use Rattle.sc_values.specs.declared.value.Value.{Value}
 use Rattle.sc_values.specs.Expr.{value as value_of}
-use Rattle.sc_values.specs.Runs.{IsOver}
 use Rattle.sc_graph.specs.Tick.{Inputs}
 use Rattle.core_charts.specs.declared.region.Effect.{Effect}
 use Rattle.core_charts.specs.declared.region.Transition.{Transition}
@@ -20,7 +19,7 @@ use Rattle.chart_machine.specs.Machine.{machine, initial, start}
 use Rattle.abort_expansion.specs.Transitions.{count_down, led}
 use Rattle.abort_expansion.specs.Superstates.{stays}
 use Rattle.abort_expansion_laws.specs.Stages.{Entry, NoneReached}
-use Rattle.abort_expansion_laws.proofs.Simulation.{Segment}
+use Rattle.abort_expansion_laws.proofs.Segments.{Segment}
 use Rattle.chart_machine_laws.proofs.LyingIn.{IsNested, around, holder}
 use Rattle.abort_expansion_laws.proofs.TablesCorrespond.{IsThere}
 use Rattle.abort_expansion_laws.specs.CoreRows.{own, IsState, is_final, IsSuper, IsSimple, joins, Images, CoreRows, flags_around, counter_over}
@@ -101,8 +100,3 @@ module _ (k core : Table) (i : Images) where
     abbrev pub Begins : Type 0
     Begins = (c d : Configuration) → Started c d → Segment (machine core) (pair k core i rows tree counts written_at) Told d NoneReached
         (Stage k i.thread_of c) [] (Related k core i c)
-
-    abbrev pub Finishes : Type 0
-    Finishes =
-        (c d : Configuration) → Related k core i c d → IsOver (machine k) c →
-        Segment (machine core) (pair k core i rows tree counts written_at) Told d (Stage k i.thread_of c d) (Stage k i.thread_of c) [] (Resting c)

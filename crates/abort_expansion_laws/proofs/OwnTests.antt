@@ -97,9 +97,6 @@ module _ (k : Table) where
 
   -- ---- moves
 
-  at_q : List Standing → ℕ → Standing
-  at_q zs q = unwrap_or (slice_get zs q) at.Outside
-
   one_moved : (m : Move) (zs : List Standing) (q : ℕ) → IsOwnMove m → IsOwn (unwrap_or (slice_get zs q) at.Outside) →
       IsOwn (unwrap_or (slice_get (slice_set zs m.region m.standing) q) at.Outside)
   one_moved m zs q of_move before =

@@ -82,6 +82,56 @@ module _ (k core : Table) (i : Images) (c : Configuration) where
     pub leads : state_in core (i.thread_of (holder k s)) join ≡ i.behind_of s
     pub forked : standing_of d (i.thread_of (holder k s)) ≡ at.Within (i.main_of s) (joins join ∷ [])
 
+  -- who prepares a superstate, who counts down and who joins does so still where its thread stands so
+  pub opening_kept : (d z : Configuration) (s : ℕ) (a : IsOpening d s) → standing_of z (i.thread_of (holder k s)) ≡
+      at.Trying (i.entry_of s) (go true None (resets (i.flags_of s) (length (state_at k s).regions)) a.fork ∷ []) → IsOpening z s
+  opening_kept d z s a preparing =
+      record {
+        tests = a.tests;
+        fork = a.fork;
+        there = a.there;
+        super = a.super;
+        split = a.split;
+        prepared = a.prepared;
+        untested = a.untested;
+        open_in_chart = a.open_in_chart;
+        leads = a.leads;
+        preparing = preparing;
+      }
+
+  pub starting_kept : (d z : Configuration) (r s : ℕ) (a : IsStarting d r s) → standing_of z (i.thread_of r) ≡
+      at.Trying a.first (go true None (count_down a.counter ∷ []) a.place ∷ []) → IsStarting z r s
+  starting_kept d z r s a counting =
+      record {
+        outer = a.outer;
+        first = a.first;
+        place = a.place;
+        counter = a.counter;
+        direct = a.direct;
+        counts = a.counts;
+        there = a.there;
+        tests = a.tests;
+        open_in_chart = a.open_in_chart;
+        over_in_chart = a.over_in_chart;
+        alone = a.alone;
+        ends = a.ends;
+        counting = counting;
+      }
+
+  pub joining_kept : (d z : Configuration) (s : ℕ) (a : IsJoining d s) → standing_of z (i.thread_of (holder k s)) ≡
+      at.Within (i.main_of s) (joins a.join ∷ []) → IsJoining z s
+  joining_kept d z s a forked =
+      record {
+        tests = a.tests;
+        join = a.join;
+        there = a.there;
+        super = a.super;
+        over = a.over;
+        open_in_chart = a.open_in_chart;
+        leads = a.leads;
+        forked = forked;
+      }
+
   -- then all is over inside of the fork
   pub record Over (d : Configuration) (s : ℕ) : Type 0 where
     pub free : is_guarded k c (around k (holder k s)) ≡ false
@@ -161,11 +211,6 @@ module _ (k core : Table) (i : Images) (c : Configuration) where
   neither : (b e : Bool) → (not b && e) ≡ true → (b ≡ false) × (e ≡ true)
   neither true e both = absurd cc
   neither false e both = (refl, both)
-
-  and_not : (b e : Bool) → (b && not e) ≡ true → (b ≡ true) × (e ≡ false)
-  and_not false e both = absurd cc
-  and_not true true both = absurd cc
-  and_not true false both = (refl, refl)
 
   pub behind_parts : (s : ℕ) → is_behind k core i c s ≡ true →
       (stays (flags_around k core i (holder k s)) (own k s) ≡ false) × (has_aborts (own k s) ≡ false) × (has_join (own k s) ≡ false)

@@ -1,8 +1,7 @@
 -- All that was proved, passed on from one place, so that the check reads each file.
 use Rattle.std.proofs.Common.{◌≡◌, ℕ, refl}
 pub use Rattle.abort_expansion_laws.proofs.StagesKept.{stages_kept}
-pub use Rattle.abort_expansion_laws.proofs.Supplying.{climbs_step, core_admissible}
-pub use Rattle.abort_expansion_laws.proofs.Simulation.{ends_kept}
+pub use Rattle.abort_expansion_laws.proofs.Supplying.{climbs_step}
 pub use Rattle.abort_expansion_laws.proofs.EachSpared.{each_spared}
 pub use Rattle.abort_expansion_laws.proofs.TablesCorrespond.{is_pair}
 pub use Rattle.abort_expansion_laws.proofs.ListsOfTicks.{ticks_kept}
@@ -20,7 +19,6 @@ pub use Rattle.abort_expansion_laws.proofs.AllLeave.{all_leave}
 pub use Rattle.abort_expansion_laws.proofs.MonitorGoesOn.{monitor_goes_on}
 pub use Rattle.abort_expansion_laws.proofs.MonitorSteps.{watched_segment}
 pub use Rattle.abort_expansion_laws.proofs.StrongNotTaken.{not_taken_followed}
-pub use Rattle.abort_expansion_laws.proofs.SimpleRows.{simple_local}
 pub use Rattle.abort_expansion_laws.proofs.DropsOut.{dropped_out}
 pub use Rattle.abort_expansion_laws.proofs.StrongTestsQuiet.{quiet_kept, spares}
 pub use Rattle.abort_expansion_laws.proofs.StrongLeaves.{may_leave}
@@ -46,7 +44,7 @@ pub use Rattle.abort_expansion_laws.proofs.TestHolds.{holding_followed}
 pub use Rattle.abort_expansion_laws.proofs.AssignedVariables.{assigned_known}
 pub use Rattle.abort_expansion_laws.proofs.EffectFollowed.{effect_followed}
 pub use Rattle.abort_expansion_laws.proofs.EntryTestFails.{opening_on_followed}
-pub use Rattle.abort_expansion_laws.proofs.Owed.{Enters, Begins, Finishes}
+pub use Rattle.abort_expansion_laws.proofs.Owed.{Enters, Begins}
 pub use Rattle.abort_expansion_laws.proofs.CoreOver.{over_too}
 pub use Rattle.abort_expansion_laws.proofs.EnteringSimple.{simple_once, no_count}
 pub use Rattle.abort_expansion_laws.proofs.TakenAtOnce.{taken_on}
@@ -116,7 +114,7 @@ pub use Rattle.abort_expansion_laws.proofs.EntryTestHolds.{entry_followed, entry
 pub use Rattle.abort_expansion_laws.proofs.EntryPassed.{entry_passed}
 pub use Rattle.abort_expansion_laws.proofs.OpenForks.{all_over, not_over, fork_of}
 pub use Rattle.abort_expansion_laws.proofs.ForkOver.{fork_over}
-pub use Rattle.abort_expansion_laws.proofs.StagesInside.{none_comes, stage_same}
+pub use Rattle.abort_expansion_laws.proofs.StagesInside.{none_comes}
 pub use Rattle.abort_expansion_laws.proofs.StagesEntered.{reached_then as entered_stages}
 pub use Rattle.abort_expansion_laws.proofs.FinalTarget.{final_sound}
 pub use Rattle.abort_expansion_laws.proofs.FinalTargetValues.{flag_stored, counter_stored}
@@ -132,9 +130,7 @@ pub use Rattle.abort_expansion_laws.proofs.TestTargets.{targets_there, ends_unte
 pub use Rattle.abort_expansion_laws.proofs.QuietBegins.{monitors_stay_low, quiet_begins}
 pub use Rattle.abort_expansion_laws.proofs.CheckNodes.{wakes_low}
 pub use Rattle.abort_expansion_laws.proofs.QuietAtStart.{starts_low}
-pub use Rattle.abort_expansion_laws.proofs.TickFollowed.{tick_followed}
 pub use Rattle.abort_expansion_laws.proofs.TestsSpared.{tests_are_spared}
-pub use Rattle.abort_expansion_laws.proofs.PreemptionFollows.{preemption_follows}
 pub use Rattle.abort_expansion_laws.proofs.FlagStages.{early_fits, outer_fits}
 pub use Rattle.abort_expansion_laws.proofs.StepsByCase.{step_followed, each_step_followed}
 pub use Rattle.abort_expansion_laws.proofs.StepsReady.{steps_ready, ticks_ready}

@@ -3,6 +3,7 @@
 use Rattle.std.proofs.Common.{◌≡◌, ◌≢◌, ℕ, suc, ◌⊎◌, inl, inr, ⊎_elim, true, false, not, Option, Some, None, List, [], ◌∷◌, ◌++◌, map}
 use Rattle.std.proofs.Common.{length, unwrap_or, pos, ◌≤◌, Contains, refl, sym, ap, subst, ◌∙◌, arith}
 use Rattle.std.proofs.lemmas.Option.{slice_get_past}
+use Rattle.std.proofs.lemmas.Bool.{not-true}
 use Rattle.sc_values.specs.declared.value.Value.TheVariants as value_is
 use Rattle.sc_values.specs.declared.expression.Expr.{Expr}
 use Rattle.sc_values.specs.Access.{Access, no_access, Inits, Precedes, init_update, init_read, update_read}
@@ -37,7 +38,7 @@ use Rattle.abort_expansion_laws.specs.CoreRows.{own, IsState, Images, CoreRows, 
 use Rattle.abort_expansion_laws.specs.Related.{raises, raise_each, Related, monitor_last}
 use Rattle.abort_expansion_laws.proofs.ChecksUpTo.{strong_around}
 use Rattle.abort_expansion_laws.proofs.FlagAccess.{put_access}
-use Rattle.abort_expansion_laws.proofs.KnownVariables.{present_there, stepped, not_so}
+use Rattle.abort_expansion_laws.proofs.KnownVariables.{present_there, stepped}
 use Rattle.abort_expansion_laws.proofs.StageReached.{inside_in}
 use Rattle.abort_expansion_laws.proofs.StrongNotTaken.{IsGuarding, guarding_back, MonitorGuards}
 use Rattle.abort_expansion_laws.proofs.StrongTestsQuiet.{Excused, StillLow, Inner, IsQuiet, quiet_kept, along}
@@ -87,7 +88,7 @@ state_with_aborts k s has =
     (within_or_past s (length k.states))
 
 -- nothing is to come before who neither reads nor writes
-none_before : (b : Access) → ¬ Precedes b no_access
+pub none_before : (b : Access) → ¬ Precedes b no_access
 none_before b (init_update x f i u) = absurd cc
 none_before b (init_read x i r) = let lt = r.1 in absurd (omega (lt, arith))
 none_before b (update_read x f u r) = let lt = r.1 in absurd (omega (lt, arith))
@@ -133,7 +134,7 @@ module _ (k core : Table) (i : Images) (rows : CoreRows k core i) (tree : IsNest
       inside_in core (i.main_of o) (i.watcher_of o) image.there
       (subst (λ zs. Contains zs (i.main_of o)) (sym image.encloses) (head_in (i.main_of o) (around core (home o)))) in
       let idle : has_work core d (standing_of d (i.watcher_of o)) ≡ false =
-      not_so (has_work core d (standing_of d (i.watcher_of o)))
+      not-true (has_work core d (standing_of d (i.watcher_of o)))
       (list_all_at (λ r. not (has_work core d (standing_of d r))) (inside core (i.main_of o)) (i.watcher_of o) done inner) in
       let wrong : true ≡ false = sym (late_works core d (standing_of d (i.watcher_of o)) late) ∙ idle in absurd cc
 

@@ -1,7 +1,8 @@
 -- A region goes on, and so does its thread: what corresponds still does.
-use Rattle.std.proofs.Common.{◌≡◌, ◌≢◌, ℕ, zero, suc, ◌<◌, ◌≤◌, ◌⊎◌, inl, inr, ⊎_elim, true, false, Option, Some, None, List, [], ◌∷◌, ◌++◌, length}
+use Rattle.std.proofs.Common.{◌≡◌, ◌≢◌, ℕ, ◌<◌, ◌≤◌, ◌⊎◌, inl, inr, ⊎_elim, true, false, List, [], ◌∷◌, ◌++◌, length}
 use Rattle.std.proofs.Common.{slice_get, slice_set}
 use Rattle.std.proofs.Common.{Contains, refl, sym, ap, subst, ◌∙◌, arith}
+use Rattle.std.proofs.lemmas.List.{length-set}
 use Rattle.sc_values.specs.declared.value.Value.{Value}
 use Rattle.core_charts.specs.declared.region.Transition.{Transition}
 use Rattle.core_charts.specs.Aborts.{has_aborts}
@@ -9,7 +10,6 @@ use Rattle.chart_machine.specs.declared.standing.Standing.{Standing}
 use Rattle.chart_machine.specs.declared.standing.Standing.TheVariants as at
 use Rattle.chart_machine.specs.declared.standing.Configuration.{Configuration}
 use Rattle.chart_machine.specs.declared.table.Table.{Table}
-use Rattle.chart_machine.specs.Table.{state_at}
 use Rattle.chart_machine.specs.Turns.{standing_of, has_ended, guards, is_guarded}
 use Rattle.tick_laws.proofs.Lists.{same_or_not}
 use Rattle.chart_machine_laws.proofs.LyingIn.{around, holder, none_in, head_or_tail, head_in, tail_in}
@@ -17,16 +17,12 @@ use Rattle.abort_expansion_laws.proofs.TablesCorrespond.{IsThere}
 use Rattle.abort_expansion_laws.specs.CoreRows.{own, IsState, Images, CoreRows, RegionImage, WatcherImage}
 use Rattle.abort_expansion_laws.specs.Related.{IsCalm, calm_outside, Closes, Stands, outside, ended, left, trying, acting, entering, guarding, staying}
 use Rattle.abort_expansion_laws.specs.Related.{LooksFirst}
-use Rattle.abort_expansion_laws.specs.Related.{within, behind, Watches, IsInside, open_inside, Stores, FlagsAreDown, still_in, not_ended, Related}
+use Rattle.abort_expansion_laws.specs.Related.{within, behind, Watches, IsInside, open_inside, Related}
 use Rattle.abort_expansion_laws.proofs.Fronts.{front_same}
-use Rattle.abort_expansion_laws.proofs.Unchanged.{none_among, none_are, both_ways, stands_same, stands_other, SameShape, stands_so, stands_kept, nobody_lies}
+use Rattle.abort_expansion_laws.proofs.Unchanged.{none_among, none_are, not_both, stands_same, stands_other, SameShape, stands_so, stands_kept, nobody_lies}
 use Rattle.abort_expansion_laws.proofs.LooksFirst.{out_looks, still_looks, watch_gone}
+use Rattle.abort_expansion_laws.proofs.RegionMoved.{RegionMoved, back_inside, still_inside, was_present, is_present, down_still}
 use Rattle.chart_machine_laws.proofs.ChartTables.{around_there}
-
-set_size : {A : Type 0} (xs : List A) (i : ℕ) (v : A) → length (slice_set xs i v) ≡ length xs
-set_size [] i v = refl
-set_size (x ∷ xs) zero v = refl
-set_size (x ∷ xs) (suc i) v = ap suc (set_size xs i v)
 
 module _ (k core : Table) (i : Images) (rows : CoreRows k core i) where
   -- region r comes to stand at y, its thread at z; variables may change, but no flags
@@ -114,10 +110,17 @@ module _ (k core : Table) (i : Images) (rows : CoreRows k core i) where
     core_elsewhere : (t : ℕ) → t ≢ i.thread_of r → standing_of d' t ≡ standing_of d t
     core_elsewhere t ne = stands_other d d' (i.thread_of r) t z go.core_too ne
 
-    ends_alike : (q : ℕ) → has_ended (standing_of c' q) ≡ has_ended (standing_of c q)
-    ends_alike q =
-        ⊎_elim (λ e. ap (λ p. has_ended (standing_of c' p)) e ∙ (ap has_ended here ∙ (go.ends ∙ ap (λ p. has_ended (standing_of c p)) (sym e))))
-        (λ ne. ap has_ended (elsewhere q ne)) (same_or_not q r)
+    moved_so : RegionMoved k core i c r y c'
+    moved_so =
+        record {
+          here = here;
+          elsewhere = elsewhere;
+          ends = go.ends;
+          was_there = go.was_there;
+          is_there = go.is_there;
+          inside = go.inside;
+          inside_back = go.inside_back;
+        }
 
     regions_kept : (q : ℕ) → IsThere k q → Stands k core i c' q (standing_of c' q) (standing_of d' (i.thread_of q))
     regions_kept q there = ⊎_elim same other (same_or_not q r)
@@ -149,50 +152,6 @@ module _ (k core : Table) (i : Images) (rows : CoreRows k core i) where
         other : holder k o ≢ r → Watches k core i o (standing_of c' (holder k o)) (standing_of d (i.watcher_of o))
         other ne = subst (λ w. Watches k core i o w (standing_of d (i.watcher_of o))) (sym (elsewhere (holder k o) ne)) (related.watchers o there has)
 
-    back_inside : (s : ℕ) → IsInside k core i s (standing_of c' (holder k s)) → IsInside k core i s (standing_of c (holder k s))
-    back_inside s inner = ⊎_elim same other (same_or_not (holder k s) r)
-      where
-        same : holder k s ≡ r → IsInside k core i s (standing_of c (holder k s))
-        same e = subst (λ q. IsInside k core i s (standing_of c q)) (sym e)
-            (go.inside_back s e (subst (IsInside k core i s) (ap (standing_of c') e ∙ here) inner))
-
-        other : holder k s ≢ r → IsInside k core i s (standing_of c (holder k s))
-        other ne = subst (IsInside k core i s) (elsewhere (holder k s) ne) inner
-
-    still_inside : (s : ℕ) → IsInside k core i s (standing_of c (holder k s)) → IsInside k core i s (standing_of c' (holder k s))
-    still_inside s inner = ⊎_elim same other (same_or_not (holder k s) r)
-      where
-        same : holder k s ≡ r → IsInside k core i s (standing_of c' (holder k s))
-        same e = subst (IsInside k core i s) (sym (ap (standing_of c') e ∙ here)) (go.inside s e (subst (λ q. IsInside k core i s (standing_of c q)) e inner))
-
-        other : holder k s ≢ r → IsInside k core i s (standing_of c' (holder k s))
-        other ne = subst (IsInside k core i s) (sym (elsewhere (holder k s) ne)) inner
-
-    stored : (o : Option ℕ) (n : ℕ) → ((x : ℕ) → o ≡ Some x → length k.variables ≤ x) → Stores k core i d.variables o n → Stores k core i d'.variables o n
-    stored None n added stores = tt
-    stored (Some x) n added stores = go.flags x (added x refl) ∙ stores
-
-    as_many : (rs : List ℕ) → still_in k core i c' rs ≡ still_in k core i c rs
-    as_many [] = refl
-    as_many (q ∷ rs) = rw (ends_alike q, as_many rs) refl
-
-    down_still : (s : ℕ) → FlagsAreDown k core i c d.variables s → FlagsAreDown k core i c' d'.variables s
-    down_still s down =
-        record {
-          strong = stored (i.flags_of s).strong 0 (rows.strong_added s) down.strong;
-          weak = stored (i.flags_of s).weak 0 (rows.weak_added s) down.weak;
-          counter =
-              subst (Stores k core i d'.variables (i.flags_of s).counter) (sym (as_many (state_at k s).regions))
-              (stored (i.flags_of s).counter (not_ended k core i c s) (rows.counter_added s) down.counter);
-        }
-
-    was_present : (q : ℕ) → standing_of c' q ≢ at.Outside → standing_of c q ≢ at.Outside
-    was_present q present = ⊎_elim (λ e was. go.was_there (ap (standing_of c) (sym e) ∙ was)) (λ ne was. present (elsewhere q ne ∙ was)) (same_or_not q r)
-
-    is_present : (q : ℕ) → standing_of c q ≢ at.Outside → standing_of c' q ≢ at.Outside
-    is_present q present = ⊎_elim (λ e is. go.is_there (sym here ∙ (ap (standing_of c') (sym e) ∙ is))) (λ ne is. present (sym (elsewhere q ne) ∙ is))
-        (same_or_not q r)
-
     not_zero : (n : ℕ) → 0 < n → 0 ≢ n
     not_zero n lt e = absurd (omega (lt, e, arith))
 
@@ -202,16 +161,20 @@ module _ (k core : Table) (i : Images) (rows : CoreRows k core i) where
           more = go.more;
           variables = go.variables;
           flag_count = go.flag_count;
-          chart_regions = ap length go.chart ∙ (set_size c.regions r y ∙ related.chart_regions);
-          core_regions = ap length go.core_too ∙ (set_size d.regions (i.thread_of r) z ∙ related.core_regions);
+          chart_regions = ap length go.chart ∙ (length-set c.regions r y ∙ related.chart_regions);
+          core_regions = ap length go.core_too ∙ (length-set d.regions (i.thread_of r) z ∙ related.core_regions);
           values = go.values;
           no_chart = elsewhere 0 (not_zero r go.there.0) ∙ related.no_chart;
           no_core = core_elsewhere 0 (not_zero (i.thread_of r) image.there.0) ∙ related.no_core;
           regions = regions_kept;
           watchers = watchers_kept;
-          flags = λ s there inner. down_still s (related.flags s there (back_inside s inner));
-          enclosed = λ q s there present around_it. still_inside s (related.enclosed q s there (was_present q present) around_it);
-          opened = λ s q there inner child. is_present q (related.opened s q there (back_inside s inner) child);
+          flags = λ s there inner.
+              down_still k core i c r y c' moved_so rows d.variables d'.variables go.flags s
+              (related.flags s there (back_inside k core i c r y c' moved_so s inner));
+          enclosed = λ q s there present around_it.
+              still_inside k core i c r y c' moved_so s (related.enclosed q s there (was_present k core i c r y c' moved_so q present) around_it);
+          opened = λ s q there inner child.
+              is_present k core i c r y c' moved_so q (related.opened s q there (back_inside k core i c r y c' moved_so s inner) child);
           closes_last = λ s tests is.
               ⊎_elim (λ e. go.closes s tests e (sym here ∙ (ap (standing_of c') (sym e) ∙ is)))
               (λ ne. related.closes_last s tests (sym (elsewhere (holder k s) ne) ∙ is))
@@ -246,7 +209,7 @@ module _ (k core : Table) (i : Images) (rows : CoreRows k core i) where
     still_calm q s there around_it guarded_by =
         let was : guards (standing_of c (holder k s)) ≡ true = sym (same_shape.guards_alike (holder k s)) ∙ guarded_by in
         ⊎_elim
-        (λ e. absurd (both_ways (guards (standing_of c (holder k s))) was
+        (λ e. absurd (not_both (guards (standing_of c (holder k s))) was
         (none_among (λ v. guards (standing_of c (holder k v))) (around k r) s go.free (subst (λ p. Contains (around k p) s) e around_it))))
         (λ ne. subst IsCalm (sym (rests q ne)) (related.calm q s there around_it was)) (same_or_not q r)
 
@@ -341,7 +304,7 @@ module _ (k core : Table) (i : Images) (rows : CoreRows k core i) where
         (λ elsewhere.
         let was : guards (standing_of c (holder k s)) ≡ true = sym (ap guards (rests_so (holder k s) elsewhere)) ∙ guarded_by in
         ⊎_elim
-        (λ e. absurd (both_ways (guards (standing_of c (holder k s))) was
+        (λ e. absurd (not_both (guards (standing_of c (holder k s))) was
         (none_among (λ v. guards (standing_of c (holder k v))) (around k r) s go.free (subst (λ p. Contains (around k p) s) e around_it))))
         (λ ne. subst IsCalm (sym (rests_so q ne)) (related.calm q s there around_it was)) (same_or_not q r))
         (same_or_not (holder k s) r)
@@ -362,7 +325,7 @@ module _ (k core : Table) (i : Images) (rows : CoreRows k core i) where
     bare_free =
         none_are (λ s. guards (standing_of c' (holder k s))) (around k r)
         (λ s h on.
-        both_ways (guards (standing_of c' (holder k s))) on
+        not_both (guards (standing_of c' (holder k s))) on
         (guards_so s (not_around s h) ∙ none_among (λ v. guards (standing_of c (holder k v))) (around k r) s go.free h))
 
     pub bare_goes_on : Related k core i c' d'

@@ -2,6 +2,7 @@
 use Rattle.std.proofs.Common.{◌≡◌, ◌≢◌, ℕ, zero, suc, pos, ◌<◌, ◌≤◌, inl, ⊎_elim, true, false, Option, Some, None, List, [], ◌∷◌, ◌++◌, length, slice_get}
 use Rattle.std.proofs.Common.{slice_set, refl, sym, ap, subst, ◌∙◌, arith}
 use Rattle.std.specs.Prelude.{option_map, option_and_then}
+use Rattle.std.proofs.lemmas.List.{length-set}
 use Rattle.sc_values.specs.declared.value.Value.{Value}
 use Rattle.sc_values.specs.declared.value.Value.TheVariants as value_is
 use Rattle.sc_values.specs.declared.value.Kind.TheVariants as kind_is
@@ -22,10 +23,9 @@ use Rattle.abort_expansion_laws.proofs.CoreSteps.{takes}
 use Rattle.tick_laws.proofs.Lists.{same_or_not}
 use Rattle.abort_expansion_laws.specs.Stages.{Entry, Silent, Correspondence, IsSilent, Climbs}
 use Rattle.abort_expansion_laws.proofs.Supplying.{climbs_step, silent_idle, silent_set, sets}
-use Rattle.abort_expansion_laws.proofs.Simulation.{Segment}
+use Rattle.abort_expansion_laws.proofs.Segments.{Segment}
 use Rattle.chart_machine_laws.proofs.LyingIn.{around}
 use Rattle.abort_expansion_laws.proofs.Unchanged.{get_same, get_other, stands_same, stands_other, unguarded}
-use Rattle.abort_expansion_laws.proofs.Leaving.{set_length}
 use Rattle.abort_expansion_laws.proofs.MoreValues.{number_value}
 use Rattle.abort_expansion_laws.proofs.FlagAccess.{put_access}
 
@@ -129,7 +129,7 @@ module _ (core : Table) (corr : Correspondence) (Told : Configuration → Entry 
         (ap access_of stands ∙ put_access x n) (writes_silent x n own) (climbs_silent (sets x (value_is.Int (pos n))))
         (subst (λ e. Segment (machine core) corr Told d1 But (λ last. But) [] (λ z. z ≡ e)) ends
         (all_put ys y.0 y.1 u d1 (still_calm d a refl lt none (slice_set d.variables x (value_is.Int (pos n))))
-        (let size = set_length d.regions g a in omega (lt, size, arith)) owns.0 owns.1
+        (let size = length-set d.regions g a in omega (lt, size, arith)) owns.0 owns.1
         (stands_same d d1 g a refl lt)))
 
     -- from the preparation's last test on
@@ -147,13 +147,10 @@ module _ (core : Table) (corr : Correspondence) (Told : Configuration → Entry 
         (ap access_of stands) (silent_idle corr g None) (λ rest climbs. climbs_step corr Before But (Silent g None no_access) rest (λ h m e. absurd cc)
         (λ h m ne before. (ne, before)) climbs)
         (subst (λ e. Segment (machine core) corr Told d1 But (λ last. But) [] (λ z. z ≡ e)) ends
-        (all_put xs x n u d1 (still_calm d a refl lt none d.variables) (let size = set_length d.regions g a in omega (lt, size, arith)) own owns
+        (all_put xs x n u d1 (still_calm d a refl lt none d.variables) (let size = length-set d.regions g a in omega (lt, size, arith)) own owns
         (stands_same d d1 g a refl lt)))
 
 -- ---- the values after the resets
-
-get_set : (values : List Value) (x : ℕ) (v : Value) → x < length values → slice_get (slice_set values x v) x ≡ Some v
-get_set values x v lt = get_same values x v lt
 
 pub set_all_other : (xs : List (ℕ × ℕ)) (values : List Value) (y : ℕ) → Every (λ (x : ℕ × ℕ). y ≢ x.0) xs → slice_get (set_all xs values) y ≡ slice_get values y
 set_all_other [] values y differ = refl

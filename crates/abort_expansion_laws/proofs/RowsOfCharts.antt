@@ -19,12 +19,13 @@ use Rattle.core_charts.specs.Aborts.{has_strong, has_weak, has_aborts}
 use Rattle.abort_expansion.specs.Expansion.{expanded, expansion}
 use Rattle.abort_expansion_laws.specs.CoreRows.{own, IsState, IsSuper, Images, flags_around, CoreRows}
 use Rattle.abort_expansion_laws.specs.CoreRows.{WatcherImage}
-use Rattle.abort_expansion_laws.proofs.TablesCorrespond.{contains_map}
-use Rattle.abort_expansion_laws.proofs.Walked.{World, StateImage, images_of, RegionFits, StateFits, FlagsFit, WatcherFits, Origin, thread, watcher, OwnerFits}
-use Rattle.abort_expansion_laws.proofs.Walked.{past_thread, thread_by, IsFlag, CoreSort}
+use Rattle.abort_expansion_laws.proofs.Walked.{World, images_of, RegionFits, StateFits, FlagsFit, Origin, thread, watcher, OwnerFits}
+use Rattle.abort_expansion_laws.proofs.Walked.{thread_by, IsFlag, CoreSort}
 use Rattle.abort_expansion_laws.proofs.WalkedWhole.{world, facts, chart_size, core_size, image_past, owner_else}
 use Rattle.abort_expansion_laws.proofs.TableEnds.{first_state, no_holder_past, no_entered_past, no_states_past, any_first}
 use Rattle.abort_expansion_laws.proofs.TableEnds.{given_some, given_is}
+use Rattle.abort_expansion_laws.proofs.NumberedRegions.{super_is_state}
+use Rattle.tick_laws.proofs.Lists.{contains_map}
 
 module _ (c : Chart) (rules : IsChart features.Extended c) (core_rules : IsChart features.Core (expanded c)) where
   abbrev k : Table
@@ -335,7 +336,7 @@ module _ (c : Chart) (rules : IsChart features.Extended c) (core_rules : IsChart
       }
 
   pub is_state_super : (s : ℕ) → IsSuper k s → IsState k s
-  is_state_super s super = ⊎_elim (λ lt. lt) (λ past. absurd (super (no_regions_past k s past))) (within_or_past s (length k.states))
+  is_state_super = super_is_state (table c)
 
   pub rows_of_chart : CoreRows k core i
   rows_of_chart =

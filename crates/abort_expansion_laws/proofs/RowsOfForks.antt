@@ -12,7 +12,7 @@ use Rattle.chart_machine.specs.declared.standing.Move.{Move}
 use Rattle.chart_machine.specs.declared.table.StatesRows.{StatesRows}
 use Rattle.chart_machine.specs.declared.table.Table.{Table}
 use Rattle.chart_machine.specs.declared.table.TablePosition.{TablePosition}
-use Rattle.chart_machine.specs.Table.{Subtree, state_at, region_at, states_in, regions_in, region_numbers, state_numbers, within, inside_region, side_by_side}
+use Rattle.chart_machine.specs.Table.{Subtree, state_at, region_at, region_numbers, state_numbers, within, inside_region, side_by_side}
 use Rattle.chart_machine.specs.Table.{regions_in_initial, in_region, region_subtree, state_subtree, is_superstate, past_states, next_behind}
 use Rattle.chart_machine.specs.Table.{subtree_of_region as table_of_region, subtree_of_state as table_of_state}
 use Rattle.chart_machine.specs.Steps.{to}
@@ -87,11 +87,7 @@ module _ (core : Table) (name : List ℕ) (begins : Bool) (regions : List Region
       }) position opened ≡ fork_row position.holder position.state (region_numbers (map table_of_region regions) position.region) all opened
       entered = rw (some, no_strong, no_weak) refl
 
-  pub super_inside : Holds core position (layer.parts position) → Holds core (within position) (side_by_side (map table_of_region regions) (within position))
-  super_inside h = record { states = h.states.1; regions = h.regions }
-
 -- ---- the monitor
-
 module _ (s : ℕ) (flags_around : List Flags) (flags : Flags) (own : List Transition) where
   abbrev pub watching : State
   watching = rolled watching_name true false [] (monitor_transitions flags_around flags own)

@@ -1,9 +1,10 @@
 -- What rests is seen alike: the same states are active.
-use Rattle.std.proofs.Common.{◌≡◌, ℕ, zero, suc, ◌<◌, ◌⊎◌, inl, inr, ⊎_elim, true, false, not, Option, Some, None, List, [], ◌∷◌, ◌++◌, length, nat_eq}
-use Rattle.std.proofs.Common.{unwrap_or, refl, sym, ap, subst, ◌∙◌, arith}
+use Rattle.std.proofs.Common.{◌≡◌, ℕ, zero, suc, ◌⊎◌, inl, inr, ⊎_elim, true, false, not, Option, Some, None, List, [], ◌∷◌, ◌++◌, length, nat_eq}
+use Rattle.std.proofs.Common.{refl, sym, ap, subst, ◌∙◌, arith}
 use Rattle.std.specs.Prelude.{take}
 use Rattle.std.proofs.lemmas.Bool.Decides.{Decides-eqb}
-use Rattle.std.proofs.lemmas.Option.{slice_get_past, same_Some}
+use Rattle.std.proofs.lemmas.Option.{same_Some}
+use Rattle.std.proofs.lemmas.Bool.{and_parts, not-true}
 use Rattle.sc_values.specs.declared.value.Value.{Value}
 use Rattle.core_charts.specs.Aborts.{has_aborts}
 use Rattle.chart_machine.specs.declared.standing.Standing.{Standing}
@@ -14,13 +15,13 @@ use Rattle.chart_machine.specs.Turns.{standing_of}
 use Rattle.chart_machine.specs.Machine.{stands_in, is_active}
 use Rattle.abort_expansion.specs.Superstates.{stays}
 use Rattle.abort_expansion_laws.specs.Related.{is_behind}
-use Rattle.abort_expansion_laws.proofs.KnownVariables.{both_true, not_so}
 use Rattle.chart_machine_laws.proofs.LyingIn.{holder}
 use Rattle.abort_expansion_laws.proofs.TablesCorrespond.{IsThere}
-use Rattle.chart_machine_laws.proofs.ChartTables.{within_or_past, no_regions_past}
-use Rattle.abort_expansion_laws.specs.CoreRows.{own, IsState, IsSuper, flags_around, Images, CoreRows}
+use Rattle.chart_machine_laws.proofs.ChartTables.{within_or_past}
+use Rattle.abort_expansion_laws.specs.CoreRows.{own, IsState, flags_around, Images, CoreRows}
 use Rattle.abort_expansion_laws.proofs.Owed.{RestsIn, rests_outside, rests_ended, rests_left, rests_trying, rests_staying, rests_within, rests_behind}
 use Rattle.abort_expansion_laws.proofs.Owed.{WatchRests, watch_within, watch_elsewhere, Resting}
+use Rattle.abort_expansion_laws.proofs.NumberedRegions.{past_regions, super_is_state}
 
 itself : (n : ℕ) → nat_eq n n ≡ true
 itself n = (Decides-eqb n n).1 refl
@@ -42,19 +43,12 @@ pub record IsMap (k core : Table) (i : Images) (m : ℕ → Option ℕ) : Type 0
 
 module _ (k core : Table) (i : Images) (rows : CoreRows k core i) (m : ℕ → Option ℕ) (maps : IsMap k core i m) (c d : Configuration)
     (rests : Resting k core i c d) where
-  past : (e : Configuration) (table : Table) → length e.regions ≡ suc (length table.regions) → (r : ℕ) → length table.regions < r → standing_of e r ≡ at.Outside
-  past e table size r lt = ap (λ o. unwrap_or o at.Outside) (slice_get_past e.regions r (omega (size, lt, arith)))
-
   abbrev InCore : ℕ → Type 0
   InCore s = (n : ℕ) × (is_active core d n ≡ true) × (m n ≡ Some s)
 
-  -- the thread stands in what stands for the state
-  state_there : (s : ℕ) → IsSuper k s → IsState k s
-  state_there s super = ⊎_elim (λ lt. lt) (λ le. absurd (super (no_regions_past k s le))) (within_or_past s (length k.states))
-
   is_split : (s : ℕ) → is_behind k core i c s ≡ true → stays (flags_around k core i (holder k s)) (own k s) ≡ false
-  is_split s over = not_so (stays (flags_around k core i (holder k s)) (own k s))
-      (both_true (not (stays (flags_around k core i (holder k s)) (own k s))) _ over).0
+  is_split s over = not-true (stays (flags_around k core i (holder k s)) (own k s))
+      (and_parts (not (stays (flags_around k core i (holder k s)) (own k s))) _ over).0
 
   in_main : (r s : ℕ) → IsState k s → holder k s ≡ r → stands_in (standing_of d (i.thread_of r)) (i.main_of s) ≡ true → InCore s
   in_main r s in_table held e = (
@@ -80,11 +74,11 @@ module _ (k core : Table) (i : Images) (rows : CoreRows k core i) (m : ℕ → O
   forth_at r s _ _ is (rests_trying u simple held) e =
       subst InCore (one_number u s e) (in_main r u (simple.there) held (ap (λ w. stands_in w (i.main_of u)) is ∙ itself (i.main_of u)))
   forth_at r s _ _ is (rests_staying u tests super held stays) e =
-      subst InCore (one_number u s e) (in_main r u (state_there u super) held (ap (λ w. stands_in w (i.main_of u)) is ∙ itself (i.main_of u)))
+      subst InCore (one_number u s e) (in_main r u (super_is_state k u super) held (ap (λ w. stands_in w (i.main_of u)) is ∙ itself (i.main_of u)))
   forth_at r s _ _ is (rests_within u join tests super held stays still leads) e =
-      subst InCore (one_number u s e) (in_main r u (state_there u super) held (ap (λ w. stands_in w (i.main_of u)) is ∙ itself (i.main_of u)))
+      subst InCore (one_number u s e) (in_main r u (super_is_state k u super) held (ap (λ w. stands_in w (i.main_of u)) is ∙ itself (i.main_of u)))
   forth_at r s _ _ is (rests_behind u tests super held over) e =
-      subst InCore (one_number u s e) (in_behind r u (state_there u super) over held (ap (λ w. stands_in w (i.behind_of u)) is ∙ itself (i.behind_of u)))
+      subst InCore (one_number u s e) (in_behind r u (super_is_state k u super) over held (ap (λ w. stands_in w (i.behind_of u)) is ∙ itself (i.behind_of u)))
 
   nowhere : (x : Standing) (s : ℕ) → x ≡ at.Outside → stands_in x s ≡ true → ⊥
   nowhere x s is e = let wrong : true ≡ false = sym e ∙ ap (λ w. stands_in w s) is in absurd cc
@@ -98,7 +92,7 @@ module _ (k core : Table) (i : Images) (rows : CoreRows k core i) (m : ℕ → O
           ⊎_elim
           (λ lt. forth_at (suc r) s (standing_of c (suc r)) (standing_of d (i.thread_of (suc r))) refl
           (rests.regions (suc r) (omega arith, omega (lt, arith))) (ap (λ q. stands_in (standing_of c q) s) (sym is) ∙ on))
-          (λ le. absurd (nowhere (standing_of c (holder k s)) s (ap (standing_of c) is ∙ past c k rests.chart_regions (suc r) (omega (le, arith))) on))
+          (λ le. absurd (nowhere (standing_of c (holder k s)) s (ap (standing_of c) is ∙ past_regions c k rests.chart_regions (suc r) (omega (le, arith))) on))
           (within_or_past r (length k.regions))
 
   -- back again: the map tells the state
@@ -116,14 +110,14 @@ module _ (k core : Table) (i : Images) (rows : CoreRows k core i) (m : ℕ → O
   back_at r n s _ _ is (rests_trying u simple held) e mapped =
       in_chart r u s (at.Trying u []) is held (same_state n u s mapped (ap m (sym (one_number (i.main_of u) n e)) ∙ maps.main_is u (simple.there))) (itself u)
   back_at r n s _ _ is (rests_staying u tests super held stays) e mapped =
-      in_chart r u s (at.Within u tests) is held (same_state n u s mapped (ap m (sym (one_number (i.main_of u) n e)) ∙ maps.main_is u (state_there u super)))
-      (itself u)
+      in_chart r u s (at.Within u tests) is held
+      (same_state n u s mapped (ap m (sym (one_number (i.main_of u) n e)) ∙ maps.main_is u (super_is_state k u super))) (itself u)
   back_at r n s _ _ is (rests_within u join tests super held stays still leads) e mapped =
-      in_chart r u s (at.Within u tests) is held (same_state n u s mapped (ap m (sym (one_number (i.main_of u) n e)) ∙ maps.main_is u (state_there u super)))
-      (itself u)
+      in_chart r u s (at.Within u tests) is held
+      (same_state n u s mapped (ap m (sym (one_number (i.main_of u) n e)) ∙ maps.main_is u (super_is_state k u super))) (itself u)
   back_at r n s _ _ is (rests_behind u tests super held over) e mapped =
       in_chart r u s (at.Within u tests) is held (same_state n u s mapped
-      (ap m (sym (one_number (i.behind_of u) n e)) ∙ maps.behind_is u (state_there u super) (is_split u over))) (itself u)
+      (ap m (sym (one_number (i.behind_of u) n e)) ∙ maps.behind_is u (super_is_state k u super) (is_split u over))) (itself u)
 
   not_watching : (o n s : ℕ) → IsState k o → has_aborts (own k o) ≡ true → (x y : Standing) → WatchRests k core i o x y → stands_in y n ≡ true →
       m n ≡ Some s → ⊥
@@ -147,7 +141,8 @@ module _ (k core : Table) (i : Images) (rows : CoreRows k core i) (m : ℕ → O
       by_place zero is e = absurd (nowhere (standing_of d (holder core n)) n (ap (standing_of d) is ∙ rests.no_core) e)
       by_place (suc t) is e =
           ⊎_elim (λ lt. by_sort (suc t) (rows.each (suc t) (omega arith, omega (lt, arith))) (ap (λ q. stands_in (standing_of d q) n) (sym is) ∙ e))
-          (λ le. absurd (nowhere (standing_of d (holder core n)) n (ap (standing_of d) is ∙ past d core rests.core_regions (suc t) (omega (le, arith))) e))
+          (λ le. absurd (nowhere (standing_of d (holder core n)) n
+          (ap (standing_of d) is ∙ past_regions d core rests.core_regions (suc t) (omega (le, arith))) e))
           (within_or_past t (length core.regions))
 
   -- the declared variables and the active states

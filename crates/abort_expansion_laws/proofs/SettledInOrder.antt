@@ -1,8 +1,6 @@
 -- One region after the other is settled, from the least number up; then what corresponds does.
-use Rattle.std.proofs.Common.{◌≡◌, ◌≢◌, ℕ, zero, suc, ◌+◌, ◌<◌, ◌≤◌, ⊎_elim, Bool, true, false, List, [], ◌∷◌, length, unwrap_or, Contains, refl, sym}
+use Rattle.std.proofs.Common.{◌≡◌, ◌≢◌, ℕ, zero, suc, ◌+◌, ◌<◌, ◌≤◌, ⊎_elim, Bool, true, false, List, [], ◌∷◌, length, Contains, refl, sym}
 use Rattle.std.proofs.Common.{ap, subst, ◌∙◌, arith, if◌then◌else◌}
-use Rattle.std.proofs.lemmas.Option.{slice_get_past}
-use Rattle.std.proofs.lemmas.Bool.{cases_lt}
 use Rattle.chart_machine.specs.declared.standing.Standing.{Standing}
 use Rattle.chart_machine.specs.declared.standing.Standing.TheVariants as at
 use Rattle.chart_machine.specs.declared.standing.Configuration.{Configuration}
@@ -13,7 +11,7 @@ use Rattle.chart_machine.specs.Machine.{machine}
 use Rattle.tick_laws.proofs.Lists.{same_or_not}
 use Rattle.abort_expansion_laws.specs.Stages.{Entry}
 use Rattle.abort_expansion_laws.proofs.Supplying.{climbs_fewer}
-use Rattle.abort_expansion_laws.proofs.Simulation.{Segment, segment_on}
+use Rattle.abort_expansion_laws.proofs.Segments.{Segment, segment_on}
 use Rattle.chart_machine_laws.proofs.LyingIn.{IsNested, around, holder, head_in}
 use Rattle.abort_expansion_laws.proofs.TablesCorrespond.{IsThere}
 use Rattle.abort_expansion_laws.specs.CoreRows.{Images, CoreRows}
@@ -23,6 +21,7 @@ use Rattle.abort_expansion_laws.proofs.StageReached.{Stage}
 use Rattle.abort_expansion_laws.proofs.ImageSteps.{pair}
 use Rattle.abort_expansion_laws.proofs.Pending.{is_trying, Sound, IsOpening, IsStarting, IsJoining, Waits, settled, opening, starting, joining, ending}
 use Rattle.abort_expansion_laws.proofs.Pending.{hidden, Covered, goes_in, still_going, Flagged, Pending, Reached, never_settled, quiet, never_joined}
+use Rattle.abort_expansion_laws.proofs.NumberedRegions.{is_region}
 
 pub ended_back : (x : Standing) → has_ended x ≡ true → x ≡ at.Ended
 ended_back at.Outside e = absurd cc
@@ -40,12 +39,7 @@ module _ (k core : Table) (i : Images) (rows : CoreRows k core i) (tree : IsNest
   all = suc (length k.regions)
 
   pub there_in : (r : ℕ) → standing_of c r ≢ at.Outside → IsThere k r
-  there_in zero present = absurd (present sound.no_chart)
-  there_in (suc j) present =
-      ⊎_elim (λ lt. (omega arith, lt))
-      (λ past.
-      let far : length c.regions ≤ suc j = let size = sound.chart_regions in omega (past, size, arith) in
-      absurd (present (ap (λ o. unwrap_or o at.Outside) (slice_get_past c.regions (suc j) far)))) (cases_lt (suc j) all)
+  there_in = is_region k c sound.no_chart sound.chart_regions
 
   pub opening_there : (d : Configuration) (s : ℕ) → IsOpening k core i c d s → IsThere k (holder k s)
   opening_there d s o = there_in (holder k s) (λ e. let wrong : at.Within s o.tests ≡ at.Outside = sym o.open_in_chart ∙ e in absurd cc)

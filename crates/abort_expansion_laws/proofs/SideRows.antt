@@ -102,10 +102,6 @@ pub states_append : (xs ys : List Subtree) → states_in (xs ++ ys) ≡ states_i
 states_append [] ys = omega arith
 states_append (x ∷ xs) ys = omega (arith, states_append xs ys)
 
-pub regions_append : (xs ys : List Subtree) → regions_in (xs ++ ys) ≡ regions_in xs + regions_in ys
-regions_append [] ys = omega arith
-regions_append (x ∷ xs) ys = omega (arith, regions_append xs ys)
-
 pub sized_append : (xs ys : List Subtree) → AllSized xs → AllSized ys → AllSized (xs ++ ys)
 sized_append [] ys h more = more
 sized_append (x ∷ xs) ys h more = (h.0, sized_append xs ys h.1 more)

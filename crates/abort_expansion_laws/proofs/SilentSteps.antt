@@ -5,7 +5,7 @@ use Rattle.sc_values.specs.Access.{Access}
 use Rattle.sc_values.specs.Runs.{Machine}
 use Rattle.abort_expansion_laws.specs.Stages.{Entry, Silent, Correspondence, IsSilent, Climbs}
 use Rattle.abort_expansion_laws.proofs.Supplying.{climbs_step}
-use Rattle.abort_expansion_laws.proofs.Simulation.{Segment}
+use Rattle.abort_expansion_laws.proofs.Segments.{Segment}
 
 -- for one thread stages up to n are reached, for the others these
 abbrev pub AtHome : (ℕ → ℕ → Type 0) → ℕ → ℕ → ℕ → ℕ → Type 0

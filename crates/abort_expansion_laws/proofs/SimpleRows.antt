@@ -1,15 +1,11 @@
 -- The rows of what the expansion makes of a state, where they stand in a table.
-use Rattle.std.proofs.Common.{◌≡◌, ℕ, Bool, false, List, [], map, subst}
+use Rattle.std.proofs.Common.{◌≡◌, ℕ, Bool, List, map}
 use Rattle.core_charts.specs.declared.region.Region.{Region}
 use Rattle.core_charts.specs.declared.region.State.{State}
 use Rattle.core_charts.specs.declared.region.Transition.{Transition}
 use Rattle.core_charts.specs.declared.region.Region.TheViews.{roll-State}
 use Rattle.core_charts.specs.declared.region.Region.TheFolds.{fold-roll-State}
-use Rattle.chart_machine.specs.declared.table.Table.{Table}
-use Rattle.chart_machine.specs.declared.table.TablePosition.{TablePosition}
-use Rattle.chart_machine.specs.Table.{Subtree, region_subtree, state_subtree, subtree_of_region, subtree_of_state, state_at}
-use Rattle.chart_machine_laws.proofs.RowsOfSubtrees.{Holds}
-use Rattle.abort_expansion_laws.specs.CoreRows.{simple_row}
+use Rattle.chart_machine.specs.Table.{Subtree, region_subtree, state_subtree, subtree_of_region, subtree_of_state}
 
 module _ (name : List ℕ) (begins ends : Bool) (regions : List Region) (all : List Transition) where
   abbrev pub rolled : State
@@ -25,10 +21,3 @@ module _ (name : List ℕ) (begins ends : Bool) (regions : List Region) (all : L
   })
   rolled_piece = fold-roll-State Subtree Subtree region_subtree state_subtree (record
       { name = name; is_initial = begins; is_final = ends; regions = regions; transitions = all })
-
--- a simple state
-pub simple_local : (core : Table) (name : List ℕ) (begins : Bool) (all : List Transition) (b : TablePosition) →
-    Holds core b ((subtree_of_state (rolled name begins false [] all)).parts b) →
-    state_at core b.state ≡ simple_row b.holder b.state all
-simple_local core name begins all b holds =
-    (subst (λ p. Holds core b (p.parts b)) (rolled_piece name begins false [] all) holds).states.0

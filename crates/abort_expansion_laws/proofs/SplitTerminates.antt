@@ -2,6 +2,7 @@
 use Rattle.std.proofs.Common.{◌≡◌, ◌≢◌, ℕ, ◌<◌, inl, inr, ⊎_elim, Bool, true, false, ◌||◌, Option, Some, None, List, [], ◌∷◌, ◌++◌}
 use Rattle.std.proofs.Common.{map, length, slice_get, slice_set, Contains, refl, sym, ap, subst, ◌∙◌, arith}
 use Rattle.std.specs.Prelude.{reverse}
+use Rattle.std.proofs.lemmas.List.{length-set}
 use Rattle.sc_values.specs.declared.value.Value.{Value}
 use Rattle.sc_values.specs.Access.{Access, no_access}
 use Rattle.sc_values.specs.Runs.{act_of}
@@ -20,10 +21,10 @@ use Rattle.chart_machine.specs.Machine.{machine}
 use Rattle.abort_expansion.specs.Flags.{has_join, weak_around}
 use Rattle.abort_expansion.specs.Transitions.{put, counting, place_of, led_by, answers}
 use Rattle.abort_expansion.specs.Superstates.{stays, closing}
-use Rattle.tick_laws.proofs.Lists.{same_or_not, map_contains}
+use Rattle.tick_laws.proofs.Lists.{same_or_not}
 use Rattle.abort_expansion_laws.specs.Stages.{Entry, Image, Silent, Correspondence}
 use Rattle.abort_expansion_laws.proofs.Supplying.{climbs_fewer}
-use Rattle.abort_expansion_laws.proofs.Simulation.{Segment, segment_on}
+use Rattle.abort_expansion_laws.proofs.Segments.{Segment, segment_on}
 use Rattle.abort_expansion_laws.proofs.SilentSteps.{AtHome, climbs_home, silent_step}
 use Rattle.chart_machine_laws.proofs.LyingIn.{IsNested, around, holder, head_in, tail_in}
 use Rattle.abort_expansion_laws.proofs.TablesCorrespond.{IsThere}
@@ -39,7 +40,7 @@ use Rattle.abort_expansion_laws.proofs.Answering.{AllFail, Passed, tests_fail}
 use Rattle.abort_expansion_laws.proofs.CoreSteps.{takes_any}
 use Rattle.abort_expansion_laws.proofs.EffectAhead.{BeginsAt}
 use Rattle.abort_expansion_laws.proofs.Owed.{Enters}
-use Rattle.abort_expansion_laws.proofs.Leaving.{drops, set_here, set_other, set_length}
+use Rattle.abort_expansion_laws.proofs.Leaving.{drops, set_here, set_other}
 use Rattle.abort_expansion_laws.proofs.StandsInside.{only_inside, inside_not_acting}
 use Rattle.abort_expansion_laws.proofs.DropsOut.{DropsOut, dropped_out}
 use Rattle.abort_expansion_laws.proofs.SuperstateLeft as left_for
@@ -48,6 +49,7 @@ use Rattle.abort_expansion_laws.proofs.TerminationJoins as joined
 use Rattle.abort_expansion_laws.proofs.Unchanged.{unguarded}
 use Rattle.abort_expansion_laws.proofs.SplitTests.{continuation_tests}
 use Rattle.abort_expansion_laws.proofs.SplitTests as split
+use Rattle.abort_expansion_laws.proofs.ThreadsAround.{thread_within}
 
 module _ (k core : Table) (i : Images) (rows : CoreRows k core i) (lone : AloneRows k core i) (tree : IsNested k) (core_tree : IsNested core)
     (counts : ℕ → Bool) (written_at : ℕ → ℕ)
@@ -147,7 +149,7 @@ module _ (k core : Table) (i : Images) (rows : CoreRows k core i) (lone : AloneR
             inr (
               counters.strong_not u x flag,
               subst (λ v. Contains (around core (i.thread_of r)) (i.main_of v)) (sym owner)
-                  (subst (λ zs. Contains zs (i.main_of u)) (sym (rows.encloses r)) (map_contains i.main_of (around k r) u around_it)),
+                  (thread_within k core i rows r u around_it),
             ),
             (1, refl, (let zero_is = strong_at u x flag in omega (zero_is, arith))),
           );
@@ -183,9 +185,6 @@ module _ (k core : Table) (i : Images) (rows : CoreRows k core i) (lone : AloneR
         (at_join.here ∙ ap (at.Trying (i.behind_of s)) (continuation_tests k core i r s))
 
     -- ---- answers
-    d5 : Configuration
-    d5 = check_part.last
-
     quiet5 : (g : ℕ) → has_to_guard (standing_of check_part.last g) ≡ false
     quiet5 g =
         ⊎_elim (λ same. ap (λ v. has_to_guard (standing_of check_part.last v)) same ∙ ap has_to_guard check_part.reaches.1.0)
@@ -301,7 +300,7 @@ module _ (k core : Table) (i : Images) (rows : CoreRows k core i) (lone : AloneR
           was_not_over = ap has_ended stands;
           only = λ u inner. only_inside k core i s u (at.Within s (t ∷ rest)) (open_inside (t ∷ rest)) (subst (IsInside k core i u) stands inner);
           chart = refl;
-          size = set_length answer_part.last.regions (i.thread_of r) x ∙ size_is;
+          size = length-set answer_part.last.regions (i.thread_of r) x ∙ size_is;
           dropped = λ g h.
               set_other answer_part.last.regions (i.thread_of r) g x (not_home g h) ∙ (others_are g (not_home g h) ∙ at_join.inside g h);
           here_too = set_here answer_part.last.regions (i.thread_of r) x

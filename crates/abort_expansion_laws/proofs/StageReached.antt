@@ -1,10 +1,10 @@
 -- Which stages may be reached, by the chart's configuration alone; and the step of a thread that stands for one of its region.
-use Rattle.std.proofs.Common.{◌≡◌, ◌≢◌, ℕ, zero, suc, ◌+◌, ◌<◌, ◌≤◌, ⊎_elim, Bool, true, false, ◌||◌, nat_eq, List, [], ◌∷◌, length, Contains, refl, sym, ap}
+use Rattle.std.proofs.Common.{◌≡◌, ◌≢◌, ℕ, zero, suc, ◌+◌, ◌<◌, ◌≤◌, ⊎_elim, Bool, true, false, nat_eq, List, [], ◌∷◌, length, Contains, refl, sym, ap}
 use Rattle.std.proofs.Common.{subst, ◌∙◌, arith, if◌then◌else◌}
 use Rattle.std.specs.Prelude.{filter}
 use Rattle.std.specs.List.{list_any}
 use Rattle.std.proofs.lemmas.Bool.Decides.{Decides-eqb}
-use Rattle.std.proofs.lemmas.Bool.{or_parts}
+use Rattle.std.proofs.lemmas.Bool.{or_parts, or_right}
 use Rattle.core_charts.specs.declared.region.Transition.{Transition}
 use Rattle.core_charts.specs.Tests.{is_weak}
 use Rattle.core_charts.specs.Aborts.{has_aborts}
@@ -28,10 +28,6 @@ module _ where
   head_or : (p : ℕ → Bool) (x : ℕ) (xs : List ℕ) → p x ≡ true → list_any p (x ∷ xs) ≡ true
   head_or p x xs e = rw (e) refl
 
-  tail_or : (b c : Bool) → c ≡ true → (b || c) ≡ true
-  tail_or true c e = refl
-  tail_or false c e = e
-
   keep_head : (b : Bool) (x : ℕ) (xs : List ℕ) → b ≡ true → Contains (if b then x ∷ xs else xs) x
   keep_head true x xs e = (0, omega arith, refl)
   keep_head false x xs e = absurd cc
@@ -40,12 +36,7 @@ module _ where
   pub any_in : (p : ℕ → Bool) (xs : List ℕ) (y : ℕ) → Contains xs y → p y ≡ true → list_any p xs ≡ true
   any_in p [] y h e = absurd (none_in y h)
   any_in p (x ∷ xs) y h e =
-      ⊎_elim (λ same. head_or p x xs (ap p same ∙ e)) (λ tail. tail_or (p x) (list_any p xs) (any_in p xs y tail e)) (head_or_tail x y xs h)
-
-  pub none_of : (p : ℕ → Bool) (xs : List ℕ) (y : ℕ) → list_any p xs ≡ false → Contains xs y → p y ≡ false
-  none_of p [] y e h = absurd (none_in y h)
-  none_of p (x ∷ xs) y e h =
-      let both = or_parts (p x) (list_any p xs) e in ⊎_elim (λ same. ap p (sym same) ∙ both.0) (λ tail. none_of p xs y both.1 tail) (head_or_tail x y xs h)
+      ⊎_elim (λ same. head_or p x xs (ap p same ∙ e)) (λ tail. or_right (p x) (list_any p xs) (any_in p xs y tail e)) (head_or_tail x y xs h)
 
   later : (b : Bool) (x : ℕ) (zs : List ℕ) (y : ℕ) → Contains zs y → Contains (if b then x ∷ zs else zs) y
   later true x zs y inner = tail_in x y zs inner

@@ -9,19 +9,18 @@ use Rattle.chart_machine.specs.declared.standing.Standing.TheVariants as at
 use Rattle.chart_machine.specs.declared.standing.Configuration.{Configuration}
 use Rattle.chart_machine.specs.declared.table.Table.{Table}
 use Rattle.chart_machine.specs.Table.{state_at}
-use Rattle.chart_machine.specs.Turns.{standing_of, guards, has_work, is_guarded, inside}
+use Rattle.chart_machine.specs.Turns.{standing_of, has_work, is_guarded, inside}
 use Rattle.tick_laws.proofs.Lists.{same_or_not, contained}
 use Rattle.chart_machine_laws.proofs.LyingIn.{IsNested, LiesUnder, around, holder, around_around}
 use Rattle.abort_expansion_laws.proofs.TablesCorrespond.{IsThere}
 use Rattle.abort_expansion_laws.specs.CoreRows.{own, Images, CoreRows}
 use Rattle.abort_expansion_laws.specs.Related.{Stands, outside, ended, left, trying, acting, entering, guarding, staying, within, behind, IsInside}
 use Rattle.abort_expansion_laws.specs.Related.{guarded, open_inside, Related}
-use Rattle.abort_expansion_laws.proofs.StageReached.{some_work, stage_of, Stage, any_in, none_of, inside_in, holds_other, either_rises}
-use Rattle.abort_expansion_laws.proofs.StageReached.{one_at_least, one_at_most}
-use Rattle.abort_expansion_laws.proofs.KnownVariables.{present_there}
-use Rattle.abort_expansion_laws.proofs.StandsInside.{inside_present}
+use Rattle.abort_expansion_laws.proofs.StageReached.{some_work, stage_of, Stage, any_in, inside_in, holds_other, either_rises}
+use Rattle.abort_expansion_laws.proofs.StageReached.{one_at_most}
 use Rattle.abort_expansion_laws.proofs.StagesInside.{none_comes}
 use Rattle.abort_expansion_laws.proofs.InsideAround.{one_in_other}
+use Rattle.abort_expansion_laws.proofs.OuterStages.{under_stages, holder_there, stands_inside}
 
 module _ (k core : Table) (i : Images) (rows : CoreRows k core i) (tree : IsNested k)
     (children : (s r : ℕ) → Contains (state_at k s).regions r → around k r ≡ s ∷ around k (holder k s))
@@ -39,72 +38,33 @@ module _ (k core : Table) (i : Images) (rows : CoreRows k core i) (tree : IsNest
 
   -- ---- the regions that hold what is around r
 
-  module _ (s : ℕ) (around_it : Contains (around k r) s) where
-    stands_inside : IsInside k core i s (standing_of c (holder k s))
-    stands_inside = related.enclosed r s there present around_it
-
-    not_guarding : guards (standing_of c (holder k s)) ≡ false
-    not_guarding = none_of (λ v. guards (standing_of c (holder k v))) (around k r) s free around_it
-
-    holder_there : IsThere k (holder k s)
-    holder_there = present_there k core i c d related (holder k s) (inside_present k core i s (standing_of c (holder k s)) stands_inside)
-
-    holder_same : standing_of next (holder k s) ≡ standing_of c (holder k s)
-    holder_same = same (holder k s) (holds_other k tree r s around_it) (λ h. r_out (around_around k tree (around k r) r s o refl around_it h))
-
-    busy : some_work k c s ≡ true
-    busy = any_in (λ q. has_work k c (standing_of c q)) (inside k s) r (inside_in k s r there around_it) works
-
-    low_at : (w : Standing) → IsInside k core i s w → stage_of k c w ≤ 1
-    low_at _ (guarded tests) = omega arith
-    low_at _ (open_inside tests) = rw (busy) (one_at_most (has_aborts (own k s)))
-
-    high_at : (w : Standing) → IsInside k core i s w → guards w ≡ false → 1 ≤ stage_of k next w
-    high_at _ (guarded tests) e = absurd cc
-    high_at _ (open_inside tests) e = one_at_least (has_aborts (own k s)) (some_work k next s) (list_any (λ t. is_weak t.kind) tests)
-
-    low : stage_of k c (standing_of c (holder k s)) ≤ 1
-    low = low_at (standing_of c (holder k s)) stands_inside
-
-    high : 1 ≤ stage_of k next (standing_of next (holder k s))
-    high = subst (λ w. 1 ≤ stage_of k next w) (sym holder_same) (high_at (standing_of c (holder k s)) stands_inside not_guarding)
+  holder_same : (s : ℕ) → Contains (around k r) s → standing_of next (holder k s) ≡ standing_of c (holder k s)
+  holder_same s around_it = same (holder k s) (holds_other k tree r s around_it) (λ h. r_out (around_around k tree (around k r) r s o refl around_it h))
 
   pub outer_stage : (b : ℕ) → LiesUnder k r b → (i.thread_of b ≢ i.thread_of r) ×
       (((u : ℕ) → Stage k i.thread_of c d (i.thread_of b) u → u ≤ 1) × Stage k i.thread_of next d (i.thread_of b) 1)
-  outer_stage b (inr root) = (
-    (λ e. let zero_is : b ≡ r = rows.region_once b r e in let lt = there.0 in absurd (omega (root, zero_is, lt, arith))),
-    (
-      (λ u before. before.chart (ap i.thread_of root)),
-      record {
-        regions = λ q q_there e. let is : b ≡ q = rows.region_once b q e in let lt = q_there.0 in absurd (omega (root, is, lt, arith));
-        chart = λ e. omega arith;
-      },
-    ),
-  )
-  outer_stage b (inl s) = (
-    (λ e. holds_other k tree r s.0 s.1 (s.2 ∙ rows.region_once b r e)),
-    (
-      (λ u before.
-          let n = before.regions (holder k s.0) (holder_there s.0 s.1) (ap i.thread_of (sym s.2)) in
-          let m = low s.0 s.1 in omega (n, m, arith)),
-      record {
-        regions = λ q q_there e.
-            let is : holder k s.0 ≡ q = s.2 ∙ rows.region_once b q e in
-            subst (λ p. 1 ≤ stage_of k next (standing_of next p)) is (high s.0 s.1);
-        chart = λ e. omega arith;
-      },
-    ),
-  )
+  outer_stage b under =
+      (differs under, under_stages k core i rows c d related r there present works free next holder_same d (i.thread_of b) 1 (b, under, refl, refl))
+    where
+      differs : LiesUnder k r b → i.thread_of b ≢ i.thread_of r
+      differs (inr root) e = let zero_is : b ≡ r = rows.region_once b r e in let lt = there.0 in absurd (omega (root, zero_is, lt, arith))
+      differs (inl s) e = holds_other k tree r s.0 s.1 (s.2 ∙ rows.region_once b r e)
 
   -- r goes on, so no stage but 1 is reached there
   pub outer_low : has_work k next (standing_of next r) ≡ true → (b : ℕ) → LiesUnder k r b → (n : ℕ) → Stage k i.thread_of next d (i.thread_of b) n → n ≤ 1
   outer_low works_on b (inr root) n before = before.chart (ap i.thread_of root)
   outer_low works_on b (inl s) n before =
-      let le = before.regions (holder k s.0) (holder_there s.0 s.1) (ap i.thread_of (sym s.2)) in
+      let le = before.regions (holder k s.0) there_too (ap i.thread_of (sym s.2)) in
       let one : stage_of k next (standing_of next (holder k s.0)) ≤ 1 =
-      subst (λ w. stage_of k next w ≤ 1) (sym (holder_same s.0 s.1)) (low_then (standing_of c (holder k s.0)) (stands_inside s.0 s.1)) in
+      subst (λ w. stage_of k next w ≤ 1) (sym (holder_same s.0 s.1)) (low_then (standing_of c (holder k s.0)) its_inside) in
       omega (le, one, arith)
     where
+      its_inside : IsInside k core i s.0 (standing_of c (holder k s.0))
+      its_inside = stands_inside k core i rows c d related r there present works free next holder_same s.0 s.1
+
+      there_too : IsThere k (holder k s.0)
+      there_too = holder_there k core i rows c d related r there present works free next holder_same s.0 s.1
+
       busy_then : some_work k next s.0 ≡ true
       busy_then = any_in (λ q. has_work k next (standing_of next q)) (inside k s.0) r (inside_in k s.0 r there s.1) works_on
 

@@ -17,8 +17,8 @@ use Rattle.abort_expansion_laws.specs.Related.{open_inside, Related}
 use Rattle.abort_expansion_laws.proofs.KnownVariables.{present_there}
 use Rattle.abort_expansion_laws.proofs.StageReached.{some_work, stage_of, Stage, any_in, inside_in, staged, either_rises}
 use Rattle.abort_expansion_laws.proofs.StagesInside.{none_comes}
-use Rattle.abort_expansion_laws.proofs.BeginningSorts.{not_both}
 use Rattle.abort_expansion_laws.proofs.Pending.{IsBusy, Reached}
+use Rattle.abort_expansion_laws.proofs.Unchanged.{not_both}
 
 low_staged : (a b w : Bool) → b ≡ true → (if a then staged b w else 1) ≤ 1
 low_staged true true w e = omega arith

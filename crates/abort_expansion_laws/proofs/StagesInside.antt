@@ -1,11 +1,9 @@
--- Where nothing changes inside of a superstate, it has work left inside just if it had, and its stage does not fall.
-use Rattle.std.proofs.Common.{◌≡◌, ℕ, ◌≤◌, Bool, true, false, ◌||◌, List, [], ◌∷◌, Contains, refl, sym, ap, subst, ◌∙◌}
+-- Where nothing changes inside of a superstate, it has work left inside just if it had.
+use Rattle.std.proofs.Common.{◌≡◌, ℕ, false, List, [], ◌∷◌, Contains, refl, sym, ap, subst, ◌∙◌}
 use Rattle.std.specs.List.{list_any}
+use Rattle.std.proofs.lemmas.Bool.{or_parts}
 use Rattle.core_charts.specs.declared.region.Transition.{Transition}
-use Rattle.core_charts.specs.Tests.{is_weak}
-use Rattle.core_charts.specs.Aborts.{has_aborts}
 use Rattle.chart_machine.specs.declared.standing.Standing.{Standing}
-use Rattle.chart_machine.specs.declared.standing.Standing.TheVariants as at
 use Rattle.chart_machine.specs.declared.standing.Configuration.{Configuration}
 use Rattle.chart_machine.specs.declared.table.Table.{Table}
 use Rattle.chart_machine.specs.Table.{state_at}
@@ -13,15 +11,11 @@ use Rattle.chart_machine.specs.Turns.{standing_of, has_ended, has_work, may_clos
 use Rattle.chart_machine_laws.specs.Tree.{IsThere, around, holder}
 use Rattle.chart_machine_laws.proofs.LyingIn.{head_in, tail_in}
 use Rattle.chart_machine_laws.proofs.ChartTables.{around_there}
-use Rattle.abort_expansion_laws.specs.CoreRows.{own, Images}
+use Rattle.abort_expansion_laws.specs.CoreRows.{Images}
 use Rattle.abort_expansion_laws.specs.Related.{Stands, outside, ended, left, trying, acting, entering, guarding, staying, within, behind, Related}
-use Rattle.abort_expansion_laws.proofs.StageReached.{some_work, stage_of, either_rises}
+use Rattle.abort_expansion_laws.proofs.StageReached.{some_work}
 use Rattle.abort_expansion_laws.proofs.InsideAround.{inside_around}
 use Rattle.abort_expansion_laws.proofs.DropsOut.{all_alike}
-
-neither_of : (b c : Bool) → (b || c) ≡ false → (b ≡ false) × (c ≡ false)
-neither_of true c e = absurd cc
-neither_of false c e = (refl, e)
 
 module _ (k core : Table) (i : Images)
     (children : (s r : ℕ) → Contains (state_at k s).regions r → around k r ≡ s ∷ around k (holder k s))
@@ -56,12 +50,9 @@ module _ (k core : Table) (i : Images)
       list_any (λ q. has_work k c (standing_of c q)) xs ≡ false → list_any (λ q. has_work k next (standing_of next q)) xs ≡ false
   still_idle [] each e = refl
   still_idle (q ∷ xs) each e =
-      let both = neither_of (has_work k c (standing_of c q)) (list_any (λ p. has_work k c (standing_of c p)) xs) e in
+      let both = or_parts (has_work k c (standing_of c q)) (list_any (λ p. has_work k c (standing_of c p)) xs) e in
       let first = each q (head_in q xs) in
       rw (idle_there q first.0 first.1, both.0, still_idle xs (λ p tail. each p (tail_in q p xs tail)) both.1) refl
 
   pub none_comes : some_work k c u ≡ false → some_work k next u ≡ false
   none_comes idle = still_idle (inside k u) (λ q h. (inside_around k u q h, around_there k q u (inside_around k u q h))) idle
-
-  pub stage_same : (tests : List Transition) → stage_of k c (at.Within u tests) ≤ stage_of k next (at.Within u tests)
-  stage_same tests = either_rises (has_aborts (own k u)) (some_work k c u) (some_work k next u) (list_any (λ t. is_weak t.kind) tests) none_comes

@@ -179,9 +179,6 @@ module _ (k : Correspondence) (is : IsCorrespondence k) (IsFree : ℕ → Type 0
 
   -- ---- all steps
 
-  abbrev Goes : Entry → List Entry → (ℕ → ℕ → Type 0) → Type 0
-  Goes y log Reached = Clear k.CoreApart (core_act k y) EachIsOpen (core_log k log)
-
   core_orderly : (log : List Entry) (Reached : ℕ → ℕ → Type 0) → EachFitsFreely k IsFree log → EachSpared k log → Climbs k Reached log →
       Orderly k.ChartApart (chart_log log) → Orderly k.CoreApart (core_log k log)
   core_orderly [] Reached fits spared climbs orderly = tt

@@ -17,6 +17,7 @@ use Rattle.abort_expansion_laws.proofs.TablesCorrespond.{IsThere}
 use Rattle.abort_expansion_laws.specs.CoreRows.{own, Images, CoreRows}
 use Rattle.abort_expansion_laws.specs.Related.{Stands}
 use Rattle.abort_expansion_laws.proofs.Pending.{IsOpening, IsStarting, IsJoining, Waits, settled, opening, starting, joining, ending, hidden, Covered}
+use Rattle.abort_expansion_laws.proofs.Pending.{opening_kept, starting_kept, joining_kept}
 
 -- a region is among these once
 abbrev pub Once : ℕ → List ℕ → Type 0
@@ -54,49 +55,15 @@ module _ (k core : Table) (i : Images) (rows : CoreRows k core i) (c d e : Confi
 
   pub opening_on : standing_of c r ≡ at.Ended → (s : ℕ) → IsOpening k core i c d s → IsOpening k core i c e s
   opening_on over s o =
-      record {
-        tests = o.tests;
-        fork = o.fork;
-        there = o.there;
-        super = o.super;
-        split = o.split;
-        prepared = o.prepared;
-        untested = o.untested;
-        open_in_chart = o.open_in_chart;
-        leads = o.leads;
-        preparing = other_thread (holder k s) (not_here s o.tests over o.open_in_chart) ∙ o.preparing;
-      }
+      opening_kept k core i c d e s o (other_thread (holder k s) (not_here s o.tests over o.open_in_chart) ∙ o.preparing)
 
   pub joining_on : standing_of c r ≡ at.Ended → (s : ℕ) → IsJoining k core i c d s → IsJoining k core i c e s
   joining_on over s o =
-      record {
-        tests = o.tests;
-        join = o.join;
-        there = o.there;
-        super = o.super;
-        over = o.over;
-        open_in_chart = o.open_in_chart;
-        leads = o.leads;
-        forked = other_thread (holder k s) (not_here s o.tests over o.open_in_chart) ∙ o.forked;
-      }
+      joining_kept k core i c d e s o (other_thread (holder k s) (not_here s o.tests over o.open_in_chart) ∙ o.forked)
 
   pub starting_on : (q s : ℕ) → q ≢ r → IsStarting k core i c d q s → IsStarting k core i c e q s
   starting_on q s ne o =
-      record {
-        outer = o.outer;
-        first = o.first;
-        place = o.place;
-        counter = o.counter;
-        direct = o.direct;
-        counts = o.counts;
-        there = o.there;
-        tests = o.tests;
-        open_in_chart = o.open_in_chart;
-        over_in_chart = o.over_in_chart;
-        alone = o.alone;
-        counting = other_thread q ne ∙ o.counting;
-        ends = o.ends;
-      }
+      starting_kept k core i c d e q s o (other_thread q ne ∙ o.counting)
 
   pub covered_on : standing_of c r ≡ at.Ended → (s : ℕ) → Covered k core i c d s → Covered k core i c e s
   covered_on over s covered = (covered.0, opening_on over covered.0 covered.1, covered.2)

@@ -35,6 +35,7 @@ use Rattle.abort_expansion_laws.specs.StateNames.{superstates_before, superstate
 use Rattle.abort_expansion_laws.specs.StateNames.{StatesAreMapped}
 use Rattle.abort_expansion_laws.proofs.MappedLists.{EachStandsFor, as_many, MappedStates, MappedRegions, mapped_append, state_mapped, simple_mapped}
 use Rattle.abort_expansion_laws.proofs.MappedLists.{region_mapped, none_mapped}
+use Rattle.abort_expansion_laws.proofs.StatePlaces.{begins_where}
 
 -- ---- how many superstates there are among some states
 
@@ -295,11 +296,6 @@ module _ (those : List StateOfText) where
   left_behind_mapped : (b : Bool) → MappedStates those (left_behind b).states (left_behind b).stands_for
   left_behind_mapped true = simple_mapped those _ None (leaves refl) refl
   left_behind_mapped false = none_mapped those State states_of_state tables.subtree_of_state
-
-  begins_where : (counter : Option ℕ) (pieces : List StatePiece) → begins_anew counter pieces ≡ true →
-      list_any (λ s. s.is_initial && s.is_final) pieces ≡ true
-  begins_where (Some x) pieces h = h
-  begins_where None pieces h = absurd cc
 
   inside_mapped : (states : List State) → EachMapped states → (around : List Flags) (counter : Option ℕ) (begin : ℕ) (at : NextNumbers) →
       Here (all_in (map states_of_state states)) at →

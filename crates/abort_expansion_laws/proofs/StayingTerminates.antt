@@ -1,6 +1,8 @@
 -- The termination of a superstate that stays as it is: its thread takes the same one.
 use Rattle.std.proofs.Common.{◌≡◌, ◌≢◌, ℕ, ◌<◌, inl, inr, ⊎_elim, Bool, true, false, not, ◌||◌, Option, Some, None, List, [], ◌∷◌, ◌++◌, map, length}
 use Rattle.std.proofs.Common.{slice_set, Contains, refl, sym, ap, subst, ◌∙◌, arith}
+use Rattle.std.proofs.lemmas.Bool.{or_parts, not-true}
+use Rattle.std.proofs.lemmas.List.{length-set}
 use Rattle.sc_values.specs.Access.{Access, no_access}
 use Rattle.sc_values.specs.Runs.{act_of}
 use Rattle.core_charts.specs.declared.region.Effect.{Effect}
@@ -20,10 +22,10 @@ use Rattle.abort_expansion.specs.Transitions.{put, counting, place_of, led}
 use Rattle.abort_expansion.specs.Superstates.{stays}
 use Rattle.abort_expansion_laws.specs.Stages.{Entry, Image, Silent, Correspondence}
 use Rattle.abort_expansion_laws.proofs.Supplying.{climbs_fewer}
-use Rattle.abort_expansion_laws.proofs.Simulation.{Segment}
+use Rattle.abort_expansion_laws.proofs.Segments.{Segment}
 use Rattle.abort_expansion_laws.proofs.SilentSteps.{AtHome}
 use Rattle.chart_machine_laws.proofs.LyingIn.{IsNested, around, holder}
-use Rattle.abort_expansion_laws.proofs.TablesCorrespond.{IsThere, contains_map}
+use Rattle.abort_expansion_laws.proofs.TablesCorrespond.{IsThere}
 use Rattle.chart_machine_laws.proofs.ChartTables.{around_there}
 use Rattle.abort_expansion_laws.specs.CoreRows.{own, IsState, IsSuper, Images, CoreRows, StayingImage, flags_around, pair}
 use Rattle.abort_expansion_laws.specs.Related.{acting, IsInside, open_inside, Related}
@@ -33,16 +35,13 @@ use Rattle.abort_expansion_laws.proofs.StartingRegions.{CounterRows}
 use Rattle.abort_expansion_laws.proofs.EffectAhead.{BeginsAt}
 use Rattle.abort_expansion_laws.proofs.Owed.{Enters}
 use Rattle.abort_expansion_laws.proofs.InsideAround.{all_from, inside_around}
-use Rattle.abort_expansion_laws.proofs.Leaving.{drops, set_here, set_other, set_length, drops_in, drops_out, drops_length, terminated}
+use Rattle.abort_expansion_laws.proofs.Leaving.{drops, set_here, set_other, drops_in, drops_out, drops_length, terminated}
 use Rattle.abort_expansion_laws.proofs.StandsInside.{only_inside, inside_not_acting}
 use Rattle.abort_expansion_laws.proofs.DropsOut.{DropsOut, dropped_out}
 use Rattle.abort_expansion_laws.proofs.SuperstateLeft as left_for
 use Rattle.abort_expansion_laws.proofs.TerminationNext as next
 use Rattle.abort_expansion_laws.proofs.TerminationImage as taken
-
-none_aborts : (a b : Bool) → not (a || b) ≡ true → a ≡ false
-none_aborts true b e = absurd cc
-none_aborts false b e = refl
+use Rattle.tick_laws.proofs.Lists.{contains_map}
 
 module _ (k core : Table) (i : Images) (rows : CoreRows k core i) (tree : IsNested k) (core_tree : IsNested core) (counts : ℕ → Bool) (written_at : ℕ → ℕ)
     (counters : CounterRows k core i rows counts written_at)
@@ -60,7 +59,9 @@ module _ (k core : Table) (i : Images) (rows : CoreRows k core i) (tree : IsNest
   image = rows.staying s s_there super (subst (λ q. stays (flags_around k core i q) (own k s) ≡ true) (sym held) stay)
 
   no_aborts : has_aborts (own k s) ≡ false
-  no_aborts = none_aborts (has_aborts (own k s)) (aborts_around (flags_around k core i r)) stay
+  no_aborts =
+      (or_parts (has_aborts (own k s)) (aborts_around (flags_around k core i r))
+      (not-true (has_aborts (own k s) || aborts_around (flags_around k core i r)) stay)).0
 
   main_held : holder core (i.main_of s) ≡ i.thread_of r
   main_held = rows.held s ∙ ap i.thread_of held
@@ -140,7 +141,7 @@ module _ (k core : Table) (i : Images) (rows : CoreRows k core i) (tree : IsNest
           was_not_over = ap has_ended stands;
           only = λ u inner. only_inside k core i s u (at.Within s (t ∷ rest)) (open_inside (t ∷ rest)) (subst (IsInside k core i u) stands inner);
           chart = refl;
-          size = set_length from (i.thread_of r) z ∙ drops_length (inside core (i.main_of s)) d.regions;
+          size = length-set from (i.thread_of r) z ∙ drops_length (inside core (i.main_of s)) d.regions;
           dropped = λ g h.
               set_other from (i.thread_of r) g z (not_home g h) ∙ drops_in (inside core (i.main_of s)) d.regions g
               (inside_in core (i.main_of s) g (around_there core g (i.main_of s) h) h);

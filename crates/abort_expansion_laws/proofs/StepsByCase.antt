@@ -18,14 +18,12 @@ use Rattle.chart_machine_laws.specs.Tree.{around, holder}
 use Rattle.core_charts.specs.Aborts.{has_weak}
 use Rattle.chart_machine.specs.Steps.{to, verdict, tested, taken, step, change_of, entering_on, guarding_on}
 use Rattle.abort_expansion.specs.Expansion.{expanded}
-use Rattle.abort_expansion_laws.specs.Stages.{Entry}
 use Rattle.abort_expansion_laws.specs.CoreRows.{own, Images}
 use Rattle.abort_expansion_laws.specs.Related.{Related}
 use Rattle.abort_expansion_laws.proofs.CasesFollowed as one
 use Rattle.abort_expansion_laws.proofs.KnownVariables.{Stepped, stepped}
 use Rattle.abort_expansion_laws.proofs.LeavesFollowed as leave
 use Rattle.abort_expansion_laws.proofs.OwnTests.{OwnTests, IsOwn}
-use Rattle.abort_expansion_laws.proofs.PreemptionKept.{ToldHere}
 use Rattle.abort_expansion_laws.proofs.RowsOfCharts as whole
 use Rattle.abort_expansion_laws.proofs.TestTargets.{ends_untested}
 use Rattle.abort_expansion_laws.proofs.StrongTestReady.{strong_ready}
@@ -42,9 +40,6 @@ module _ (c : Chart) (rules : IsChart features.Extended c) (core_rules : IsChart
 
     abbrev i : Images
     i = whole.i c rules core_rules
-
-    abbrev Told : Configuration → Entry → Type 0
-    Told = ToldHere c rules core_rules
 
     abbrev Followed : (now d : Configuration) (r : ℕ) (next : Configuration) → Type 0
     Followed = one.Followed c rules core_rules stages

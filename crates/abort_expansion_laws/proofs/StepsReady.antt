@@ -13,20 +13,19 @@ use Rattle.chart_machine_laws.specs.Tree.{around}
 use Rattle.abort_expansion_laws.specs.CoreRows.{Images}
 use Rattle.abort_expansion_laws.specs.Related.{Related}
 use Rattle.abort_expansion_laws.specs.Stages.{Entry, NoneReached}
-use Rattle.abort_expansion_laws.proofs.Simulation.{Segment, segment_on}
+use Rattle.abort_expansion_laws.proofs.Segments.{Segment, segment_on}
 use Rattle.abort_expansion_laws.proofs.StageReached.{Stage}
 use Rattle.abort_expansion_laws.proofs.MonitorsReady.{AllReady, get_ready}
 use Rattle.abort_expansion_laws.proofs.MoreRows.{opening_rows, strong_at, counter_rows}
 use Rattle.abort_expansion_laws.proofs.Owed.{Started}
 use Rattle.abort_expansion_laws.proofs.OwnTests.{OwnTests}
-use Rattle.abort_expansion_laws.proofs.PreemptionKept.{ToldHere}
 use Rattle.abort_expansion_laws.proofs.RowsOfCharts as whole
 use Rattle.abort_expansion_laws.proofs.CasesFollowed.{Followed}
 use Rattle.abort_expansion_laws.proofs.FlagStages.{usual, early_stages}
 use Rattle.abort_expansion_laws.proofs.StepsByCase.{each_step_followed}
-use Rattle.abort_expansion_laws.proofs.TickFollowed as ticks
+use Rattle.abort_expansion_laws.proofs.TicksOfCharts as ticks
 use Rattle.abort_expansion_laws.proofs.TicksBegin.{ticks_begin}
-use Rattle.abort_expansion_laws.proofs.ToldSteps.{told_silent}
+use Rattle.abort_expansion_laws.proofs.ToldSteps.{told_silent, ToldHere}
 
 module _ (c : Chart) (rules : IsChart features.Extended c) (core_rules : IsChart features.Core (expanded c)) where
   abbrev k : Table

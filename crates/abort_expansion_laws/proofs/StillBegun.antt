@@ -1,7 +1,7 @@
 -- A region of the chart that is entered stays so: no step leads outside of it.
 use Rattle.std.proofs.Common.{◌≡◌, ◌≢◌, ℕ, ⊎_elim, Bool, true, false, Option, Some, None, List, [], ◌∷◌, map, length}
 use Rattle.std.proofs.Common.{slice_get, slice_set, unwrap_or, option_map, option_and_then, if◌then◌else◌, Contains, refl, sym, ap, subst, ◌∙◌}
-use Rattle.std.proofs.lemmas.Option.{same_Some, slice_get_past}
+use Rattle.std.proofs.lemmas.Option.{same_Some}
 use Rattle.std.proofs.lemmas.Bool.{cases_lt}
 use Rattle.sc_text.proofs.EachItem.{Each, each_append, each_more}
 use Rattle.sc_values.specs.declared.value.Value.{Value}
@@ -34,6 +34,7 @@ use Rattle.abort_expansion_laws.specs.CoreRows.{Images}
 use Rattle.abort_expansion_laws.proofs.Owed.{Resting}
 use Rattle.abort_expansion_laws.proofs.WokenConfigurations.{woken_at, present_after}
 use Rattle.abort_expansion_laws.proofs.LaterTicks.{chart_has_begun}
+use Rattle.abort_expansion_laws.proofs.NumberedRegions.{past_number}
 
 module _ (k : Table) (enters : (s : ℕ) → Enters (state_at k s)) (q : ℕ) (root : around k q ≡ []) where
   abbrev Spares : Move → Type 0
@@ -41,9 +42,6 @@ module _ (k : Table) (enters : (s : ℕ) → Enters (state_at k s)) (q : ℕ) (r
 
   abbrev AllSpare : List Move → Type 0
   AllSpare ms = Each Spares ms
-
-  at_q : List Standing → Standing
-  at_q zs = unwrap_or (slice_get zs q) at.Outside
 
   one_moved : (m : Move) (zs : List Standing) → Spares m → unwrap_or (slice_get zs q) at.Outside ≢ at.Outside →
       unwrap_or (slice_get (slice_set zs m.region m.standing) q) at.Outside ≢ at.Outside
@@ -55,7 +53,7 @@ module _ (k : Table) (enters : (s : ℕ) → Enters (state_at k s)) (q : ℕ) (r
       spares (sym same)
       (sym (ap (λ o. unwrap_or o at.Outside)
       (ap (λ g. slice_get (slice_set zs g m.standing) q) (sym same) ∙ get_same zs q m.standing lt)) ∙ e))
-      (λ past. absurd (before (ap (λ o. unwrap_or o at.Outside) (slice_get_past zs q past)))) (cases_lt q (length zs)))
+      (λ past. absurd (before (past_number zs q past))) (cases_lt q (length zs)))
       (λ ne. λ e. before (sym (ap (λ o. unwrap_or o at.Outside) (get_other zs m.region q m.standing ne)) ∙ e)) (same_or_not q m.region)
 
   all_moved : (ms : List Move) (zs : List Standing) → AllSpare ms → unwrap_or (slice_get zs q) at.Outside ≢ at.Outside →

@@ -23,8 +23,8 @@ use Rattle.abort_expansion.specs.Superstates.{stays, closing}
 use Rattle.abort_expansion_laws.specs.Stages.{Correspondence, IsSilent}
 use Rattle.abort_expansion_laws.proofs.Supplying.{silent_test}
 use Rattle.chart_machine_laws.proofs.LyingIn.{IsNested, around, holder, none_in, head_or_tail, head_in, tail_in}
-use Rattle.abort_expansion_laws.proofs.StageReached.{none_of, holds_other}
 use Rattle.abort_expansion_laws.proofs.TablesCorrespond.{IsThere}
+use Rattle.abort_expansion_laws.proofs.StageReached.{holds_other}
 use Rattle.abort_expansion_laws.proofs.MoreValues.{lowered_verdict}
 use Rattle.abort_expansion_laws.proofs.FlagAccess.{raised_access}
 use Rattle.abort_expansion_laws.specs.CoreRows.{own, IsState, IsSimple, IsSuper, joins, Images, CoreRows, flags_around, pair}
@@ -43,8 +43,9 @@ use Rattle.abort_expansion_laws.proofs.QuietBegins.{state_with_aborts}
 use Rattle.abort_expansion_laws.proofs.SplitTests.{continuation_tests}
 use Rattle.abort_expansion_laws.proofs.MayLeave.{LeavesBy, leads_out, fails_before, MayLeave, out, over, tries}
 use Rattle.abort_expansion_laws.proofs.CalmStandings.{calm_acting, calm_entering}
-use Rattle.tick_laws.proofs.Lists.{map_contains}
 use Rattle.abort_expansion_laws.proofs.InsideLeaves.{AloneRows, fork_leaves, all_may_leave}
+use Rattle.abort_expansion_laws.proofs.Unchanged.{none_among}
+use Rattle.abort_expansion_laws.proofs.ThreadsAround.{thread_within}
 
 module _ (k core : Table) (i : Images) (rows : CoreRows k core i) (more : AloneRows k core i) (tree : IsNested k)
     (core_children : (s r : ℕ) → Contains (state_at core s).regions r → around core r ≡ s ∷ around core (holder core s))
@@ -73,7 +74,7 @@ module _ (k core : Table) (i : Images) (rows : CoreRows k core i) (more : AloneR
   LeavesTests t tests = LeavesBy core corr home 1 (i.main_of o) first t tests
 
   in_fork : (q s : ℕ) → Contains (around k q) s → Contains (around core (i.thread_of q)) (i.main_of s)
-  in_fork q s in_s = subst (λ zs. Contains zs (i.main_of s)) (sym (rows.encloses q)) (map_contains i.main_of (around k q) s in_s)
+  in_fork q s in_s = thread_within k core i rows q s in_s
 
   holder_present : standing_of c (holder k o) ≢ at.Outside
   holder_present gone = let wrong : true ≡ false = sym guarding_now ∙ ap guards gone in absurd cc
@@ -211,7 +212,7 @@ module _ (k core : Table) (i : Images) (rows : CoreRows k core i) (more : AloneR
       (λ s. ahead k core i b (i.places_of q).left c s)
       (guards_here k core i b (i.places_of q).left c o guarding_now ∙ ap (check b (i.places_of q).left) flag)
       (λ s outer.
-      inl (guards_not k core i b (i.places_of q).left c s (none_of (λ v. guards (standing_of c (holder k v))) (around k (holder k o)) s free outer)))
+      inl (guards_not k core i b (i.places_of q).left c s (none_among (λ v. guards (standing_of c (holder k v))) (around k (holder k o)) s free outer)))
       rest
 
   -- a monitor inside has yet to look

@@ -22,7 +22,7 @@ use Rattle.abort_expansion.specs.Transitions.{is_raised, raising, answers, stron
 use Rattle.abort_expansion.specs.Superstates.{closing}
 use Rattle.abort_expansion_laws.specs.Stages.{Entry, Watched, Silent, Correspondence, IsSilent}
 use Rattle.abort_expansion_laws.proofs.Supplying.{silent_test}
-use Rattle.abort_expansion_laws.proofs.Simulation.{Segment}
+use Rattle.abort_expansion_laws.proofs.Segments.{Segment}
 use Rattle.chart_machine_laws.proofs.LyingIn.{IsNested, around, holder}
 use Rattle.abort_expansion_laws.proofs.TablesCorrespond.{IsThere}
 use Rattle.abort_expansion_laws.proofs.FlagAccess.{raised_access}
@@ -43,10 +43,10 @@ use Rattle.abort_expansion_laws.proofs.StartingRegions.{CounterRows}
 use Rattle.abort_expansion_laws.proofs.OpensFork.{OpeningRows}
 use Rattle.abort_expansion_laws.proofs.EnteringSimple.{once_append}
 use Rattle.abort_expansion_laws.proofs.JoinsFork.{strong_once}
-use Rattle.tick_laws.proofs.Lists.{map_contains}
 use Rattle.core_charts.specs.Aborts.{has_aborts}
 use Rattle.abort_expansion_laws.proofs.EffectAhead.{BeginsAt}
 use Rattle.abort_expansion_laws.proofs.Owed.{Enters}
+use Rattle.abort_expansion_laws.proofs.ThreadsAround.{thread_within}
 
 module _ (k core : Table) (i : Images) (rows : CoreRows k core i) (more : AloneRows k core i) (tree : IsNested k) (core_tree : IsNested core)
     (deep : (q s : ℕ) → Contains (around core q) s → holder core s < q)
@@ -136,7 +136,7 @@ module _ (k core : Table) (i : Images) (rows : CoreRows k core i) (more : AloneR
           inr (
             counters.strong_not s y strong,
             subst (λ v. Contains (around core (i.thread_of r)) (i.main_of v)) (sym owner)
-                (subst (λ zs. Contains zs (i.main_of s)) (sym (rows.encloses r)) (map_contains i.main_of (around k r) s around_it)),
+                (thread_within k core i rows r s around_it),
           ),
           (1, refl, (let zero_is = strong_at s y strong in omega (zero_is, arith))),
         );

@@ -23,11 +23,10 @@ use Rattle.abort_expansion_laws.proofs.HasLooked.{looked_strong}
 use Rattle.abort_expansion_laws.proofs.LooksBefore.{looked_first}
 use Rattle.abort_expansion_laws.proofs.MoreRows.{opening_rows}
 use Rattle.abort_expansion_laws.proofs.OwnTests.{OwnTests}
-use Rattle.abort_expansion_laws.proofs.PreemptionKept.{ToldHere}
 use Rattle.abort_expansion_laws.proofs.QuietBegins.{state_with_aborts}
 use Rattle.abort_expansion_laws.proofs.RowsOfCharts as whole
-use Rattle.abort_expansion_laws.proofs.TickFollowed as ticks
-use Rattle.abort_expansion_laws.proofs.ToldSteps.{told_silent}
+use Rattle.abort_expansion_laws.proofs.TicksOfCharts as ticks
+use Rattle.abort_expansion_laws.proofs.ToldSteps.{told_silent, ToldHere}
 use Rattle.abort_expansion_laws.proofs.StrongNotTaken.{IsGuarding, guarding_back, MonitorGuards}
 use Rattle.abort_expansion_laws.proofs.CasesFollowed as cases
 use Rattle.abort_expansion_laws.proofs.FlagStages.{FlagStages}

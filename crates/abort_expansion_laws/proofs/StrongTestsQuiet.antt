@@ -23,7 +23,7 @@ use Rattle.sc_graph.specs.Tick.{IsConfiguration}
 use Rattle.sc_graph.specs.Protocol.{Instant, by_successor, by_entry, by_exit, successors}
 use Rattle.sc_graph.specs.Tables.{priority, priority_of}
 use Rattle.sc_graph.specs.Valid.{IsFormed, IsValid}
-use Rattle.tick_laws.proofs.Lists.{map_some, contains_head, map_contains}
+use Rattle.tick_laws.proofs.Lists.{map_some, contains_head}
 use Rattle.tick_laws.proofs.Formed.{valid_formed}
 use Rattle.tick_laws.proofs.RulesGive.{flow}
 use Rattle.tick_laws.proofs.Views.{stands, does}
@@ -43,6 +43,7 @@ use Rattle.abort_expansion_laws.proofs.TablesCorrespond.{IsThere}
 use Rattle.abort_expansion_laws.specs.CoreRows.{Images, CoreRows}
 use Rattle.abort_expansion_laws.proofs.MonitorsApart.{ChildUnder, region_in, differs, monitor_apart}
 use Rattle.abort_expansion_laws.proofs.LowPriorities.{Under, LowUnder, low_under_kept, never_before}
+use Rattle.abort_expansion_laws.proofs.ThreadsAround.{thread_within}
 
 pub precedes_writes : (b a : Access) → Precedes b a → b.writes ≢ Nothing
 precedes_writes b a (init_update x f i u) e = let w = i.1 in absurd cc
@@ -266,7 +267,7 @@ module _ (k core : Table) (i : Images) (rows : CoreRows k core i) (tree : IsNest
       h = i.thread_of r
 
       inner : Contains (around core (i.thread_of u)) (i.main_of s)
-      inner = subst (λ zs. Contains zs (i.main_of s)) (sym (rows.encloses u)) (map_contains i.main_of (around k u) s around_it)
+      inner = thread_within k core i rows u s around_it
 
       -- the superstate of r around it is the one in which r stands
       is_f : i.main_of s ≡ i.main_of quiet.superstate

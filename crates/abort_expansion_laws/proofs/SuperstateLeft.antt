@@ -18,7 +18,7 @@ use Rattle.chart_machine.specs.Steps.{state_in, moved, acts, taken, tested, afte
 use Rattle.chart_machine.specs.Machine.{machine}
 use Rattle.abort_expansion.specs.Transitions.{put, counting, place_of}
 use Rattle.abort_expansion_laws.specs.Stages.{Entry, Silent}
-use Rattle.abort_expansion_laws.proofs.Simulation.{Segment, segment_on}
+use Rattle.abort_expansion_laws.proofs.Segments.{Segment, segment_on}
 use Rattle.chart_machine_laws.proofs.LyingIn.{IsNested, around}
 use Rattle.abort_expansion_laws.specs.CoreRows.{IsState, Images, CoreRows, pair}
 use Rattle.abort_expansion_laws.specs.Related.{Related}

@@ -1,14 +1,11 @@
 -- What a simulation uses to supply the hypotheses on a log, one step after the other.
-use Rattle.std.proofs.Common.{◌≡◌, ◌≢◌, ℕ, zero, suc, ◌<◌, ◌≤◌, List, [], ◌∷◌, sym, ap, subst, arith, inl, inr, Option, Some, None, Contains}
+use Rattle.std.proofs.Common.{◌≡◌, ◌≢◌, ℕ, zero, suc, ◌<◌, ◌≤◌, List, [], ◌∷◌, subst, arith, inl, inr, Option, Some, Contains}
 use Rattle.std.specs.Prelude.{slice_index_or}
-use Rattle.std.proofs.lemmas.Option.{same_Some}
 use Rattle.sc_values.specs.declared.value.Value.{Value}
 use Rattle.sc_values.specs.declared.operator.Combination.{Combination}
 use Rattle.sc_values.specs.Access.{Access, Nothing, Init, Update, no_access}
-use Rattle.sc_values.specs.Runs.{Machine, acts, IsAdmissible, IsOrdered, Act}
-use Rattle.abort_expansion_laws.specs.Stages.{Entry, Correspondence, IsCorrespondence, core_act, core_log, chart_log, Touches, InitsFlag, UpdatesFlag}
-use Rattle.abort_expansion_laws.specs.Stages.{ReadsFlag, IsSilent, EachFits, HasStage, ReachedAfter, Climbs, NoneReached, EachSpared}
-use Rattle.abort_expansion_laws.proofs.StagesKept.{stages_kept}
+use Rattle.abort_expansion_laws.specs.Stages.{Entry, Correspondence, core_act, Touches, InitsFlag, UpdatesFlag}
+use Rattle.abort_expansion_laws.specs.Stages.{ReadsFlag, IsSilent, HasStage, ReachedAfter, Climbs}
 
 -- ---- stages, by those that a configuration allows
 
@@ -47,13 +44,6 @@ sets x v = record { reads = []; writes = Init x (Some v) }
 
 abbrev pub combines : ℕ → Combination → Access
 combines x f = record { reads = []; writes = Update x f }
-
--- the stage of a step at a stage, and of one at none
-pub same_stage : (p q : ℕ × ℕ) → Some p ≡ Some q → p.1 ≡ q.1
-same_stage p q e = ap (λ z. z.1) (same_Some p q e)
-
-pub no_stage : (p : ℕ × ℕ) → ◌≡◌ {A = Option (ℕ × ℕ)} None (Some p) → ⊥
-no_stage p e = cc
 
 none_in : (x : ℕ) → Contains [] x → ⊥
 none_in x h = let lt = h.1 in absurd (omega arith)
@@ -122,17 +112,3 @@ module _ (k : Correspondence) (t : ℕ) (at : Option (ℕ × ℕ)) where
             subst (λ g. UpdatesFlag k t at x g) same (subst (λ z. UpdatesFlag k t at z k.counting) (combines_at y k.counting x (inr (inr (f, u)))) updates);
         reads = λ x r. absurd (none_in x r);
       }
-
--- ---- over machines
-
--- where the logs of two runs are a marked log's, the core's run is admissible if the chart's is
-pub core_admissible : (m n : Machine) (k : Correspondence) → IsCorrespondence k →
-    (run : List ℕ) (c : m.Configuration) (image : List ℕ) (d : n.Configuration) (log : List Entry) →
-    acts m run c ≡ chart_log log → acts n image d ≡ core_log k log →
-    ((steps : List Act) → IsOrdered m.ForkedApart steps → IsOrdered k.ChartApart steps) →
-    ((steps : List Act) → IsOrdered k.CoreApart steps → IsOrdered n.ForkedApart steps) →
-    EachFits k log → EachSpared k log → Climbs k NoneReached log → IsAdmissible m run c → IsAdmissible n image d
-core_admissible m n k is run c image d log of_chart of_core chart_same core_same fits spared climbs admissible =
-    subst (λ steps. IsOrdered n.ForkedApart steps) (sym of_core)
-    (core_same (core_log k log) (stages_kept k is log fits spared climbs
-    (chart_same (chart_log log) (subst (λ steps. IsOrdered m.ForkedApart steps) of_chart admissible))))

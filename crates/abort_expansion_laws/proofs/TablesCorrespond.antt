@@ -3,18 +3,11 @@ use Rattle.std.proofs.Common.{◌≡◌, ℕ, ◌⊎◌, Bool, List, [], ◌∷�
 use Rattle.chart_machine.specs.declared.table.Table.{Table}
 use Rattle.chart_machine.specs.Turns.{LiesIn, itself, deeper, holder_of, ForkedApart}
 use Rattle.abort_expansion_laws.specs.Stages.{Correspondence, IsCorrespondence, Meet, Inner}
-use Rattle.chart_machine_laws.proofs.LyingIn.{IsNested, LiesUnder, around, holder, none_in, head_in, tail_in, head_or_tail, around_outer, not_from_itself}
+use Rattle.chart_machine_laws.proofs.LyingIn.{IsNested, LiesUnder, around, holder, head_in, head_or_tail, around_outer, not_from_itself}
 use Rattle.chart_machine_laws.proofs.LyingIn.{not_from_outer, swapped, apart_inside, by_holder}
 pub use Rattle.chart_machine_laws.specs.Tree.{IsThere}
 pub use Rattle.abort_expansion_laws.specs.Expanded.{Expanded, LiesInState, pair_of}
-
-pub contains_map : (f : ℕ → ℕ) (xs : List ℕ) (y : ℕ) → Contains (map f xs) y → (x : ℕ) × Contains xs x × (f x ≡ y)
-contains_map f [] y h = absurd (none_in y h)
-contains_map f (x ∷ xs) y h = by_place (head_or_tail (f x) y (map f xs) h) (λ t. contains_map f xs y t)
-  where
-    by_place : (f x ≡ y) ⊎ Contains (map f xs) y → (Contains (map f xs) y → (z : ℕ) × Contains xs z × (f z ≡ y)) → (z : ℕ) × Contains (x ∷ xs) z × (f z ≡ y)
-    by_place (inl here) rest = (x, head_in x xs, here)
-    by_place (inr there) rest = let z = rest there in (z.0, tail_in x z.0 xs z.1, z.2)
+use Rattle.tick_laws.proofs.Lists.{contains_map}
 
 map_alike : (f : ℕ → ℕ) → ((a b : ℕ) → f a ≡ f b → a ≡ b) → (xs ys : List ℕ) → map f xs ≡ map f ys → xs ≡ ys
 map_alike f one [] [] e = refl
@@ -71,9 +64,6 @@ module _ (chart core : Table) (e : Expanded chart core) where
 
             right_there : IsThere core (e.thread_of m.0)
             right_there = subst (IsThere core) m.1 (met.beside.second, met.beside.second_there)
-
-    heads : (x y : ℕ) (xs ys : List ℕ) → x ∷ xs ≡ y ∷ ys → x ≡ y
-    heads x y xs ys same = cc
 
     -- a superstate whose fork is around the thread of a region is around the region
     fork_around : (o m : ℕ) → Contains (around core (e.thread_of m)) (e.fork_of o) → Contains (around chart m) o

@@ -14,11 +14,11 @@ use Rattle.chart_machine.specs.Steps.{state_in, verdict, access_of, access_of_tr
 use Rattle.chart_machine.specs.Machine.{machine}
 use Rattle.abort_expansion.specs.Transitions.{led}
 use Rattle.abort_expansion_laws.specs.Stages.{Entry, Image, Silent}
-use Rattle.abort_expansion_laws.proofs.Simulation.{Segment}
+use Rattle.abort_expansion_laws.proofs.Segments.{Segment}
 use Rattle.chart_machine_laws.proofs.LyingIn.{IsNested, around, holder}
 use Rattle.abort_expansion_laws.proofs.TablesCorrespond.{IsThere}
 use Rattle.abort_expansion_laws.proofs.MoreValues.{verdict_over_more}
-use Rattle.abort_expansion_laws.specs.CoreRows.{IsState, Images, CoreRows, RegionImage}
+use Rattle.abort_expansion_laws.specs.CoreRows.{IsState, Images, CoreRows}
 use Rattle.abort_expansion_laws.specs.Related.{held_back, acting, Watches, Related}
 use Rattle.abort_expansion_laws.proofs.Unchanged.{never_guarded, stands_same}
 use Rattle.abort_expansion_laws.proofs.RegionGoesOn.{GoesOn, goes_on, same_shape}
@@ -53,9 +53,6 @@ module _ (k core : Table) (i : Images) (rows : CoreRows k core i) (tree : IsNest
 
   thread : IsTrying k core i c q s (t ∷ tests) (standing_of d (i.thread_of q))
   thread = trying_back k core i c q (standing_of c q) (standing_of d (i.thread_of q)) (related.regions q there) s (t ∷ tests) stands
-
-  image : RegionImage k core i q
-  image = rows.region q there
 
   -- as if there were one effect more
   abbrev one : Effect

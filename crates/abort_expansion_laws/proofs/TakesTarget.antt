@@ -20,8 +20,8 @@ use Rattle.chart_machine_laws.proofs.LyingIn.{IsNested, around, head_in}
 use Rattle.abort_expansion_laws.specs.CoreRows.{IsState, is_final, Images, CoreRows, RegionImage, counter_over}
 use Rattle.abort_expansion_laws.specs.Related.{Related}
 use Rattle.abort_expansion_laws.specs.Stages.{Entry, Silent}
-use Rattle.abort_expansion_laws.proofs.Simulation.{Segment, segment_on}
 use Rattle.abort_expansion_laws.proofs.TablesCorrespond.{IsThere}
+use Rattle.abort_expansion_laws.proofs.Segments.{Segment, segment_on}
 use Rattle.abort_expansion_laws.proofs.StageReached.{Stage}
 use Rattle.abort_expansion_laws.proofs.ImageSteps.{pair}
 use Rattle.abort_expansion_laws.proofs.TestFails.{tested_is}

@@ -19,16 +19,16 @@ use Rattle.chart_machine_laws.proofs.ChartTables.{around_there}
 use Rattle.abort_expansion_laws.specs.CoreRows.{own, IsState, is_final, IsSuper, Images, flags_around, ends}
 use Rattle.abort_expansion_laws.specs.Related.{Related, Stands, outside, ended, left, trying, acting, entering, guarding, staying, within, behind, Watches}
 use Rattle.abort_expansion_laws.specs.Related.{guards, waits, looks_strong, looks, elsewhere, IsInside, guarded, open_inside}
-use Rattle.abort_expansion_laws.proofs.TablesCorrespond.{contains_map}
-use Rattle.abort_expansion_laws.proofs.Unchanged.{nobody_lies}
+use Rattle.abort_expansion_laws.proofs.Unchanged.{nobody_lies, not_both}
 use Rattle.abort_expansion_laws.proofs.KnownVariables.{present_there}
 use Rattle.abort_expansion_laws.proofs.EffectFollowed.{IsActing, acting_back}
 use Rattle.abort_expansion_laws.proofs.Owed.{chart_enters, core_enters}
 use Rattle.abort_expansion_laws.proofs.StateEntry.{Entry, entry_ends, entry_tries, entry_guards, entry_opens}
 use Rattle.abort_expansion_laws.proofs.FreshInside.{Begins, one_begins, begins_closed, begins_open}
 use Rattle.abort_expansion_laws.proofs.InitialPairs.{held_there}
-use Rattle.abort_expansion_laws.proofs.BeginningSorts.{comes_there, Sort, sort_of, not_both}
+use Rattle.abort_expansion_laws.proofs.BeginningSorts.{comes_there, Sort, sort_of}
 use Rattle.abort_expansion_laws.proofs.JustEntered.{EntryRows}
+use Rattle.tick_laws.proofs.Lists.{contains_map}
 
 module _ (k core : Table) (i : Images) (more : EntryRows k core i) (c d : Configuration) (related : Related k core i c d) where
   -- ---- who is nowhere in the chart, is nowhere in the core

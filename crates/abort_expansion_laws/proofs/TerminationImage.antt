@@ -17,7 +17,7 @@ use Rattle.chart_machine.specs.Steps.{moved, access_of, access_of_trigger, step}
 use Rattle.chart_machine.specs.Machine.{machine}
 use Rattle.abort_expansion_laws.specs.Stages.{Entry, Image, Correspondence, HasStage}
 use Rattle.abort_expansion_laws.proofs.Supplying.{climbs_step, nothing_at}
-use Rattle.abort_expansion_laws.proofs.Simulation.{Segment}
+use Rattle.abort_expansion_laws.proofs.Segments.{Segment}
 use Rattle.abort_expansion_laws.proofs.SilentSteps.{AtHome}
 use Rattle.chart_machine_laws.proofs.LyingIn.{IsNested, LiesUnder, around, holder}
 use Rattle.abort_expansion_laws.proofs.TablesCorrespond.{IsThere}

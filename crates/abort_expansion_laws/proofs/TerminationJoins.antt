@@ -1,6 +1,7 @@
 -- The termination of a superstate that is split: its monitor finds that all regions have ended, and ends; the fork is joined.
 use Rattle.std.proofs.Common.{◌≡◌, ◌≢◌, ℕ, ◌<◌, ◌⊎◌, inl, inr, ⊎_elim, Bool, true, false, not, pos, Option, Some, None, List, []}
 use Rattle.std.proofs.Common.{◌∷◌, ◌++◌, map, length, slice_get, slice_set, Contains, refl, sym, ap, subst, ◌∙◌, arith, if◌then◌else◌}
+use Rattle.std.proofs.lemmas.List.{length-set}
 use Rattle.sc_values.specs.declared.value.Value.TheVariants as value_is
 use Rattle.sc_values.specs.Access.{Access}
 use Rattle.core_charts.specs.declared.region.Transition.{Transition}
@@ -16,13 +17,13 @@ use Rattle.chart_machine.specs.Steps.{to, state_in, moved, access_of, step}
 use Rattle.chart_machine.specs.Machine.{machine}
 use Rattle.abort_expansion.specs.Transitions.{put, go, is_number, weak_checks}
 use Rattle.abort_expansion.specs.Superstates.{stays, all_ended}
-use Rattle.tick_laws.proofs.Lists.{same_or_not, contained}
+use Rattle.tick_laws.proofs.Lists.{same_or_not, contained, contains_map}
 use Rattle.abort_expansion_laws.specs.Stages.{Entry, Silent, Correspondence, IsSilent}
 use Rattle.abort_expansion_laws.proofs.Supplying.{silent_test, tests, climbs_fewer}
-use Rattle.abort_expansion_laws.proofs.Simulation.{Segment}
+use Rattle.abort_expansion_laws.proofs.Segments.{Segment}
 use Rattle.abort_expansion_laws.proofs.SilentSteps.{AtHome, climbs_at, silent_step, no_step}
 use Rattle.chart_machine_laws.proofs.LyingIn.{IsNested, around, holder, none_in, head_or_tail, head_in, tail_in}
-use Rattle.abort_expansion_laws.proofs.TablesCorrespond.{IsThere, contains_map}
+use Rattle.abort_expansion_laws.proofs.TablesCorrespond.{IsThere}
 use Rattle.abort_expansion_laws.proofs.MoreValues.{same_verdict}
 use Rattle.abort_expansion_laws.proofs.FlagAccess.{number_access}
 use Rattle.abort_expansion_laws.specs.CoreRows.{own, IsState, IsSuper, joins, Images, CoreRows, WatcherImage, SplitImage, flags_around, watchers}
@@ -37,7 +38,7 @@ use Rattle.abort_expansion_laws.proofs.StartingRegions.{CounterRows}
 use Rattle.abort_expansion_laws.proofs.LeftTests.{kept_is}
 use Rattle.abort_expansion_laws.proofs.LaterTicks.{weak_no_join}
 use Rattle.abort_expansion_laws.proofs.InsideAround.{all_from, inside_around}
-use Rattle.abort_expansion_laws.proofs.Leaving.{drops, at_number, set_here, set_other, set_length, drops_in, drops_out, drops_length, leaves, joined}
+use Rattle.abort_expansion_laws.proofs.Leaving.{drops, at_number, set_here, set_other, drops_in, drops_out, drops_length, leaves, joined}
 use Rattle.chart_machine_laws.proofs.ChartTables.{around_there}
 use Rattle.abort_expansion_laws.proofs.TerminationNext as next
 use Rattle.abort_expansion_laws.proofs.TerminationImage as taken
@@ -150,7 +151,7 @@ module _ (k core : Table) (i : Images) (rows : CoreRows k core i) (tree : IsNest
         (λ more climbs. climbs_at corr (Stage k i.thread_of c d) (i.thread_of r) 3 3 (i.watcher_of s) (tests (counted has).0) more (omega arith) climbs)
         (record {
           variables = refl;
-          size = set_length d.regions (i.watcher_of s) at.Ended;
+          size = length-set d.regions (i.watcher_of s) at.Ended;
           over = λ _. set_here d.regions (i.watcher_of s) at.Ended in_core;
           others = λ g ne. set_other d.regions (i.watcher_of s) g at.Ended (ne has);
         })
@@ -187,9 +188,6 @@ module _ (k core : Table) (i : Images) (rows : CoreRows k core i) (tree : IsNest
           })
 
   -- ---- the join
-
-  abbrev pub d0 : Configuration
-  d0 = monitor_ends.last
 
   over0 : MonitorOver monitor_ends.last
   over0 = monitor_ends.reaches
@@ -270,9 +268,6 @@ module _ (k core : Table) (i : Images) (rows : CoreRows k core i) (tree : IsNest
       it_is : g ≡ i.watcher_of s → has_to_guard (standing_of monitor_ends.last g) ≡ false
       it_is = by_aborts (has_aborts (own k s)) refl
 
-  abbrev pub all_tests : List Transition
-  all_tests = at_once (behind_transitions k core i r s)
-
   enters : (state_at core (state_in core (i.thread_of r) j)).entered ≡ to (i.thread_of r)
       (at.Trying (i.behind_of s) (at_once (behind_transitions k core i r s))) ∷ []
   enters =
@@ -308,7 +303,7 @@ module _ (k core : Table) (i : Images) (rows : CoreRows k core i) (tree : IsNest
   is_joined =
       record {
         variables = over0.variables;
-        size = set_length dropped (i.thread_of r) x4 ∙ (drops_length (inside core (i.main_of s)) monitor_ends.last.regions ∙ over0.size);
+        size = length-set dropped (i.thread_of r) x4 ∙ (drops_length (inside core (i.main_of s)) monitor_ends.last.regions ∙ over0.size);
         here = here4;
         inside = λ g h. set_other dropped (i.thread_of r) g x4 (not_home g h) ∙
             drops_in (inside core (i.main_of s)) monitor_ends.last.regions g (inside_in core (i.main_of s) g (around_there core g (i.main_of s) h) h);

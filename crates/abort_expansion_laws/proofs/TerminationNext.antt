@@ -3,6 +3,7 @@ use Rattle.std.proofs.Common.{◌≡◌, ℕ, ◌⊎◌, inl, inr, ⊎_elim, Boo
 use Rattle.std.proofs.Common.{refl, sym, ap, subst, ◌∙◌}
 use Rattle.std.specs.Prelude.{filter}
 use Rattle.std.specs.List.{list_all, list_any}
+use Rattle.std.proofs.lemmas.Bool.{and_parts}
 use Rattle.core_charts.specs.declared.region.Transition.{Transition}
 use Rattle.core_charts.specs.Tests.{terminations, is_join}
 use Rattle.core_charts.specs.Aborts.{has_aborts}
@@ -15,16 +16,16 @@ use Rattle.chart_machine.specs.Turns.{standing_of, has_ended, has_work}
 use Rattle.abort_expansion.specs.Flags.{has_join}
 use Rattle.abort_expansion.specs.Superstates.{stays}
 use Rattle.chart_machine_laws.proofs.LyingIn.{IsNested, around, holder, none_in, head_or_tail, head_in, tail_in}
-use Rattle.abort_expansion_laws.proofs.TablesCorrespond.{IsThere, contains_map}
+use Rattle.abort_expansion_laws.proofs.TablesCorrespond.{IsThere}
 use Rattle.chart_machine_laws.proofs.ChartTables.{around_there}
 use Rattle.abort_expansion_laws.specs.CoreRows.{own, IsState, Images, CoreRows, flags_around}
 use Rattle.abort_expansion_laws.specs.Related.{Each, is_behind, Stands, outside, ended, left, trying, acting, entering, guarding, staying, within, behind}
 use Rattle.abort_expansion_laws.specs.Related.{Watches, guards as watch_guards, waits, looks_strong, looks}
 use Rattle.abort_expansion_laws.specs.Related.{elsewhere, IsInside, guarded, open_inside, Closes, Related}
-use Rattle.abort_expansion_laws.proofs.KnownVariables.{both_true}
 use Rattle.abort_expansion_laws.proofs.StartingRegions.{Once, CounterRows}
 use Rattle.abort_expansion_laws.proofs.SettledInOrder.{ended_back}
 use Rattle.abort_expansion_laws.proofs.Unchanged.{there_or_not}
+use Rattle.abort_expansion_laws.proofs.ThreadsAround.{region_within}
 
 -- it has ended, or is outside
 abbrev pub IsOver : Standing → Type 0
@@ -33,7 +34,7 @@ IsOver x = (x ≡ at.Ended) ⊎ (x ≡ at.Outside)
 all_in : (p : ℕ → Bool) (xs : List ℕ) → list_all p xs ≡ true → (y : ℕ) → Contains xs y → p y ≡ true
 all_in p [] e y h = absurd (none_in y h)
 all_in p (x ∷ xs) e y h =
-    let both = both_true (p x) (list_all p xs) e in
+    let both = and_parts (p x) (list_all p xs) e in
     ⊎_elim (λ same. ap p (sym same) ∙ both.0) (λ tail. all_in p xs both.1 y tail) (head_or_tail x y xs h)
 
 once_in : (r : ℕ) (xs : List ℕ) → Once r xs → Contains xs r
@@ -121,8 +122,7 @@ module _ (k core : Table) (i : Images) (rows : CoreRows k core i) (tree : IsNest
 
   from_core : (q : ℕ) → Contains (around core (i.thread_of q)) (i.main_of s) → Contains (around k q) s
   from_core q h =
-      let u = contains_map i.main_of (around k q) (i.main_of s) (subst (λ zs. Contains zs (i.main_of s)) (rows.encloses q) h) in
-      subst (Contains (around k q)) (rows.main_once u.0 s u.2) u.1
+      region_within k core i rows q s h
 
   thread_over : (q : ℕ) (x y : Standing) → Stands k core i c q x y → IsOver x → IsOver y
   thread_over q _ _ outside over = over

@@ -15,7 +15,7 @@ use Rattle.chart_machine.specs.Steps.{to, after, verdict, taken, change_of, step
 use Rattle.chart_machine.specs.Machine.{machine}
 use Rattle.abort_expansion.specs.Transitions.{led}
 use Rattle.abort_expansion_laws.specs.Stages.{Entry, Image}
-use Rattle.abort_expansion_laws.proofs.Simulation.{Segment}
+use Rattle.abort_expansion_laws.proofs.Segments.{Segment}
 use Rattle.chart_machine_laws.proofs.LyingIn.{IsNested, around}
 use Rattle.abort_expansion_laws.proofs.TablesCorrespond.{IsThere}
 use Rattle.abort_expansion_laws.proofs.MoreValues.{verdict_over_more}
@@ -59,9 +59,6 @@ module _ (k core : Table) (i : Images) (rows : CoreRows k core i) (tree : IsNest
 
     core_stands : standing_of d (i.thread_of q) ≡ at.Trying (i.main_of s) (led (i.places_of q) t ∷ (map (led (i.places_of q)) tests ++ held_back k core i q))
     core_stands = thread.is ∙ ap (at.Trying (i.main_of s)) (no_front k core i c q (t ∷ tests) free)
-
-    abbrev pub acts_on : Standing
-    acts_on = at.Acting s (e ∷ es) t.target
 
     abbrev pub core_acts : Standing
     core_acts = at.Acting (i.main_of s) (e ∷ counting (i.places_of q) t.target es) (place_of (i.places_of q) t.target)

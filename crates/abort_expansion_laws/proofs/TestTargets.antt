@@ -19,7 +19,7 @@ use Rattle.core_charts.specs.Rules.{IsChart, IsRegion, IsState, AreRegions, dept
 use Rattle.chart_machine.specs.declared.table.Table.{Table}
 use Rattle.chart_machine.specs.declared.table.TablePosition.{TablePosition}
 use Rattle.chart_machine.specs.Table.{Subtree, table, whole, region_at, side_by_side, behind, within, inside_region, states_in, next_behind}
-use Rattle.chart_machine.specs.Table.{past_states, state_numbers, regions_in_initial, region_subtree, state_subtree, subtree_of_region, subtree_of_state}
+use Rattle.chart_machine.specs.Table.{past_states, regions_in_initial, region_subtree, state_subtree, subtree_of_region, subtree_of_state}
 use Rattle.chart_machine_laws.specs.Tree.{holder}
 use Rattle.chart_machine_laws.proofs.RowsOfSubtrees.{Holds, IsSized, AllSized, state_sized, region_sized, side_states}
 use Rattle.chart_machine_laws.proofs.TableTrees.{OnceInitial}
@@ -31,10 +31,7 @@ use Rattle.abort_expansion_laws.proofs.Walked.{Range, range_none, range_both, ra
 use Rattle.abort_expansion_laws.proofs.RowsOfForks.{region_rows}
 use Rattle.abort_expansion_laws.proofs.ChartWalk.{one_state_begins}
 use Rattle.abort_expansion_laws.proofs.QuietBegins.{no_tests_past}
-
-numbers_count : (ps : List Subtree) (n : ℕ) → length (state_numbers ps n) ≡ length ps
-numbers_count [] n = refl
-numbers_count (p ∷ ps) n = ap suc (numbers_count ps (n + p.states))
+use Rattle.abort_expansion_laws.proofs.OpenedInside.{numbers_length}
 
 module _ (k : Table) where
   -- what the rules say of a transition of a region with so many states
@@ -130,7 +127,7 @@ module _ (k : Table) where
             inner_leads (length (out-Region r).states) (out-Region r).states each (inside_region a)
             (suc a.region + regions_in_initial (map subtree_of_state (out-Region r).states)) rows.1 once
             (ap (λ z. length z.states) rows.0
-            ∙ (numbers_count (map subtree_of_state (out-Region r).states) a.state ∙ length-map (out-Region r).states subtree_of_state)));
+            ∙ (numbers_length k (map subtree_of_state (out-Region r).states) a.state ∙ length-map (out-Region r).states subtree_of_state)));
         sized = subst IsSized (sym is) (region_sized (layer_of r) sized);
       }
     where

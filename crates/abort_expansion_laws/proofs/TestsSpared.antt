@@ -9,7 +9,7 @@ use Rattle.sc_graph.specs.declared.tables.Tables.{Tables}
 use Rattle.sc_graph.specs.Program.{Program}
 use Rattle.sc_graph.specs.Tick.{Inputs, AreAccepted}
 use Rattle.sc_graph.specs.Tick as graph_tick
-use Rattle.sc_graph.specs.Valid.{IsFormed, IsValid}
+use Rattle.sc_graph.specs.Valid.{IsValid}
 use Rattle.tick_laws.proofs.Formed.{valid_formed}
 use Rattle.tick_laws.proofs.Views.{only_if_some}
 use Rattle.core_charts.specs.declared.features.Features.TheVariants as features
@@ -50,13 +50,13 @@ use Rattle.abort_expansion_laws.proofs.EachSpared.{each_spared}
 use Rattle.abort_expansion_laws.proofs.TickRows.{alone_rows, start_rows, started_related}
 use Rattle.abort_expansion_laws.proofs.LaterTicks.{chart_has_begun, never}
 use Rattle.abort_expansion_laws.proofs.Owed.{Resting}
-use Rattle.abort_expansion_laws.proofs.PreemptionFollows.{RestsAlike, SparesTests}
+use Rattle.abort_expansion_laws.proofs.BetweenTicks.{RestsAlike, SparesTests}
 use Rattle.abort_expansion_laws.proofs.QuietBegins.{LoweredTests, MonitorsLow, IsRaising, StaysLow, StaysQuiet, monitors_stay_low}
 use Rattle.abort_expansion_laws.proofs.QuietBegins.{stays_quiet, quiet_begins, spared_quietly}
 use Rattle.abort_expansion_laws.proofs.QuietAtStart.{starts_low}
 use Rattle.abort_expansion_laws.proofs.RowsOfCharts as whole
 use Rattle.abort_expansion_laws.proofs.StrongTestsQuiet.{ToldOf, precedes_writes, spares}
-use Rattle.abort_expansion_laws.proofs.TickFollowed as ticks
+use Rattle.abort_expansion_laws.proofs.TicksOfCharts as ticks
 use Rattle.abort_expansion_laws.proofs.ToldSteps.{ImageTold, Told, fork_around}
 use Rattle.abort_expansion_laws.proofs.WokenConfigurations.{woken_at}
 use Rattle.abort_expansion_laws.proofs.FlagStages.{FlagStages}
@@ -120,32 +120,28 @@ module _ (c : Chart) (rules : IsChart features.Extended c) (core_rules : IsChart
   abbrev p : Program
   p = program_of (numbered scl)
 
-  formed : IsFormed p
-  formed = valid_formed p q valid
-
   abbrev Alike : Configuration → Control → Type 0
   Alike = StandAlike core (numbered scl) (layout (expanded c) (numbered scl).root) p
 
-  lowered : Lowered core p Alike
-  lowered = stand_alike (expanded c) scl low formed
+  abbrev pub lowered : Lowered core p Alike
+  lowered = stand_alike (expanded c) scl low (valid_formed p q valid)
 
-  tests : LoweredTests core p Alike lowered
-  unfolding lowered
-  tests =
+  pub lowered_tests : LoweredTests core p Alike lowered
+  lowered_tests =
       record {
         test_node = λ d m x t s test others e f fs stands late triggered effects.
             test_node (expanded c) scl low t s test others e triggered f fs effects d m x stands late;
-        waits_there = λ d m g s ss x round late. waits_there (expanded c) scl low formed d m g s ss x round late;
+        waits_there = λ d m g s ss x round late. waits_there (expanded c) scl low (valid_formed p q valid) d m g s ss x round late;
       }
 
-  earlier : (d next : Configuration) (t g : ℕ) → step core t d ≡ Some next → is_late (standing_of next g) ≡ true → is_late (standing_of d g) ≡ true
+  pub earlier : (d next : Configuration) (t g : ℕ) → step core t d ≡ Some next → is_late (standing_of next g) ≡ true → is_late (standing_of d g) ≡ true
   earlier = late_before features.Core (expanded c) core_rules
 
   abbrev Keeps : Configuration → Type 0
-  Keeps = MonitorsLow k core i rows (whole.core_tree c rules core_rules).nested p q valid Alike lowered tests earlier
+  Keeps = MonitorsLow k core i rows (whole.core_tree c rules core_rules).nested p q valid Alike lowered lowered_tests earlier
 
   abbrev Quiet : ℕ → Access → Configuration → Type 0
-  Quiet = StaysQuiet k core i rows (whole.core_tree c rules core_rules).nested p q valid Alike lowered tests earlier
+  Quiet = StaysQuiet k core i rows (whole.core_tree c rules core_rules).nested p q valid Alike lowered lowered_tests earlier
 
   -- within a tick
   told_of : (d next : Configuration) (u : ℕ) → ImageTold k core i d u → step core (i.thread_of u) d ≡ Some next →
@@ -164,13 +160,13 @@ module _ (c : Chart) (rules : IsChart features.Extended c) (core_rules : IsChart
   tick_spared stages log d e follows keeps =
       each_spared (machine core) (ticks.corr_at c rules core_rules stages) (Told k core i) Keeps Quiet
       (λ d next t keeps goes.
-      monitors_stay_low k core i rows (whole.core_tree c rules core_rules).nested p q valid Alike lowered tests earlier d next t keeps goes)
+      monitors_stay_low k core i rows (whole.core_tree c rules core_rules).nested p q valid Alike lowered lowered_tests earlier d next t keeps goes)
       (λ r g a d next keeps told goes.
-      quiet_begins k core i rows (whole.core_tree c rules core_rules).nested p q valid Alike lowered tests earlier r g a d next keeps (told refl) goes)
+      quiet_begins k core i rows (whole.core_tree c rules core_rules).nested p q valid Alike lowered lowered_tests earlier r g a d next keeps (told refl) goes)
       (λ r a d next t quiet goes ne.
-      stays_quiet k core i rows (whole.core_tree c rules core_rules).nested p q valid Alike lowered tests earlier r a d next t quiet goes ne)
+      stays_quiet k core i rows (whole.core_tree c rules core_rules).nested p q valid Alike lowered lowered_tests earlier r a d next t quiet goes ne)
       (λ r a d u b quiet inner told acts next goes.
-      spared_quietly k core i rows (whole.core_tree c rules core_rules).nested p q valid Alike lowered tests earlier r a b d quiet
+      spared_quietly k core i rows (whole.core_tree c rules core_rules).nested p q valid Alike lowered lowered_tests earlier r a b d quiet
       (λ is.
       ⊎_elim (λ none. writes_not b a none)
       (λ image.
@@ -195,32 +191,32 @@ module _ (c : Chart) (rules : IsChart features.Extended c) (core_rules : IsChart
         here : Resting k core i before d → (r : ℕ) → standing_of (start k inputs before) r ≡ woken k (standing_of before r)
         here rests r = rw (chart_has_begun k core i before d rests) (woken_at k before.regions r)
 
+    pub starts_quiet : RestsAlike c rules core_rules before d → (o : ℕ) → IsState k o → has_aborts (own k o) ≡ true →
+        is_late (standing_of (start core inputs d) (i.watcher_of o)) ≡ true → (n : ℕ) →
+        IsRaising k core i rows (whole.core_tree c rules core_rules).nested p q valid Alike lowered lowered_tests earlier o n →
+        StaysLow k core i rows (whole.core_tree c rules core_rules).nested p q valid Alike lowered lowered_tests earlier o n (graph_tick.start p inputs m)
+    starts_quiet (inl (first, core_first)) o there has late n raises_it =
+        let wrong : true ≡ false =
+        sym late ∙ (ap (λ z. is_late (standing_of (start core inputs z) (i.watcher_of o))) core_first
+        ∙ first_prompt features.Core (expanded c) core_rules inputs (i.watcher_of o)) in
+        absurd cc
+    starts_quiet (inr rested) o there has late n raises_it =
+        starts_low k core i rows (alone_rows c rules core_rules) (whole.tree c rules core_rules).nested
+        (whole.core_tree c rules core_rules).nested (whole.core_tree c rules core_rules).children (whole.tree c rules core_rules).children
+        (whole.super_there c rules core_rules) (λ s here. (whole.state_fits c rules core_rules s here).region.here)
+        (start_rows c rules core_rules).strong_for p q valid Alike lowered lowered_tests earlier
+        (λ t there none. tick_starts.top_parent (expanded c) scl q low valid t there none) (start k inputs before) (start core inputs d)
+        (started_related c rules core_rules before d rested.rests inputs) (graph_tick.start p inputs m)
+        (tick_starts.starts_alike (expanded c) scl q low valid inputs accepted d m between)
+        (wakes_low (expanded c) scl low q valid inputs accepted d m between) (plain_open rested.rests) o there has late n raises_it
+
     starts_keeping : RestsAlike c rules core_rules before d → Keeps (start core inputs d)
     starts_keeping rests =
         record {
           control = graph_tick.start p inputs m;
           stands = tick_starts.starts_alike (expanded c) scl q low valid inputs accepted d m between;
-          low = λ o there has late n raises_it. by rests o there has late n raises_it;
+          low = λ o there has late n raises_it. starts_quiet rests o there has late n raises_it;
         }
-      where
-        by : RestsAlike c rules core_rules before d → (o : ℕ) → IsState k o → has_aborts (own k o) ≡ true →
-            is_late (standing_of (start core inputs d) (i.watcher_of o)) ≡ true → (n : ℕ) →
-            IsRaising k core i rows (whole.core_tree c rules core_rules).nested p q valid Alike lowered tests earlier o n →
-            StaysLow k core i rows (whole.core_tree c rules core_rules).nested p q valid Alike lowered tests earlier o n (graph_tick.start p inputs m)
-        by (inl (first, core_first)) o there has late n raises_it =
-            let wrong : true ≡ false =
-            sym late ∙ (ap (λ z. is_late (standing_of (start core inputs z) (i.watcher_of o))) core_first
-            ∙ first_prompt features.Core (expanded c) core_rules inputs (i.watcher_of o)) in
-            absurd cc
-        by (inr rested) o there has late n raises_it =
-            starts_low k core i rows (alone_rows c rules core_rules) (whole.tree c rules core_rules).nested
-            (whole.core_tree c rules core_rules).nested (whole.core_tree c rules core_rules).children (whole.tree c rules core_rules).children
-            (whole.super_there c rules core_rules) (λ s here. (whole.state_fits c rules core_rules s here).region.here)
-            (start_rows c rules core_rules).strong_for p q valid Alike lowered tests earlier
-            (λ t there none. tick_starts.top_parent (expanded c) scl q low valid t there none) (start k inputs before) (start core inputs d)
-            (started_related c rules core_rules before d rested.rests inputs) (graph_tick.start p inputs m)
-            (tick_starts.starts_alike (expanded c) scl q low valid inputs accepted d m between)
-            (wakes_low (expanded c) scl low q valid inputs accepted d m between) (plain_open rested.rests) o there has late n raises_it
 
     pub spared_in_tick : RestsAlike c rules core_rules before d → (stages : FlagStages c rules core_rules) (log : List Entry) (e : Configuration) →
         Follows (machine core) (ticks.corr_at c rules core_rules stages) (Told k core i) (start core inputs d) log e →
@@ -228,6 +224,14 @@ module _ (c : Chart) (rules : IsChart features.Extended c) (core_rules : IsChart
     spared_in_tick rests stages log e follows = tick_spared stages log (start core inputs d) e follows (starts_keeping rests)
 
 -- ---- over lists of ticks
+
+-- the program of the image is that of the text
+module _ (c : Chart) (image : HasImage c) where
+  pub is_valid : IsValid (program_of (numbered image.scl)) image.tables
+  is_valid = subst (λ z. IsValid z image.tables) image.graph.is image.valid
+
+  pub takes : (inputs : Inputs) → AreAccepted image.program inputs → AreAccepted (program_of (numbered image.scl)) inputs
+  takes inputs accepted = subst (λ z. AreAccepted z inputs) image.graph.is accepted
 
 module _ (c : Chart) (rules : IsChart features.Extended c) (core_rules : IsChart features.Core (expanded c))
     (image : HasImage c) where
@@ -238,15 +242,9 @@ module _ (c : Chart) (rules : IsChart features.Extended c) (core_rules : IsChart
   lowers kept =
       record { core = core_rules; rules = kept; variables = image.declared; body = image.body; no_loop = image.graph.no_loop }
 
-  is_valid : IsValid (program_of (numbered image.scl)) image.tables
-  is_valid = subst (λ z. IsValid z image.tables) image.graph.is image.valid
-
-  takes : (inputs : Inputs) → AreAccepted image.program inputs → AreAccepted (program_of (numbered image.scl)) inputs
-  takes inputs accepted = subst (λ z. AreAccepted z inputs) image.graph.is accepted
-
   -- the graph rests where the core chart does
   abbrev Rests : Configuration → Type 0
-  Rests d = (kept : Kept) × (m : Control) × Between c rules core_rules image.scl (lowers kept) image.tables is_valid d m
+  Rests d = (kept : Kept) × (m : Control) × Between c rules core_rules image.scl (lowers kept) image.tables (is_valid c image) d m
 
   pub tests_are_spared : SparesTests c rules core_rules (AreAccepted image.program) (Told (table c) (table (expanded c)) (whole.i c rules core_rules))
   tests_are_spared =
@@ -255,14 +253,15 @@ module _ (c : Chart) (rules : IsChart features.Extended c) (core_rules : IsChart
         begins = ∥∥₁_map image.scl.kept (λ kept. (
           kept,
           graph_tick.initial (program_of (numbered image.scl)),
-          tick_starts.begins (expanded c) image.scl image.tables (lowers kept) is_valid,
+          tick_starts.begins (expanded c) image.scl image.tables (lowers kept) (is_valid c image),
         ));
         goes_on = λ inputs d e accepted rests ends. ∥∥₁_map rests (λ x.
-            let to = tick_starts.goes_to (expanded c) image.scl image.tables (lowers x.0) is_valid inputs (takes inputs accepted) d x.1 x.2 e ends in
+            let to =
+            tick_starts.goes_to (expanded c) image.scl image.tables (lowers x.0) (is_valid c image) inputs (takes c image inputs accepted) d x.1 x.2 e ends in
             (x.0, to.0, to.1));
         spared = λ inputs before d accepted rests alike stages log e follows.
             stable_all (ticks.corr_at c rules core_rules stages) log
             (λ none. not_there rests (λ x.
-            none (spared_in_tick c rules core_rules image.scl (lowers x.0) image.tables is_valid inputs (takes inputs accepted) before d x.1 x.2 alike
-            stages log e follows)));
+            none (spared_in_tick c rules core_rules image.scl (lowers x.0) image.tables (is_valid c image) inputs (takes c image inputs accepted) before d
+            x.1 x.2 alike stages log e follows)));
       }

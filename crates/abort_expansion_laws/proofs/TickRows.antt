@@ -22,7 +22,7 @@ use Rattle.abort_expansion_laws.proofs.LocalVariables.{added_are_local}
 use Rattle.abort_expansion_laws.proofs.LaterTicks.{woken_related, chart_has_begun, core_has_begun}
 use Rattle.abort_expansion_laws.specs.Stages.{Entry, NoneReached}
 use Rattle.abort_expansion_laws.specs.CoreRows.{pair}
-use Rattle.abort_expansion_laws.proofs.Simulation.{Segment}
+use Rattle.abort_expansion_laws.proofs.Segments.{Segment}
 use Rattle.abort_expansion_laws.proofs.StageReached.{Stage}
 use Rattle.abort_expansion_laws.proofs.Supplying.{climbs_fewer}
 use Rattle.abort_expansion_laws.proofs.Owed.{Resting}

@@ -1,12 +1,10 @@
 -- The start of each tick but the first: what rests alike is related when it is woken.
-use Rattle.std.proofs.Common.{◌≡◌, ◌≢◌, ℕ, zero, suc, ◌<◌, ◌≤◌, ◌⊎◌, inl, inr, ⊎_elim, Bool, true, false, not, ◌||◌, Option, Some, None, List, []}
-use Rattle.std.proofs.Common.{◌∷◌, ◌++◌, map, length, unwrap_or, Contains, refl, sym, ap, subst, ◌∙◌, arith}
-use Rattle.std.specs.Prelude.{filter, reverse}
+use Rattle.std.proofs.Common.{◌≡◌, ◌≢◌, ℕ, ◌⊎◌, ⊎_elim, Bool, true, false, not, ◌||◌, Option, Some, None, List, []}
+use Rattle.std.proofs.Common.{◌∷◌, ◌++◌, map, length, Contains, refl, sym, ap, subst, ◌∙◌, arith}
+use Rattle.std.specs.Prelude.{filter}
 use Rattle.std.specs.List.{list_any}
 use Rattle.std.proofs.lemmas.List.{append-nil}
-use Rattle.std.proofs.lemmas.List.Folds.{flat_map-map}
-use Rattle.std.proofs.lemmas.Option.{slice_get_past}
-use Rattle.std.proofs.lemmas.Bool.{cases_lt}
+use Rattle.std.proofs.lemmas.Bool.{or_parts}
 use Rattle.sc_graph.specs.Tick.{Inputs, values_at_start}
 use Rattle.core_charts.specs.declared.region.Transition.{Transition}
 use Rattle.core_charts.specs.Tests.{strong_aborts, weak_aborts, terminations, closing_tests, is_strong, is_weak, is_join}
@@ -21,7 +19,7 @@ use Rattle.chart_machine.specs.Machine.{woken, guarded_first}
 use Rattle.abort_expansion.specs.declared.flags.Flags.{Flags}
 use Rattle.abort_expansion.specs.Flags.{has_join, aborts_around}
 use Rattle.core_charts.specs.Aborts.{has_strong, has_weak, has_aborts}
-use Rattle.abort_expansion.specs.Transitions.{check, led, strong_checks, weak_checks}
+use Rattle.abort_expansion.specs.Transitions.{led, strong_checks}
 use Rattle.abort_expansion.specs.Superstates.{stays}
 use Rattle.chart_machine_laws.specs.Tree.{IsNested, IsThere, around, holder}
 use Rattle.abort_expansion_laws.specs.CoreRows.{own, IsState, IsSuper, joins, Images, CoreRows, flags_around}
@@ -29,7 +27,7 @@ use Rattle.abort_expansion_laws.specs.Related.{Each, front, held_back, tests_of}
 use Rattle.abort_expansion_laws.specs.Related.{is_behind, Stands, outside, ended, left, trying, guarding}
 use Rattle.abort_expansion_laws.specs.Related.{staying, within, behind, IsInside, guarded}
 use Rattle.abort_expansion_laws.specs.Related.{open_inside}
-use Rattle.abort_expansion_laws.proofs.Fronts.{none_of_each, front_whole}
+use Rattle.abort_expansion_laws.proofs.Fronts.{front_whole}
 use Rattle.abort_expansion_laws.proofs.InsideLeaves.{AloneRows}
 use Rattle.abort_expansion_laws.proofs.Owed.{RestsIn, rests_outside, rests_ended, rests_left}
 use Rattle.abort_expansion_laws.proofs.Owed.{rests_trying, rests_staying, rests_within, rests_behind}
@@ -37,6 +35,7 @@ use Rattle.abort_expansion_laws.proofs.Owed.{Resting}
 use Rattle.abort_expansion_laws.proofs.WokenConfigurations.{IsLocal}
 use Rattle.abort_expansion_laws.proofs.WokenConfigurations.{woken_at, woken_ended, guards_then}
 use Rattle.abort_expansion_laws.proofs.WokenConfigurations.{open_then, behind_too}
+use Rattle.abort_expansion_laws.proofs.NumberedRegions.{is_region}
 
 -- ---- of transitions
 
@@ -74,23 +73,6 @@ led_kept P places same (t ∷ ts) = by_own (P t) refl (led_kept P places same ts
     by_own true is rest = rw (same t, is) (ap (λ zs. led places t ∷ zs) rest)
     by_own false is rest = rw (same t, is) rest
 
-pub neither : (a b : Bool) → (a || b) ≡ false → (a ≡ false) × (b ≡ false)
-neither true b e = absurd cc
-neither false b e = (refl, e)
-
--- ---- nothing is checked where nobody around has aborts
-
-module _ (f : ℕ → Flags) (b : Bool) (place : ℕ) (k : Table) (tree : IsNested k) where
-  pub no_strong_checks : (zs : List ℕ) → ((s : ℕ) → Contains zs s → (f s).strong ≡ None) → strong_checks b place (map f (reverse zs)) ≡ []
-  no_strong_checks zs none =
-      flat_map-map (λ z. check b place z.strong) f (reverse zs) ∙
-      none_of_each (λ s. check b place (f s).strong) zs (λ s h. ap (check b place) (none s h))
-
-  pub no_weak_checks : (zs : List ℕ) → ((s : ℕ) → Contains zs s → (f s).weak ≡ None) → weak_checks b place (map f (reverse zs)) ≡ []
-  no_weak_checks zs none =
-      flat_map-map (λ z. check b place z.weak) f (reverse zs) ∙
-      none_of_each (λ s. check b place (f s).weak) zs (λ s h. ap (check b place) (none s h))
-
 -- what more is asked of the rows: flags are there for aborts alone, and added variables are no inputs
 pub record StartRows (k core : Table) (i : Images) (rows : CoreRows k core i) : Type 0 where
   pub strong_for : (s x : ℕ) → (i.flags_of s).strong ≡ Some x → has_strong (own k s) ≡ true
@@ -121,14 +103,7 @@ module _ (k core : Table) (i : Images) (rows : CoreRows k core i) (lone : AloneR
   -- ---- who rests
 
   pub there : (r : ℕ) → standing_of before r ≢ at.Outside → IsThere k r
-  there zero present = absurd (present rests.no_chart)
-  there (suc j) present = by_place (cases_lt j (length k.regions))
-    where
-      by_place : (j < length k.regions) ⊎ (length k.regions ≤ j) → IsThere k (suc j)
-      by_place (inl lt) = (omega arith, omega (lt, arith))
-      by_place (inr past) =
-          absurd (present (ap (λ o. unwrap_or o at.Outside)
-          (slice_get_past before.regions (suc j) (let size = rests.chart_regions in omega (past, size, arith)))))
+  there = is_region k before rests.no_chart rests.chart_regions
 
   pub never_guards : (r : ℕ) (x y : Standing) → RestsIn k core i before r x y → (s : ℕ) (tests : List Transition) → x ≢ at.Guarding s tests
   never_guards r _ _ rests_outside s tests e = absurd cc
@@ -177,7 +152,7 @@ module _ (k core : Table) (i : Images) (rows : CoreRows k core i) (lone : AloneR
   present_of r x e present out = present (sym e ∙ out)
 
   not_stays : (s : ℕ) (fs : List Flags) → stays fs (own k s) ≡ true → has_aborts (own k s) ≡ false
-  not_stays s fs e = (neither (has_aborts (own k s)) (aborts_around fs) (not_true (has_aborts (own k s) || aborts_around fs) e)).0
+  not_stays s fs e = (or_parts (has_aborts (own k s)) (aborts_around fs) (not_true (has_aborts (own k s) || aborts_around fs) e)).0
     where
       not_true : (b : Bool) → not b ≡ true → b ≡ false
       not_true true e = absurd cc
@@ -185,11 +160,6 @@ module _ (k core : Table) (i : Images) (rows : CoreRows k core i) (lone : AloneR
 
   parts_behind : (s : ℕ) → is_behind k core i c s ≡ true → (has_aborts (own k s) ≡ false) × (has_join (own k s) ≡ false)
   parts_behind s e = let parts = Rattle.abort_expansion_laws.proofs.Pending.behind_parts k core i c s e in (parts.1, parts.2)
-
-  no_closing : (ts : List Transition) → has_weak ts ≡ false → has_join ts ≡ false → closing_tests ts ≡ []
-  no_closing ts weak join =
-      let a : weak_aborts ts ≡ [] = kept_none (λ t. is_weak t.kind) ts weak in
-      let b : terminations ts ≡ [] = kept_none (λ t. is_join t.kind) ts join in rw (a, b) refl
 
   pub wakes : (r : ℕ) → IsThere k r → (x y : Standing) → standing_of before r ≡ x → RestsIn k core i before r x y →
       Stands k core i c r (woken k x) (woken core y)
@@ -206,7 +176,7 @@ module _ (k core : Table) (i : Images) (rows : CoreRows k core i) (lone : AloneR
       row ∙ ap (λ zs. zs ++ map (led (i.places_of r)) (own k s) ++ held_back k core i r) (sym (front_all r false is present)) in
       subst (λ zs. Stands k core i c r (at.Trying s (own k s)) (at.Trying (i.main_of s) zs)) (sym tests) (trying s (own k s) simple held)
   wakes r is _ _ e (rests_staying s tests super held stay) =
-      let plain = neither (has_strong (own k s)) (has_weak (own k s)) (not_stays s (flags_around k core i r) stay) in
+      let plain = or_parts (has_strong (own k s)) (has_weak (own k s)) (not_stays s (flags_around k core i r) stay) in
       let strong : strong_aborts (own k s) ≡ [] = kept_none (λ t. is_strong t.kind) (own k s) plain.0 in
       let chart : woken k (at.Within s tests) ≡ at.Within s (closing_tests (own k s)) = open_then k s tests strong in
       let here : IsState k s = state_of s super in
@@ -269,7 +239,7 @@ module _ (k core : Table) (i : Images) (rows : CoreRows k core i) (lone : AloneR
   wakes r is _ _ e (rests_behind s tests super held over) =
       let now : is_behind k core i c s ≡ true = behind_is s ∙ over in
       let parts = parts_behind s now in
-      let two = neither (has_strong (own k s)) (has_weak (own k s)) parts.0 in
+      let two = or_parts (has_strong (own k s)) (has_weak (own k s)) parts.0 in
       let strong : strong_aborts (own k s) ≡ [] = kept_none (λ t. is_strong t.kind) (own k s) two.0 in
       let weak : weak_aborts (own k s) ≡ [] = kept_none (λ t. is_weak t.kind) (own k s) two.1 in
       let ends : terminations (own k s) ≡ [] = kept_none (λ t. is_join t.kind) (own k s) parts.1 in

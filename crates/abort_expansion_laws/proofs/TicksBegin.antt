@@ -13,7 +13,7 @@ use Rattle.abort_expansion_laws.specs.Stages.{Entry, Silent, NoneReached}
 use Rattle.abort_expansion_laws.specs.CoreRows.{Images, pair}
 use Rattle.abort_expansion_laws.specs.Related.{Related}
 use Rattle.abort_expansion_laws.specs.StageReached.{Stage}
-use Rattle.abort_expansion_laws.proofs.Simulation.{Segment}
+use Rattle.abort_expansion_laws.proofs.Segments.{Segment}
 use Rattle.abort_expansion_laws.proofs.Owed.{first_tick, later_tick, Begins}
 use Rattle.abort_expansion_laws.proofs.RowsOfCharts as whole
 use Rattle.abort_expansion_laws.proofs.MoreRows.{is_counter}

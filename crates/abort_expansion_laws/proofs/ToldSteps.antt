@@ -2,13 +2,18 @@
 -- neither reads nor writes; of a strong test also which one it is.
 use Rattle.std.proofs.Common.{◌≡◌, ◌≢◌, ℕ, ◌⊎◌, inr, true, false, Option, Some, List, ◌∷◌, Contains, refl, sym, ap, subst, ◌∙◌}
 use Rattle.sc_values.specs.Access.{Access, no_access}
+use Rattle.core_charts.specs.declared.features.Features.TheVariants as features
 use Rattle.core_charts.specs.declared.region.Transition.{Transition}
+use Rattle.core_charts.specs.Chart.{Chart}
+use Rattle.core_charts.specs.Rules.{IsChart}
 use Rattle.chart_machine.specs.declared.standing.Standing.{Standing}
 use Rattle.chart_machine.specs.declared.standing.Standing.TheVariants as at
 use Rattle.chart_machine.specs.declared.standing.Configuration.{Configuration}
 use Rattle.chart_machine.specs.declared.table.Table.{Table}
+use Rattle.chart_machine.specs.Table.{table}
 use Rattle.chart_machine.specs.Turns.{standing_of, has_work}
 use Rattle.chart_machine.specs.Steps.{step}
+use Rattle.abort_expansion.specs.Expansion.{expanded}
 use Rattle.chart_machine_laws.proofs.LyingIn.{around, holder}
 use Rattle.abort_expansion_laws.specs.Stages.{Entry, Image, Watched, Silent}
 use Rattle.abort_expansion_laws.specs.CoreRows.{Images, CoreRows}
@@ -16,8 +21,9 @@ use Rattle.abort_expansion_laws.specs.Related.{Stands, outside, ended, left, try
 use Rattle.abort_expansion_laws.specs.Related.{IsInside, guarded, open_inside, Related}
 use Rattle.abort_expansion_laws.proofs.KnownVariables.{present_there, stepped}
 use Rattle.abort_expansion_laws.proofs.StrongNotTaken.{inside_guarding}
-use Rattle.abort_expansion_laws.proofs.TablesCorrespond.{contains_map}
 use Rattle.abort_expansion_laws.proofs.QuietBegins.{GuardTold}
+use Rattle.abort_expansion_laws.proofs.TicksOfCharts as ticks
+use Rattle.tick_laws.proofs.Lists.{contains_map}
 
 -- of a step that stands for one of region r
 pub record ImageTold (k core : Table) (i : Images) (d : Configuration) (r : ℕ) : Type 0 where
@@ -87,3 +93,7 @@ fork_around k core i rows d u told s f tests inner stands =
     not_outside : (s : ℕ) (x : Standing) → IsInside k core i s x → x ≢ at.Outside
     not_outside s _ (guarded others) e = absurd cc
     not_outside s _ (open_inside others) e = absurd cc
+
+-- so of the steps of each chart's core
+abbrev pub ToldHere : (c : Chart) → IsChart features.Extended c → IsChart features.Core (expanded c) → Configuration → Entry → Type 0
+ToldHere c rules core_rules = Told (table c) (table (expanded c)) (ticks.i c rules core_rules)

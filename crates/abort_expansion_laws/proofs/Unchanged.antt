@@ -16,7 +16,7 @@ use Rattle.abort_expansion_laws.proofs.Fronts.{front_same}
 use Rattle.abort_expansion_laws.proofs.TablesCorrespond.{IsThere}
 use Rattle.abort_expansion_laws.specs.CoreRows.{own, IsState, Images, CoreRows}
 use Rattle.abort_expansion.specs.Transitions.{led}
-use Rattle.abort_expansion_laws.specs.Related.{IsCalm, front, held_back, tests_of, is_behind, Stands}
+use Rattle.abort_expansion_laws.specs.Related.{front, held_back, tests_of, is_behind, Stands}
 use Rattle.abort_expansion_laws.specs.Related.{outside, ended, left, trying, acting, entering, guarding, staying, within, behind, Watches}
 use Rattle.abort_expansion_laws.specs.Related.{guards as watch_guards, looks_strong, waits, looks, elsewhere, IsInside, Related}
 
@@ -85,9 +85,6 @@ module _ (k core : Table) (i : Images) (c d : Configuration) (ends : (q : ℕ) �
       (behind s tests super held (over_same s ∙ over))
 
 module _ (k core : Table) (i : Images) (c d : Configuration) (same : SameShape c d) where
-  pub all_ended_same : (rs : List ℕ) → list_all (λ r. has_ended (standing_of d r)) rs ≡ list_all (λ r. has_ended (standing_of c r)) rs
-  all_ended_same rs = all_ended_by c d same.ends rs
-
   pub stands_kept : (r : ℕ) (x y : Standing) → Stands k core i c r x y → Stands k core i d r x y
   stands_kept r x y stands = stands_so k core i c d same.ends r (front_same k core i c d r (λ s h. same.guards_alike (holder k s))) x y stands
 
@@ -165,9 +162,9 @@ module _ (k core : Table) (i : Images) (rows : CoreRows k core i) (c d : Configu
 
 -- ---- whose turn it is, by whom nobody guards
 
-pub both_ways : (b : Bool) → b ≡ true → b ≡ false → ⊥
-both_ways true e f = absurd cc
-both_ways false e f = absurd cc
+pub not_both : (b : Bool) → b ≡ true → b ≡ false → ⊥
+not_both true e f = absurd cc
+not_both false e f = absurd cc
 
 pub none_among : (p : ℕ → Bool) (xs : List ℕ) (y : ℕ) → list_any p xs ≡ false → Contains xs y → p y ≡ false
 none_among p [] y e h = absurd (none_in y h)
@@ -181,9 +178,3 @@ none_are p (x ∷ xs) each = rw (never (p x) (each x (head_in x xs)), none_are p
     never : (b : Bool) → (b ≡ true → ⊥) → b ≡ false
     never true no_way = absurd (no_way refl)
     never false no_way = refl
-
--- who is not calm is guarded by nobody
-pub not_calm_free : (k core : Table) (i : Images) (c d : Configuration) → Related k core i c d → (r : ℕ) → IsThere k r → (IsCalm (standing_of c r) → ⊥) →
-    is_guarded k c (around k r) ≡ false
-not_calm_free k core i c d related r there not_calm = none_are (λ s. guards (standing_of c (holder k s))) (around k r)
-    (λ s h e. not_calm (related.calm r s there h e))

@@ -1,5 +1,5 @@
 -- What waits still does after a fork was joined, and its region is settled.
-use Rattle.std.proofs.Common.{◌≡◌, ◌≢◌, ℕ, suc, ◌<◌, inl, inr, ⊎_elim, Bool, true, false, not, ◌||◌, List, [], ◌∷◌, ◌++◌, map, length, Contains, refl, sym}
+use Rattle.std.proofs.Common.{◌≡◌, ◌≢◌, ℕ, suc, ◌<◌, inl, inr, ⊎_elim, Bool, true, false, not, ◌||◌, List, [], ◌∷◌, ◌++◌, length, Contains, refl, sym}
 use Rattle.std.proofs.Common.{ap, subst, ◌∙◌, arith}
 use Rattle.core_charts.specs.declared.region.Transition.{Transition}
 use Rattle.chart_machine.specs.declared.standing.Standing.{Standing}
@@ -8,23 +8,23 @@ use Rattle.chart_machine.specs.declared.standing.Configuration.{Configuration}
 use Rattle.chart_machine.specs.declared.table.Table.{Table}
 use Rattle.chart_machine.specs.Table.{state_at}
 use Rattle.chart_machine.specs.Turns.{standing_of, has_ended, is_guarded, inside}
-use Rattle.tick_laws.proofs.Lists.{same_or_not, contained}
+use Rattle.tick_laws.proofs.Lists.{same_or_not, contained, contains_map}
 use Rattle.abort_expansion_laws.specs.Stages.{Entry}
-use Rattle.chart_machine_laws.proofs.LyingIn.{IsNested, around, holder, none_in, head_in, tail_in, head_or_tail}
-use Rattle.abort_expansion_laws.proofs.TablesCorrespond.{IsThere}
+use Rattle.chart_machine_laws.proofs.LyingIn.{IsNested, around, holder, head_in, head_or_tail}
 use Rattle.abort_expansion_laws.specs.CoreRows.{Images, CoreRows, joins}
 use Rattle.abort_expansion_laws.specs.Related.{held_back, Stores, LooksFirst}
-use Rattle.abort_expansion_laws.proofs.Pending.{Sound, IsJoining, Over, Covered, Flagged, Pending, IsBusy, joins_then, Reached}
+use Rattle.abort_expansion_laws.proofs.Pending.{Sound, IsJoining, Over, Covered, Flagged, Pending, IsBusy, joins_then, Reached, opening_kept, starting_kept}
 use Rattle.abort_expansion_laws.specs.Related.{is_behind, front, Stands, outside, left, behind}
 use Rattle.abort_expansion_laws.specs.Related.{Watches, guards as watch_guards, waits, looks_strong, looks, elsewhere}
 use Rattle.abort_expansion_laws.proofs.Fronts.{front_free}
-use Rattle.abort_expansion_laws.proofs.TablesCorrespond.{contains_map}
+use Rattle.abort_expansion_laws.proofs.TablesCorrespond.{IsThere}
 use Rattle.abort_expansion_laws.proofs.InsideAround.{inside_around}
 use Rattle.abort_expansion_laws.proofs.StageReached.{inside_in}
 use Rattle.abort_expansion_laws.proofs.Pending.{is_trying, IsOpening, IsStarting, Waits, settled, opening, starting, joining, ending, hidden, goes_in}
-use Rattle.abort_expansion_laws.proofs.Pending.{still_going, starts, opens, behind_unprepared}
+use Rattle.abort_expansion_laws.proofs.Pending.{still_going, starts, opens, behind_unprepared, joining_kept}
 use Rattle.abort_expansion_laws.proofs.SettledInOrder.{skips, there_in}
 use Rattle.abort_expansion_laws.proofs.LooksFirst.{still_looks, looks_not_ended}
+use Rattle.abort_expansion_laws.proofs.ThreadsAround.{thread_within}
 
 module _ (k core : Table) (i : Images) (rows : CoreRows k core i) (tree : IsNested k) (counts : ℕ → Bool) (written_at : ℕ → ℕ)
     (Told : Configuration → Entry → Type 0)
@@ -67,70 +67,28 @@ module _ (k core : Table) (i : Images) (rows : CoreRows k core i) (tree : IsNest
 
   opening_z : (u : ℕ) → IsOpening k core i c d u → IsOpening k core i c z u
   opening_z u a =
-      record {
-        tests = a.tests;
-        fork = a.fork;
-        there = a.there;
-        super = a.super;
-        split = a.split;
-        prepared = a.prepared;
-        untested = a.untested;
-        open_in_chart = a.open_in_chart;
-        leads = a.leads;
-        preparing = keeps (i.thread_of (holder k u)) _ (not_g (i.thread_of (holder k u)) _ _ a.preparing) a.preparing (λ e. absurd cc) (λ e. absurd cc);
-      }
+      opening_kept k core i c d z u a
+      (keeps (i.thread_of (holder k u)) _ (not_g (i.thread_of (holder k u)) _ _ a.preparing) a.preparing (λ e. absurd cc) (λ e. absurd cc))
 
   opening_back : (u : ℕ) → IsOpening k core i c z u → IsOpening k core i c d u
   opening_back u a =
-      record {
-        tests = a.tests;
-        fork = a.fork;
-        there = a.there;
-        super = a.super;
-        split = a.split;
-        prepared = a.prepared;
-        untested = a.untested;
-        open_in_chart = a.open_in_chart;
-        leads = a.leads;
-        preparing =
-            back_keeps (i.thread_of (holder k u)) _
-            (λ e.
-            let is_s : u ≡ s = same_super u a.tests a.open_in_chart (rows.region_once (holder k u) r e) in
-            let none = behind_unprepared k core i c u (subst (λ v. is_behind k core i c v ≡ true) (sym is_s) o.over) in
-            let wrong : true ≡ false = sym a.prepared ∙ none in absurd cc) a.preparing (λ e. absurd cc);
-      }
+      opening_kept k core i c z d u a
+      (back_keeps (i.thread_of (holder k u)) _
+      (λ e.
+      let is_s : u ≡ s = same_super u a.tests a.open_in_chart (rows.region_once (holder k u) r e) in
+      let none = behind_unprepared k core i c u (subst (λ v. is_behind k core i c v ≡ true) (sym is_s) o.over) in
+      let wrong : true ≡ false = sym a.prepared ∙ none in absurd cc) a.preparing (λ e. absurd cc))
 
   starting_z : (q u : ℕ) → IsStarting k core i c d q u → IsStarting k core i c z q u
   starting_z q u a =
-      record {
-        outer = a.outer;
-        first = a.first;
-        place = a.place;
-        counter = a.counter;
-        direct = a.direct;
-        counts = a.counts;
-        there = a.there;
-        tests = a.tests;
-        open_in_chart = a.open_in_chart;
-        over_in_chart = a.over_in_chart;
-        alone = a.alone;
-        ends = a.ends;
-        counting = keeps (i.thread_of q) _ (not_g (i.thread_of q) _ _ a.counting) a.counting (λ e. absurd cc) (λ e. absurd cc);
-      }
+      starting_kept k core i c d z q u a
+      (keeps (i.thread_of q) _ (not_g (i.thread_of q) _ _ a.counting) a.counting (λ e. absurd cc) (λ e. absurd cc))
 
   joining_z : (u : ℕ) → u ≢ s → IsJoining k core i c d u → IsJoining k core i c z u
   joining_z u ne a =
-      record {
-        tests = a.tests;
-        join = a.join;
-        there = a.there;
-        super = a.super;
-        over = a.over;
-        open_in_chart = a.open_in_chart;
-        leads = a.leads;
-        forked = keeps (i.thread_of (holder k u)) _ (λ e. ne (same_super u a.tests a.open_in_chart (rows.region_once (holder k u) r e))) a.forked
-            (λ e. absurd cc) (λ e. absurd cc);
-      }
+      joining_kept k core i c d z u a
+      (keeps (i.thread_of (holder k u)) _ (λ e. ne (same_super u a.tests a.open_in_chart (rows.region_once (holder k u) r e))) a.forked
+      (λ e. absurd cc) (λ e. absurd cc))
 
   holder_not_g : (u : ℕ) → IsJoining k core i c z u → i.thread_of (holder k u) ≢ g
   holder_not_g u a e = let wrong : at.Within (i.main_of u) (joins a.join ∷ []) ≡ at.Trying (i.behind_of s) (held_back k core i r) = sym a.forked ∙
@@ -138,16 +96,8 @@ module _ (k core : Table) (i : Images) (rows : CoreRows k core i) (tree : IsNest
 
   joining_back : (u : ℕ) → IsJoining k core i c z u → IsJoining k core i c d u
   joining_back u a =
-      record {
-        tests = a.tests;
-        join = a.join;
-        there = a.there;
-        super = a.super;
-        over = a.over;
-        open_in_chart = a.open_in_chart;
-        leads = a.leads;
-        forked = back_keeps (i.thread_of (holder k u)) _ (holder_not_g u a) a.forked (λ e. absurd cc);
-      }
+      joining_kept k core i c z d u a
+      (back_keeps (i.thread_of (holder k u)) _ (holder_not_g u a) a.forked (λ e. absurd cc))
 
   -- a region's thread is in the fork where the superstate is around the region
   thread_in : (q : ℕ) → Contains (inside core (i.main_of s)) (i.thread_of q) → Contains (around k q) s
@@ -159,13 +109,7 @@ module _ (k core : Table) (i : Images) (rows : CoreRows k core i) (tree : IsNest
   in_thread : (q : ℕ) → IsThere k q → Contains (around k q) s → Contains (inside core (i.main_of s)) (i.thread_of q)
   in_thread q q_there h =
       inside_in core (i.main_of s) (i.thread_of q) (rows.region q q_there).there
-      (subst (λ zs. Contains zs (i.main_of s)) (sym (rows.encloses q)) (mapped (around k q) h))
-    where
-      mapped : (zs : List ℕ) → Contains zs s → Contains (map i.main_of zs) (i.main_of s)
-      mapped [] e = absurd (none_in s e)
-      mapped (y ∷ zs) e =
-          ⊎_elim (λ f. subst (λ v. Contains (i.main_of v ∷ map i.main_of zs) (i.main_of s)) (sym f) (head_in (i.main_of s) (map i.main_of zs)))
-          (λ t. tail_in (i.main_of y) (i.main_of s) (map i.main_of zs) (mapped zs t)) (head_or_tail y s zs e)
+      (thread_within k core i rows q s h)
 
   thread_ne : (q : ℕ) → q ≢ r → i.thread_of q ≢ g
   thread_ne q ne e = ne (rows.region_once q r e)
@@ -340,24 +284,10 @@ module _ (k core : Table) (i : Images) (rows : CoreRows k core i) (tree : IsNest
 
   starting_back : (q u : ℕ) → IsStarting k core i c z q u → IsStarting k core i c d q u
   starting_back q u a =
-      record {
-        outer = a.outer;
-        first = a.first;
-        place = a.place;
-        counter = a.counter;
-        direct = a.direct;
-        counts = a.counts;
-        there = a.there;
-        tests = a.tests;
-        open_in_chart = a.open_in_chart;
-        over_in_chart = a.over_in_chart;
-        alone = a.alone;
-        ends = a.ends;
-        counting =
-            back_keeps (i.thread_of q) _
-            (λ e. let wrong : at.Within s o.tests ≡ at.Ended = sym in_chart ∙ (ap (standing_of c) (sym (rows.region_once q r e)) ∙ a.over_in_chart) in
-            absurd cc) a.counting (λ e. absurd cc);
-      }
+      starting_kept k core i c z d q u a
+      (back_keeps (i.thread_of q) _
+      (λ e. let wrong : at.Within s o.tests ≡ at.Ended = sym in_chart ∙ (ap (standing_of c) (sym (rows.region_once q r e)) ∙ a.over_in_chart) in
+      absurd cc) a.counting (λ e. absurd cc))
 
   busy_back : (q u : ℕ) → IsBusy k core i c z q u → IsBusy k core i c d q u
   busy_back q u (starts a) = starts (starting_back q u a)

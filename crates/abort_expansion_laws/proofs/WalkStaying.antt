@@ -1,10 +1,11 @@
 -- A superstate that stays as it is, over what is inside it.
 use Rattle.std.proofs.Common.{◌≡◌, ◌≢◌, ℕ, suc, ◌+◌, ◌<◌, inl, inr, Bool, true, false}
-use Rattle.std.proofs.Common.{not, ◌||◌, ◌&&◌, Some, List, [], ◌∷◌, ◌++◌, map, length, refl}
+use Rattle.std.proofs.Common.{◌||◌, ◌&&◌, Some, List, [], ◌∷◌, ◌++◌, map, length, refl}
 use Rattle.std.proofs.Common.{sym, ap, subst, ◌∙◌, arith}
 use Rattle.std.specs.Prelude.{reverse, filter}
 use Rattle.std.specs.List.{list_any}
 use Rattle.std.proofs.lemmas.List.{map-append, reverse-append}
+use Rattle.std.proofs.lemmas.Bool.{or_parts, not-true}
 use Rattle.sc_text.proofs.EachItem.{Each}
 use Rattle.core_charts.specs.declared.region.Region.{Region}
 use Rattle.core_charts.specs.declared.region.Transition.{Transition}
@@ -22,7 +23,7 @@ use Rattle.abort_expansion.specs.declared.pieces.Regions.{Regions}
 use Rattle.abort_expansion.specs.declared.pieces.NextNumbers.{NextNumbers}
 use Rattle.abort_expansion.specs.Flags.{has_join, counts, one}
 use Rattle.core_charts.specs.Aborts.{has_strong, has_weak, has_aborts}
-use Rattle.abort_expansion.specs.Flags.{given, flag_count, flags_of, weak_around, aborts_around, is_there}
+use Rattle.abort_expansion.specs.Flags.{given, flag_count, flags_of, weak_around, aborts_around}
 use Rattle.abort_expansion.specs.Transitions.{led}
 use Rattle.abort_expansion.specs.Pieces.{expanded_regions, variables_in}
 use Rattle.abort_expansion.specs.Superstates.{stays, within, as_it_is}
@@ -32,7 +33,7 @@ use Rattle.chart_machine_laws.proofs.RowsOfSubtrees.{Holds, IsSized, state_sized
 use Rattle.abort_expansion_laws.specs.CoreRows.{own, IsState, is_final, ends, IsSuper, fork_row}
 use Rattle.abort_expansion_laws.proofs.SimpleRows.{rolled, rolled_piece}
 use Rattle.abort_expansion_laws.proofs.InRegionRows.{InRegionAt, first_holds, position_of}
-use Rattle.abort_expansion_laws.proofs.Walked.{World, StateImage, no_flags, ValuesAt, values_from, images_of, i, RegionFits}
+use Rattle.abort_expansion_laws.proofs.Walked.{World, StateImage, no_flags, values_from, images_of, i, RegionFits}
 use Rattle.abort_expansion_laws.proofs.Walked.{StateFits, CoreStateFits, for_super, thread}
 use Rattle.abort_expansion_laws.proofs.Walked.{behind_by, OwnerFits, Range, range_to, range_more, FlagsFit, IsFlag}
 use Rattle.abort_expansion_laws.proofs.Walks.{Part, Fits, StateStands, RegionsStand, StateWalk, RegionsWalk, RegionWalks, pieces_of}
@@ -43,23 +44,9 @@ use Rattle.abort_expansion_laws.proofs.RowsOfForks.{some_regions, super_row}
 use Rattle.abort_expansion_laws.proofs.FlagOwners.{weak_inside}
 use Rattle.abort_expansion_laws.proofs.AddedMonitors.{first_around, numbers_many}
 use Rattle.abort_expansion_laws.proofs.EnteredAlike.{AreEntered, unwatched, OpensAlike}
+use Rattle.abort_expansion_laws.proofs.WeakSeen.{none_around}
 
 -- ---- who stays has no aborts, and none are around it
-
-not_either : (a b : Bool) → not (a || b) ≡ true → (a ≡ false) × (b ≡ false)
-not_either true b e = absurd cc
-not_either false true e = absurd cc
-not_either false false e = (refl, refl)
-
-either : (a b : Bool) → (a || b) ≡ false → (a ≡ false) × (b ≡ false)
-either true b e = absurd cc
-either false b e = (refl, e)
-
-weak_too : (fs : List Flags) → aborts_around fs ≡ false → weak_around fs ≡ false
-weak_too [] e = refl
-weak_too (f ∷ fs) e =
-    let both = either (is_there f.strong || is_there f.weak) (aborts_around fs) e in
-    let two = either (is_there f.strong) (is_there f.weak) both.0 in rw (two.1) (weak_too fs both.1)
 
 none_given : (a b c : Bool) (x y z : ℕ) → a ≡ false → b ≡ false → c ≡ false →
     ◌≡◌ {A = Flags} (record { strong = given a x; weak = given b y; counter = given c z }) no_flags
@@ -72,9 +59,9 @@ pub record HasNone (flags : List Flags) (all : List Transition) : Type 0 where
 
 pub has_none : (flags : List Flags) (all : List Transition) → stays flags all ≡ true → HasNone flags all
 has_none flags all stay =
-    let both = not_either (has_aborts all) (aborts_around flags) stay in
-    let two = either (has_strong all) (has_weak all) both.0 in
-    record { strong = two.0; weak = two.1; counted = rw (two.0, two.1, weak_too flags both.1) (and_false (has_join all)) }
+    let both = or_parts (has_aborts all) (aborts_around flags) (not-true (has_aborts all || aborts_around flags) stay) in
+    let two = or_parts (has_strong all) (has_weak all) both.0 in
+    record { strong = two.0; weak = two.1; counted = rw (two.0, two.1, none_around flags both.1) (and_false (has_join all)) }
   where
     and_false : (b : Bool) → (b && false) ≡ false
     and_false true = refl
@@ -84,7 +71,7 @@ led_none : (P : Transition → Bool) (places : RegionPlaces) → ((t : Transitio
     filter P (map (led places) all) ≡ []
 led_none P places same [] e = refl
 led_none P places same (t ∷ all) e =
-    let both = either (P t) (list_any P all) e in rw (same t ∙ both.0) (led_none P places same all both.1)
+    let both = or_parts (P t) (list_any P all) e in rw (same t ∙ both.0) (led_none P places same all both.1)
 
 module _ (name : List ℕ) (initial : Bool) (r : Region) (others : List Region) (all : List Transition) (walks : Each RegionWalks (r ∷ others))
     (flags : List Flags) (places : RegionPlaces) (numbers : NextNumbers) (a b : TablePosition) (next place : ℕ) (begins : Bool) (stay : stays flags all ≡ true)

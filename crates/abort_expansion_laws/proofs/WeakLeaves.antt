@@ -1,6 +1,6 @@
 -- What is inside of a superstate whose weak abort is taken can leave: nobody there has work left, and each thread sees the raised flag, or is
 -- behind a fork whose termination has not its turn.
-use Rattle.std.proofs.Common.{◌≡◌, ◌≢◌, ℕ, ◌<◌, ◌≤◌, inl, inr, ⊎_elim, Bool, true, false, not, ◌||◌, pos, Option, Some, None, List, [], suc, ◌⊎◌}
+use Rattle.std.proofs.Common.{◌≡◌, ◌≢◌, ℕ, ◌<◌, ◌≤◌, inl, inr, Bool, true, false, not, ◌||◌, pos, Option, Some, None, List, [], suc, ◌⊎◌}
 use Rattle.std.proofs.Common.{◌∷◌, ◌++◌, length, slice_get, Contains, refl, sym, ap, subst, ◌∙◌, arith, if◌then◌else◌}
 use Rattle.std.proofs.lemmas.List.{append-nil, append_assoc}
 use Rattle.sc_values.specs.declared.value.Value.TheVariants as value_is
@@ -23,24 +23,25 @@ use Rattle.chart_machine_laws.proofs.LyingIn.{IsNested, around, holder}
 use Rattle.abort_expansion_laws.proofs.TablesCorrespond.{IsThere}
 use Rattle.abort_expansion_laws.proofs.MoreValues.{other_verdict}
 use Rattle.abort_expansion_laws.proofs.FlagAccess.{number_access}
-use Rattle.abort_expansion_laws.specs.CoreRows.{own, IsState, IsSuper, Images, CoreRows, flags_around, behind_transitions}
+use Rattle.abort_expansion_laws.specs.CoreRows.{own, IsState, Images, CoreRows, flags_around, behind_transitions}
 use Rattle.abort_expansion_laws.specs.Related.{front, held_back, Stands, outside, ended, left, trying, acting, entering, guarding, staying}
 use Rattle.abort_expansion_laws.specs.Related.{within, behind, IsInside, guarded, open_inside, not_ended, Stores, Related}
 use Rattle.abort_expansion_laws.proofs.Fronts.{front_free}
 use Rattle.abort_expansion_laws.proofs.KnownVariables.{present_there}
 use Rattle.abort_expansion_laws.proofs.StartingRegions.{CounterRows}
 use Rattle.abort_expansion_laws.proofs.OpensFork.{OpeningRows}
-use Rattle.chart_machine_laws.proofs.ChartTables.{no_regions_past, within_or_past}
 use Rattle.abort_expansion_laws.proofs.TickStarts.{StartRows}
 use Rattle.abort_expansion_laws.proofs.EnteringSimple.{weak_once}
 use Rattle.abort_expansion_laws.proofs.MayLeave.{leads_out, fails_before, out, over, tries}
 use Rattle.abort_expansion_laws.proofs.InsideLeaves.{AloneRows, fork_leaves, all_may_leave}
 use Rattle.abort_expansion_laws.proofs.SplitTests.{continuation_tests}
 use Rattle.abort_expansion_laws.proofs.InsideAround.{one_in_other}
-use Rattle.abort_expansion_laws.proofs.StageReached.{none_of, holds_other}
+use Rattle.abort_expansion_laws.proofs.StageReached.{holds_other}
 use Rattle.abort_expansion_laws.proofs.WeakSeen as seen
 use Rattle.abort_expansion_laws.proofs.MonitorsLeave as monitors
 use Rattle.abort_expansion_laws.proofs.WeakSeen.{any_none, some_still_in}
+use Rattle.abort_expansion_laws.proofs.Unchanged.{none_among}
+use Rattle.abort_expansion_laws.proofs.NumberedRegions.{super_is_state}
 
 module _ (k core : Table) (i : Images) (rows : CoreRows k core i) (lone : AloneRows k core i) (tree : IsNested k)
     (deep : (q s : ℕ) → Contains (around core q) s → holder core s < q) (alone : (v : ℕ) → (state_at core v).regions ≡ [] → inside core v ≡ [])
@@ -131,7 +132,8 @@ module _ (k core : Table) (i : Images) (rows : CoreRows k core i) (lone : AloneR
           by_place (inr (inl deeper)) = let wrong : true ≡ false = sym (ap (has_work k c) is) ∙ idle (holder k s) holder_is deeper in absurd cc
           by_place (inr (inr outer)) =
               let wrong : true ≡ false =
-              sym (ap guards is) ∙ none_of (λ v. guards (standing_of c (holder k v))) (around k r) s free (subst (λ p. Contains (around k p) s) held outer) in
+              sym (ap guards is)
+              ∙ none_among (λ v. guards (standing_of c (holder k v))) (around k r) s free (subst (λ p. Contains (around k p) s) held outer) in
               absurd cc
 
   -- ---- the continuation of a superstate inside
@@ -263,9 +265,6 @@ module _ (k core : Table) (i : Images) (rows : CoreRows k core i) (lone : AloneR
       let all : front k core i b c q ++ held_back k core i q ≡ held_back k core i q = ap (λ zs. zs ++ held_back k core i q) none in
       subst (λ zs. Leaves (i.thread_of q) (at.Trying u zs)) (sym all) (tries u (held_back k core i q) alone (held_leaves q there in_o))
 
-  super_state : (s : ℕ) → IsSuper k s → IsState k s
-  super_state s super = ⊎_elim (λ lt. lt) (λ past. absurd (super (no_regions_past k s past))) (within_or_past s (length k.states))
-
   by_stands : (q : ℕ) → IsThere k q → Contains (around k q) o → (w y : Standing) → Stands k core i c q w y → standing_of c q ≡ w → Leaves (i.thread_of q) y
   by_stands q there in_o _ _ outside is = out
   by_stands q there in_o _ _ (ended inner) is = over
@@ -281,7 +280,7 @@ module _ (k core : Table) (i : Images) (rows : CoreRows k core i) (lone : AloneR
   by_stands q there in_o _ _ (within s join tests super its stays_not open_still leads) is =
       fork_leaves k core i rows lone tree core_children children o has c d related corr (i.thread_of r) 3 first same o_there q s join in_o
       (subst (IsInside k core i s) (sym is) (open_inside tests)) super its
-      stays_not open_still leads (continuation_leaves q s there in_o (super_state s super) its tests is)
+      stays_not open_still leads (continuation_leaves q s there in_o (super_is_state k s super) its tests is)
   by_stands q there in_o _ _ (behind s tests super its over_it) is =
       only_held q (i.behind_of s) true there in_o (λ e. let wrong : at.Within s tests ≡ at.Outside = sym is ∙ e in absurd cc) (lone.behind_alone s)
 

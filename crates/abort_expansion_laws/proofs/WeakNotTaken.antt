@@ -4,10 +4,9 @@ use Rattle.std.proofs.Common.{◌&&◌, ◌||◌, refl, sym, ap, subst, ◌∙�
 use Rattle.std.specs.Prelude.{filter}
 use Rattle.std.specs.List.{list_all, list_any}
 use Rattle.std.proofs.lemmas.Option.{same_Some}
+use Rattle.std.proofs.lemmas.Bool.{and_parts, not-true}
 use Rattle.sc_values.specs.Runs.{act_of}
 use Rattle.core_charts.specs.declared.region.Transition.{Transition}
-use Rattle.core_charts.specs.declared.region.TransitionKind.{TransitionKind}
-use Rattle.core_charts.specs.declared.region.TransitionKind.TheVariants as kind
 use Rattle.core_charts.specs.Tests.{terminations, weak_aborts, is_weak, is_join}
 use Rattle.core_charts.specs.Aborts.{has_aborts}
 use Rattle.chart_machine.specs.declared.standing.Standing.{Standing}
@@ -20,7 +19,7 @@ use Rattle.chart_machine.specs.Machine.{machine}
 use Rattle.abort_expansion.specs.Flags.{aborts_around}
 use Rattle.abort_expansion.specs.Superstates.{stays}
 use Rattle.abort_expansion_laws.specs.Stages.{Entry, Watched}
-use Rattle.abort_expansion_laws.proofs.Simulation.{Segment}
+use Rattle.abort_expansion_laws.proofs.Segments.{Segment}
 use Rattle.chart_machine_laws.proofs.LyingIn.{IsNested, around, holder, head_in, tail_in}
 use Rattle.abort_expansion_laws.proofs.TablesCorrespond.{IsThere}
 use Rattle.abort_expansion_laws.proofs.MoreValues.{verdict_over_more}
@@ -36,8 +35,9 @@ use Rattle.tick_laws.proofs.Lists.{same_or_not}
 use Rattle.abort_expansion_laws.proofs.StrongNotTaken.{trigger_plain}
 use Rattle.abort_expansion_laws.proofs.ImageSteps.{pair}
 use Rattle.abort_expansion_laws.proofs.MonitorSteps.{WatchedStep, watched_segment}
-use Rattle.abort_expansion_laws.proofs.KnownVariables.{Stepped, stepped, both_true, not_so, present_there, trigger_known}
+use Rattle.abort_expansion_laws.proofs.KnownVariables.{Stepped, stepped, present_there, trigger_known}
 use Rattle.abort_expansion_laws.proofs.TestFails.{tested_is, fails, watch_other}
+use Rattle.abort_expansion_laws.proofs.LaterTicks.{weak_no_join}
 
 -- where a region stands in a superstate with aborts, taken apart
 pub record IsWithin (k core : Table) (i : Images) (c : Configuration) (r o : ℕ) (y : Standing) : Type 0 where
@@ -134,8 +134,8 @@ no_work : (w w' : ℕ → Bool) (xs : List ℕ) → ((q : ℕ) → Contains xs q
     (list_any w xs ≡ false) × (list_any w' xs ≡ false)
 no_work w w' [] alike e = (refl, refl)
 no_work w w' (q ∷ xs) alike e =
-    let both = both_true (not (w q)) (list_all (λ p. not (w p)) xs) e in
-    let idle : w q ≡ false = not_so (w q) both.0 in
+    let both = and_parts (not (w q)) (list_all (λ p. not (w p)) xs) e in
+    let idle : w q ≡ false = not-true (w q) both.0 in
     let rest = no_work w w' xs (λ p tail. alike p (tail_in q p xs tail)) both.1 in (rw (idle, rest.0) refl, rw (alike q (head_in q xs), idle, rest.1) refl)
 
 two_or_three : (a b : Bool) → a ≡ true → 2 ≤ (if a then (if b then 2 else 3) else 1)
@@ -164,12 +164,6 @@ closes_on k core i o t tests none closes = by_some closes.some closes.no_join cl
     by_some : (some : List Transition) → Each (λ z. is_join z.kind ≡ false) some → t ∷ tests ≡ some ++ terminations (own k o) → Closes k core i o tests
     by_some [] weak e = let wrong : true ≡ false = sym (filter_first (λ z. is_join z.kind) (own k o) t tests (sym e)) ∙ none in absurd cc
     by_some (u ∷ some) weak e = let rest : tests ≡ some ++ terminations (own k o) = cc in record { some = some; no_join = weak.1; are = rest }
-
-weak_no_join : (kd : TransitionKind) → is_weak kd ≡ true → is_join kd ≡ false
-weak_no_join kind.Go e = refl
-weak_no_join kind.Strong e = refl
-weak_no_join kind.Weak e = refl
-weak_no_join kind.Join e = absurd cc
 
 module _ (k core : Table) (i : Images) (rows : CoreRows k core i) (tree : IsNested k) (counts : ℕ → Bool) (written_at : ℕ → ℕ)
     (c d : Configuration) (related : Related k core i c d) (r o : ℕ) (o_there : IsState k o) (has : has_aborts (own k o) ≡ true) (t : Transition)

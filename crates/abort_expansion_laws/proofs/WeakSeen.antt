@@ -3,12 +3,12 @@ use Rattle.std.proofs.Common.{◌≡◌, ◌≢◌, ℕ, ◌+◌, ◌<◌, ◌�
 use Rattle.std.proofs.Common.{◌∷◌, ◌++◌, length, slice_get, Contains, refl, sym, ap, subst, ◌∙◌, arith, if◌then◌else◌}
 use Rattle.std.specs.Prelude.{reverse, flat_map}
 use Rattle.std.specs.List.{list_all, list_any}
-use Rattle.std.proofs.lemmas.Bool.{or_parts}
+use Rattle.std.proofs.lemmas.Bool.{or_parts, true_from_ne_false}
 use Rattle.std.proofs.lemmas.List.{append_assoc}
 use Rattle.std.proofs.lemmas.List.Folds.{flat_map-map}
 use Rattle.core_charts.specs.declared.region.Transition.{Transition}
 use Rattle.core_charts.specs.Tests.{terminations, is_join}
-use Rattle.core_charts.specs.Aborts.{has_strong, has_weak, has_aborts}
+use Rattle.core_charts.specs.Aborts.{has_strong, has_aborts}
 use Rattle.chart_machine.specs.declared.standing.Standing.{Standing}
 use Rattle.chart_machine.specs.declared.standing.Standing.TheVariants as at
 use Rattle.chart_machine.specs.declared.standing.Configuration.{Configuration}
@@ -19,7 +19,6 @@ use Rattle.chart_machine.specs.Steps.{to, state_in, verdict, access_of_trigger}
 use Rattle.abort_expansion.specs.declared.flags.Flags.{Flags}
 use Rattle.abort_expansion.specs.Flags.{aborts_around, weak_around, is_there}
 use Rattle.abort_expansion.specs.Transitions.{is_raised, go, check, strong_checks, weak_checks}
-use Rattle.tick_laws.proofs.Lists.{map_contains}
 use Rattle.abort_expansion_laws.specs.Stages.{Correspondence, IsSilent}
 use Rattle.abort_expansion_laws.proofs.Supplying.{silent_test, tests}
 use Rattle.chart_machine_laws.proofs.LyingIn.{IsNested, around, holder, none_in, head_or_tail, head_in, tail_in, around_around}
@@ -42,18 +41,15 @@ use Rattle.abort_expansion_laws.proofs.InsideAround.{one_in_other}
 use Rattle.abort_expansion_laws.proofs.StandsInside.{inside_present}
 use Rattle.abort_expansion_laws.proofs.Fronts.{reversed}
 use Rattle.abort_expansion_laws.proofs.StageReached.{holds_other}
+use Rattle.abort_expansion_laws.proofs.ThreadsAround.{thread_within}
 
 -- ---- weak flags around
 
-none_around : (fs : List Flags) → aborts_around fs ≡ false → weak_around fs ≡ false
+pub none_around : (fs : List Flags) → aborts_around fs ≡ false → weak_around fs ≡ false
 none_around [] e = refl
 none_around (f ∷ fs) e =
     let both = or_parts (is_there f.strong || is_there f.weak) (aborts_around fs) e in
     let two = or_parts (is_there f.strong) (is_there f.weak) both.0 in rw (two.1, none_around fs both.1) refl
-
-not_false : (b : Bool) → (b ≡ false → ⊥) → b ≡ true
-not_false true never = refl
-not_false false never = absurd (never refl)
 
 pub any_none : (p : ℕ → Bool) (xs : List ℕ) → ((y : ℕ) → Contains xs y → p y ≡ true → ⊥) → list_any p xs ≡ false
 any_none p [] none = refl
@@ -109,9 +105,6 @@ module _ (k core : Table) (i : Images) (rows : CoreRows k core i) (lone : AloneR
   abbrev pub corr : Correspondence
   corr = pair k core i rows tree counts written_at
 
-  pub has_some_weak : has_weak (own k o) ≡ true
-  has_some_weak = start_rows.weak_for o x flag
-
   pub has : has_aborts (own k o) ≡ true
   has = rw (start_rows.weak_for o x flag) (either (has_strong (own k o)))
     where
@@ -151,14 +144,14 @@ module _ (k core : Table) (i : Images) (rows : CoreRows k core i) (lone : AloneR
 
   pub aborts_here : (q : ℕ) → Contains (around k q) o → aborts_around (flags_around k core i q) ≡ true
   aborts_here q in_o =
-      not_false (aborts_around (flags_around k core i q))
+      true_from_ne_false (aborts_around (flags_around k core i q))
       (λ e. let wrong : true ≡ false = sym (weak_here q in_o) ∙ none_around (flags_around k core i q) e in absurd cc)
 
   home_is : (y : ℕ) → rows.of_flag y ≡ o → corr.home y ≡ i.thread_of r
   home_is y owner = ap (λ s. holder core (i.main_of s)) owner ∙ (rows.held o ∙ ap i.thread_of held)
 
   pub in_fork : (q s : ℕ) → Contains (around k q) s → Contains (around core (i.thread_of q)) (i.main_of s)
-  in_fork q s inner = subst (λ zs. Contains zs (i.main_of s)) (sym (rows.encloses q)) (map_contains i.main_of (around k q) s inner)
+  in_fork q s inner = thread_within k core i rows q s inner
 
   -- a flag of o may be looked at from inside
   pub looks_from : (t y : ℕ) → Contains (around core t) (i.main_of o) → length k.variables ≤ y → rows.of_flag y ≡ o → counts y ≡ false →
@@ -282,9 +275,6 @@ module _ (k core : Table) (i : Images) (rows : CoreRows k core i) (lone : AloneR
       (ends_there q there in_o) q in_o
 
   -- ---- strong checks fail
-
-  inside_o : IsInside k core i o (standing_of c (holder k o))
-  inside_o = subst (λ q. IsInside k core i o (standing_of c q)) (sym held) (subst (IsInside k core i o) (sym stands) (open_inside open_tests))
 
   not_strong : (y : ℕ) → (i.flags_of o).strong ≡ Some y → y ≢ x
   not_strong y strong e =

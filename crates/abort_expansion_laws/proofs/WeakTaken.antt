@@ -3,6 +3,7 @@ use Rattle.std.proofs.Common.{◌≡◌, ◌≢◌, ℕ, ◌<◌, inl, inr, Bool
 use Rattle.std.proofs.Common.{slice_get, Contains, ⊎_elim, refl, sym, ap, subst, ◌∙◌, arith}
 use Rattle.std.proofs.lemmas.List.{append_assoc}
 use Rattle.std.specs.List.{list_all, list_any}
+use Rattle.std.proofs.lemmas.Bool.{and_parts, not-true}
 use Rattle.sc_values.specs.declared.value.Value.{Value}
 use Rattle.sc_values.specs.declared.value.Value.TheVariants as value_is
 use Rattle.sc_values.specs.Access.{Access}
@@ -22,7 +23,7 @@ use Rattle.abort_expansion.specs.Transitions.{answers, strong_checks}
 use Rattle.abort_expansion.specs.Superstates.{closing}
 use Rattle.abort_expansion_laws.specs.Stages.{Entry, Watched, Silent, Correspondence}
 use Rattle.abort_expansion_laws.proofs.Supplying.{silent_test}
-use Rattle.abort_expansion_laws.proofs.Simulation.{Segment}
+use Rattle.abort_expansion_laws.proofs.Segments.{Segment}
 use Rattle.chart_machine_laws.proofs.LyingIn.{IsNested, around, holder, head_or_tail}
 use Rattle.abort_expansion_laws.proofs.TablesCorrespond.{IsThere}
 use Rattle.abort_expansion_laws.specs.CoreRows.{own, IsState, Images, CoreRows, flags_around, behind_transitions, pair}
@@ -30,8 +31,7 @@ use Rattle.abort_expansion_laws.specs.Related.{monitor_last}
 use Rattle.abort_expansion_laws.specs.Related.{raises, raise_each, IsInside, open_inside, Stores, Related}
 use Rattle.abort_expansion_laws.specs.StageReached.{some_work}
 use Rattle.abort_expansion_laws.proofs.StageReached.{Stage, stage_of, inside_in, holds_other}
-use Rattle.tick_laws.proofs.Lists.{map_contains}
-use Rattle.abort_expansion_laws.proofs.KnownVariables.{both_true, not_so, present_there}
+use Rattle.abort_expansion_laws.proofs.KnownVariables.{present_there}
 use Rattle.abort_expansion_laws.proofs.StartingRegions.{CounterRows}
 use Rattle.abort_expansion_laws.proofs.Resets.{Apart}
 use Rattle.abort_expansion_laws.proofs.OpensFork.{OpeningRows}
@@ -47,19 +47,20 @@ use Rattle.abort_expansion_laws.proofs.SuperstateLeft.{chart_takes}
 use Rattle.abort_expansion_laws.proofs.AbortFollowed.{with_effects, without_effects}
 use Rattle.abort_expansion_laws.proofs.EffectAhead.{BeginsAt}
 use Rattle.abort_expansion_laws.proofs.Owed.{Enters}
+use Rattle.abort_expansion_laws.proofs.ThreadsAround.{thread_within}
 
 -- none of these has the property
 none_has : (p : ℕ → Bool) (xs : List ℕ) → list_all (λ q. not (p q)) xs ≡ true → (y : ℕ) → Contains xs y → p y ≡ false
 none_has p [] e y h = absurd (let lt = h.1 in omega (lt, arith))
 none_has p (x ∷ xs) e y h =
-    let both = both_true (not (p x)) (list_all (λ q. not (p q)) xs) e in
-    ⊎_elim (λ same. ap p (sym same) ∙ not_so (p x) both.0) (λ tail. none_has p xs both.1 y tail) (head_or_tail x y xs h)
+    let both = and_parts (not (p x)) (list_all (λ q. not (p q)) xs) e in
+    ⊎_elim (λ same. ap p (sym same) ∙ not-true (p x) both.0) (λ tail. none_has p xs both.1 y tail) (head_or_tail x y xs h)
 
 none_any : (p : ℕ → Bool) (xs : List ℕ) → list_all (λ q. not (p q)) xs ≡ true → list_any p xs ≡ false
 none_any p [] e = refl
 none_any p (x ∷ xs) e =
-    let both = both_true (not (p x)) (list_all (λ q. not (p q)) xs) e in
-    let own_none : p x ≡ false = not_so (p x) both.0 in rw (own_none, none_any p xs both.1) refl
+    let both = and_parts (not (p x)) (list_all (λ q. not (p q)) xs) e in
+    let own_none : p x ≡ false = not-true (p x) both.0 in rw (own_none, none_any p xs both.1) refl
 
 module _ (k core : Table) (i : Images) (rows : CoreRows k core i) (more : AloneRows k core i) (tree : IsNested k) (core_tree : IsNested core)
     (deep : (q s : ℕ) → Contains (around core q) s → holder core s < q)
@@ -87,9 +88,6 @@ module _ (k core : Table) (i : Images) (rows : CoreRows k core i) (more : AloneR
 
   pub flag : (x : ℕ) × ((i.flags_of o).weak ≡ Some x)
   flag = rows.weak_there o monitor.number t o_there monitor.first
-
-  abbrev behind_it : List Transition
-  behind_it = map (raises (λ z. z.immediate) flag.0) monitor.others ++ monitor_last k core i o
 
   core_stands : standing_of d (i.watcher_of o) ≡ at.Trying (i.watching_of o) (raises (λ z. z.immediate) flag.0 (monitor.number, t) ∷
       (map (raises (λ z. z.immediate) flag.0) monitor.others ++ monitor_last k core i o))
@@ -147,7 +145,7 @@ module _ (k core : Table) (i : Images) (rows : CoreRows k core i) (more : AloneR
           inr (
             counters.strong_not s y strong,
             subst (λ v. Contains (around core (i.thread_of r)) (i.main_of v)) (sym owner)
-                (subst (λ zs. Contains zs (i.main_of s)) (sym (rows.encloses r)) (map_contains i.main_of (around k r) s around_it)),
+                (thread_within k core i rows r s around_it),
           ),
           (1, refl, (let zero_is = strong_at s y strong in omega (zero_is, arith))),
         );

@@ -1,5 +1,6 @@
 -- When a weak test is next in the chart, it comes to be so at the monitor: if that has yet to look at the strong flags around, it looks.
 use Rattle.std.proofs.Common.{◌≡◌, ℕ, true, false, Some, List, [], ◌∷◌, Contains, sym, ap, subst, ◌∙◌}
+use Rattle.std.proofs.lemmas.Bool.{or_right}
 use Rattle.sc_values.specs.Runs.{act_of}
 use Rattle.core_charts.specs.declared.features.Features.TheVariants as features
 use Rattle.core_charts.specs.declared.region.Transition.{Transition}
@@ -26,11 +27,10 @@ use Rattle.abort_expansion_laws.proofs.HasLooked.{looked_weak}
 use Rattle.abort_expansion_laws.proofs.LooksBefore.{looked_first}
 use Rattle.abort_expansion_laws.proofs.MoreRows.{opening_rows}
 use Rattle.abort_expansion_laws.proofs.OwnTests.{OwnTests}
-use Rattle.abort_expansion_laws.proofs.PreemptionKept.{ToldHere}
 use Rattle.abort_expansion_laws.proofs.QuietBegins.{state_with_aborts}
 use Rattle.abort_expansion_laws.proofs.RowsOfCharts as whole
-use Rattle.abort_expansion_laws.proofs.TickFollowed as ticks
-use Rattle.abort_expansion_laws.proofs.ToldSteps.{told_silent}
+use Rattle.abort_expansion_laws.proofs.TicksOfCharts as ticks
+use Rattle.abort_expansion_laws.proofs.ToldSteps.{told_silent, ToldHere}
 use Rattle.abort_expansion_laws.proofs.WeakNotTaken.{within_back, MonitorWaits}
 use Rattle.abort_expansion_laws.proofs.CasesFollowed as cases
 use Rattle.abort_expansion_laws.proofs.FlagStages.{FlagStages}
@@ -63,7 +63,7 @@ module _ (c : Chart) (rules : IsChart features.Extended c) (core_rules : IsChart
 
       has : has_aborts (own k o) ≡ true
       has =
-          cases.other_true (has_strong (own k o)) (has_weak (own k o)) has_some_weak
+          or_right (has_strong (own k o)) (has_weak (own k o)) has_some_weak
 
       here : IsState k o
       here = state_with_aborts k o has

@@ -11,7 +11,7 @@ use Rattle.chart_machine.specs.Machine.{machine, start}
 use Rattle.abort_expansion.specs.Expansion.{expanded}
 use Rattle.chart_lowering_laws.specs.Laws.{IsLowering}
 use Rattle.abort_expansion_laws.specs.Preemption.{HasImage}
-use Rattle.abort_expansion_laws.proofs.TickFollowed as ticks
+use Rattle.abort_expansion_laws.proofs.TicksOfCharts as ticks
 use Rattle.preemption_laws.proofs.CoreGround.{core_ground}
 use Rattle.preemption_laws.proofs.CoreTries.{held}
 use Rattle.preemption_laws.proofs.Erased.{Erased, erased}

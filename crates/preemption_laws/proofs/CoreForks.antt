@@ -1,8 +1,9 @@
 -- The superstates of a core chart: each is the fork of a superstate of the chart, with the threads of its regions and a monitor if it has aborts; and in
 -- which states these begin.
-use Rattle.std.proofs.Common.{◌≡◌, ℕ, ◌⊎◌, inl, inr, ⊎_elim, Bool, true, false, not, ◌||◌, List, [], ◌∷◌, ◌++◌, map, length}
+use Rattle.std.proofs.Common.{◌≡◌, ℕ, ◌⊎◌, inl, inr, ⊎_elim, Bool, true, false, List, [], ◌∷◌, ◌++◌, map, length}
 use Rattle.std.proofs.Common.{if◌then◌else◌, Contains, refl, sym, ap, ap₂, subst, subst₂, ◌∙◌}
-use Rattle.std.proofs.lemmas.List.{append_assoc, append-nil, map-append}
+use Rattle.std.proofs.lemmas.List.{append-nil, map-append}
+use Rattle.std.proofs.lemmas.Bool.{or_parts, not-true}
 use Rattle.core_charts.specs.declared.features.Features.TheVariants as features
 use Rattle.core_charts.specs.Aborts.{has_aborts}
 use Rattle.core_charts.specs.Chart.{Chart}
@@ -12,32 +13,18 @@ use Rattle.chart_machine.specs.Table.{table, state_at}
 use Rattle.abort_expansion.specs.Expansion.{expanded}
 use Rattle.abort_expansion.specs.Superstates.{stays}
 use Rattle.chart_machine_laws.specs.Tree.{IsThere, around, holder}
-use Rattle.chart_machine_laws.proofs.LyingIn.{none_in, head_in, tail_in, head_or_tail}
+use Rattle.chart_machine_laws.proofs.LyingIn.{none_in, head_in, head_or_tail}
 use Rattle.chart_machine_laws.proofs.ChartTables.{around_there, no_regions_past, within_or_past}
-use Rattle.tick_laws.proofs.Lists.{contains_map}
+use Rattle.tick_laws.proofs.Lists.{contains_map, map_contains}
 use Rattle.abort_expansion_laws.specs.CoreRows.{own, IsState, IsSuper, Images, flags_around, watchers}
 use Rattle.abort_expansion_laws.proofs.ChartsOpened.{entry_rows}
 use Rattle.abort_expansion_laws.proofs.EnteredAlike.{OpensAlike, watcher_enters}
 use Rattle.abort_expansion_laws.proofs.FreshInside.{all_entered}
-use Rattle.abort_expansion_laws.proofs.InitialPairs.{Initials, initials, held_there, in_map, once_mapped}
+use Rattle.abort_expansion_laws.proofs.InitialPairs.{Initials, initials, held_there, once_mapped, entered_append, once_last}
 use Rattle.abort_expansion_laws.proofs.JustEntered.{EntryRows}
 use Rattle.abort_expansion_laws.proofs.RowsOfCharts as whole
 use Rattle.abort_expansion_laws.proofs.StartingRegions.{Once}
 use Rattle.reaction_laws.proofs.EnclosedStill.{Firsts}
-
-all_entered_both : (k : Table) (xs ys : List ℕ) → all_entered k (xs ++ ys) ≡ all_entered k xs ++ all_entered k ys
-all_entered_both k [] ys = refl
-all_entered_both k (x ∷ xs) ys =
-    ap (λ zs. (state_at k x).entered ++ zs) (all_entered_both k xs ys) ∙ sym (append_assoc (state_at k x).entered (all_entered k xs) (all_entered k ys))
-
--- who stands last, and nowhere before, stands there once
-last_once : (w : ℕ) (rs : List ℕ) → ¬ Contains rs w → Once w (rs ++ w ∷ [])
-last_once w [] out = inl (refl, λ h. none_in w h)
-last_once w (r ∷ rs) out = inr ((λ e. out (subst (Contains (r ∷ rs)) e (head_in r rs))), last_once w rs (λ h. out (tail_in r w rs h)))
-
-first_none : (a b : Bool) → not (a || b) ≡ true → a ≡ false
-first_none true b e = absurd cc
-first_none false b e = refl
 
 module _ (c : Chart) (rules : IsChart features.Extended c) (core_rules : IsChart features.Core (expanded c)) where
   abbrev k : Table
@@ -117,7 +104,7 @@ module _ (c : Chart) (rules : IsChart features.Extended c) (core_rules : IsChart
           (state_at core (i.main_of s)).regions ≡ map i.thread_of (state_at k s).regions ++ watchers k core i s
       by false e = ap (λ z. z.regions) (rows.rows.split s here super e).row
       by true e =
-          let none : has_aborts (own k s) ≡ false = first_none (has_aborts (own k s)) _ e in
+          let none : has_aborts (own k s) ≡ false = (or_parts (has_aborts (own k s)) _ (not-true _ e)).0 in
           ap (λ z. z.regions) (rows.rows.staying s here super e).row
           ∙ (sym (append-nil (map i.thread_of (state_at k s).regions))
           ∙ ap (λ b. map i.thread_of (state_at k s).regions ++ (if b then i.watcher_of s ∷ [] else [])) (sym none))
@@ -147,7 +134,7 @@ module _ (c : Chart) (rules : IsChart features.Extended c) (core_rules : IsChart
         opens =
             alike.fork
             ∙ (ap₂ (λ ms ns. ms ++ ns) init.in_core monitor.0
-            ∙ sym (all_entered_both core init.core_firsts (watching s (has_aborts (own k s)))));
+            ∙ sym (entered_append core init.core_firsts (watching s (has_aborts (own k s)))));
         holders = holders;
         states = states;
       }
@@ -169,7 +156,7 @@ module _ (c : Chart) (rules : IsChart features.Extended c) (core_rules : IsChart
       states : (x : ℕ) → Contains (init.core_firsts ++ watching s (has_aborts (own k s))) x → IsState core x
       states x h =
           let child : Contains (state_at core (i.main_of s)).regions (holder core x) =
-          subst (λ zs. Contains zs (holder core x)) holders (in_map (holder core) (init.core_firsts ++ watching s (has_aborts (own k s))) x h) in
+          subst (λ zs. Contains zs (holder core x)) holders (map_contains (holder core) (init.core_firsts ++ watching s (has_aborts (own k s))) x h) in
           held_there core x (holder core x) refl (region_there (i.main_of s) (holder core x) child)
 
   -- each region of it is among them once
@@ -216,7 +203,7 @@ module _ (c : Chart) (rules : IsChart features.Extended c) (core_rules : IsChart
           let all : (state_at core (i.main_of s)).regions ≡ map i.thread_of (state_at k s).regions ++ i.watcher_of s ∷ [] =
           regions_are s here super ∙ ap (λ b. map i.thread_of (state_at k s).regions ++ (if b then i.watcher_of s ∷ [] else [])) has in
           subst₂ Once (sym at_r) (sym all)
-          (last_once (i.watcher_of s) (map i.thread_of (state_at k s).regions)
+          (once_last (i.watcher_of s) (map i.thread_of (state_at k s).regions)
           (λ inner.
           let one_more = contains_map i.thread_of (state_at k s).regions (i.watcher_of s) inner in
           (rows.rows.watcher s here has).no_thread one_more.0 one_more.2))

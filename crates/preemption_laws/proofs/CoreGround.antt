@@ -14,11 +14,11 @@ use Rattle.abort_expansion.specs.Expansion.{expanded}
 use Rattle.chart_machine_laws.specs.Tree.{IsThere, around, holder}
 use Rattle.chart_machine_laws.proofs.LyingIn.{none_in}
 use Rattle.chart_machine_laws.proofs.ChartTables.{around_there, within_or_past}
-use Rattle.tick_laws.proofs.Lists.{contains_get, contains_map, slice_get_there}
+use Rattle.tick_laws.proofs.Lists.{contains_get, contains_map, slice_get_there, map_contains}
 use Rattle.abort_expansion_laws.specs.CoreRows.{own, IsState, Images}
 use Rattle.abort_expansion_laws.proofs.ChartsOpened.{entry_rows}
 use Rattle.abort_expansion_laws.proofs.FlagNumbers.{numbers_once}
-use Rattle.abort_expansion_laws.proofs.InitialPairs.{Initials, initials, held_there, in_map, once_mapped}
+use Rattle.abort_expansion_laws.proofs.InitialPairs.{Initials, initials, held_there, once_mapped}
 use Rattle.abort_expansion_laws.proofs.JustEntered.{EntryRows}
 use Rattle.abort_expansion_laws.proofs.OpenedInside.{Leads, charts_lead}
 use Rattle.abort_expansion_laws.proofs.RowsOfCharts as whole
@@ -114,7 +114,7 @@ module _ (c : Chart) (rules : IsChart features.Extended c) (core_rules : IsChart
   top_of : (x : ℕ) → Contains init.core_firsts x → (r : ℕ) × Contains (tops c rules) r × (i.thread_of r ≡ holder core x)
   top_of x h =
       contains_map i.thread_of (tops c rules) (holder core x)
-      (subst (λ zs. Contains zs (holder core x)) init.threads (in_map (holder core) init.core_firsts x h))
+      (subst (λ zs. Contains zs (holder core x)) init.threads (map_contains (holder core) init.core_firsts x h))
 
   pub core_tops : Tops core
   core_tops =

@@ -1,11 +1,10 @@
 -- What is known of the looks of a core chart: they stand last among the transitions of their states, and nobody else reads the weak flags that they look at
 -- but the thread of the region that holds their superstate.
-use Rattle.std.proofs.Common.{◌≡◌, ◌≢◌, ℕ, zero, suc, ◌+◌, ◌<◌, ◌≤◌, inl, inr, ⊎_elim, Bool, true, false, not, ◌||◌, ◌&&◌, nat_eq, eqb-true}
-use Rattle.std.proofs.Common.{if◌then◌else◌, Option, List, [], ◌∷◌, ◌++◌, length, Contains, refl, sym, ap, subst, ◌∙◌, arith, unwrap_or}
+use Rattle.std.proofs.Common.{◌≡◌, ◌≢◌, ℕ, zero, suc, ◌+◌, ◌<◌, inl, inr, ⊎_elim, Bool, true, false, not, ◌||◌, ◌&&◌, nat_eq, eqb-true}
+use Rattle.std.proofs.Common.{if◌then◌else◌, List, [], ◌∷◌, ◌++◌, length, Contains, refl, sym, ap, subst, ◌∙◌, arith}
 use Rattle.std.specs.Prelude.{reverse}
-use Rattle.std.proofs.lemmas.Bool.{or_parts, cases_lt}
+use Rattle.std.proofs.lemmas.Bool.{or_parts, cases_lt, and_parts, not-true}
 use Rattle.std.proofs.lemmas.List.{append-nil}
-use Rattle.std.proofs.lemmas.Option.{slice_get_past}
 use Rattle.sc_text.proofs.EachItem.{Each, each_append, each_at, each_more}
 use Rattle.sc_values.specs.Access.{Reads}
 use Rattle.sc_values.specs.Assignment.{assignment_of, access_of_assignment}
@@ -20,11 +19,11 @@ use Rattle.chart_machine.specs.declared.standing.Standing.TheVariants as at
 use Rattle.chart_machine.specs.declared.table.StateRow.{StateRow}
 use Rattle.chart_machine.specs.declared.table.Table.{Table}
 use Rattle.chart_machine.specs.Table.{table, state_at}
-use Rattle.chart_machine.specs.Steps.{to, state_in, access_of_trigger}
+use Rattle.chart_machine.specs.Steps.{to, state_in}
 use Rattle.chart_machine_laws.specs.Tree.{around, holder}
 use Rattle.chart_machine_laws.proofs.ChartTables.{within_or_past}
 use Rattle.chart_machine_laws.proofs.LyingIn.{none_in, tail_in}
-use Rattle.tick_laws.proofs.Lists.{get_contains, contains_map, true_both}
+use Rattle.tick_laws.proofs.Lists.{get_contains, true_both}
 use Rattle.abort_expansion.specs.declared.flags.Flags.{Flags}
 use Rattle.abort_expansion.specs.Expansion.{expanded}
 use Rattle.abort_expansion.specs.Flags.{aborts_around, has_join}
@@ -32,21 +31,20 @@ use Rattle.abort_expansion.specs.Superstates.{stays, is_prepared, all_ended}
 use Rattle.abort_expansion.specs.Transitions.{strong_checks, raising}
 use Rattle.abort_expansion_laws.specs.CoreRows.{own, is_final, IsState, IsSuper, Images, CoreRows, WatcherImage, flags_around}
 use Rattle.abort_expansion_laws.proofs.FlagNumbers.{same_number}
-use Rattle.abort_expansion_laws.proofs.KnownVariables.{both_true}
 use Rattle.abort_expansion_laws.proofs.RowsOfCharts as whole
-use Rattle.abort_expansion_laws.proofs.TickFollowed as ticks
+use Rattle.abort_expansion_laws.proofs.TicksOfCharts as ticks
 use Rattle.abort_expansion_laws.proofs.TickStarts.{some_kept}
 use Rattle.abort_expansion_laws.proofs.Walked.{CoreSort, for_simple, for_super, for_entry, for_behind, for_watching, for_start, for_nothing}
 use Rattle.abort_expansion_laws.proofs.WalkedWhole.{world}
 use Rattle.abort_expansion_laws.proofs.YetToLook.{in_reverse}
-use Rattle.preemption_laws.specs.Looks.{look, Looks, is_empty, looks_among, checks_of, monitor_checks, waits_itself, waits_behind}
-use Rattle.preemption_laws.proofs.LooksFound.{IsFor, Match, by_main, by_behind, by_watching, not_true, weak_numbers, main_for, behind_for, behind_tame}
+use Rattle.abort_expansion_laws.proofs.QuietBegins.{no_tests_past}
+use Rattle.preemption_laws.specs.Looks.{Looks, is_empty, looks_among, checks_of, monitor_checks, waits_itself, waits_behind}
+use Rattle.preemption_laws.proofs.LooksFound.{IsFor, Match, by_main, by_behind, by_watching, weak_numbers, main_for, behind_for, behind_tame}
 use Rattle.preemption_laws.proofs.LooksFound.{fork_tame, preparation_tame, are_checks, in_weak, in_thread, region_here}
 use Rattle.preemption_laws.proofs.QuietSteps.{looks}
 use Rattle.preemption_laws.proofs.TameLists.{IsPlain, none_strong, none_weak, strong_checks_tame, raises_strong, raises_weak, ended_tame, looks_mild}
 use Rattle.preemption_laws.proofs.TameLists.{led_own, start_tame}
 use Rattle.preemption_laws.proofs.TameTransitions.{IsWeak, AtHome, Mild, Tame, TameEffect, owner_of_weak}
-use Rattle.preemption_laws.proofs.WaitsOver.{LooksAround}
 
 pub each_among : {A : Type 0} (P : A → Type 0) (xs : List A) → Each P xs → (x : A) → Contains xs x → P x
 each_among P xs each x h = let found = get_contains xs x h in each_at P xs each found.0 x found.1
@@ -63,11 +61,6 @@ module _ (k core : Table) (i : Images) where
   not_empty : (xs : List ℕ) → not (is_empty k core i xs) ≡ true → xs ≢ []
   not_empty [] e none = absurd cc
   not_empty (x ∷ xs) e none = absurd cc
-
-own_past : (k : Table) (s : ℕ) → length k.states ≤ s → own k s ≡ []
-own_past k s past =
-    ap (λ (o : Option StateRow). (unwrap_or {T = StateRow} o (record { holder = 0; regions = []; transitions = []; entered = []; opened = [] })).transitions)
-    (slice_get_past k.states s past)
 
 module _ (c : Chart) (rules : IsChart features.Extended c) (core_rules : IsChart features.Core (expanded c)) where
   abbrev k : Table
@@ -190,13 +183,13 @@ module _ (c : Chart) (rules : IsChart features.Extended c) (core_rules : IsChart
           then checks_of k core i (holder k s)
           else (if b then checks_of k core i (holder k s) else (if d then monitor_checks k core i s else looks_among k core i s n)))
       by true is b e d f rest =
-          let both = both_true (nat_eq n (i.main_of s)) (waits_itself k core i s) is in
+          let both = and_parts (nat_eq n (i.main_of s)) (waits_itself k core i s) is in
           found (suc s) s (checks_of k core i (holder k s)) (omega arith) (by_main (eqb-true n (i.main_of s) both.0) both.1)
       by false is true e d f rest =
-          let both = both_true (nat_eq n (i.behind_of s)) (waits_behind k core i s) e in
+          let both = and_parts (nat_eq n (i.behind_of s)) (waits_behind k core i s) e in
           found (suc s) s (checks_of k core i (holder k s)) (omega arith) (by_behind (eqb-true n (i.behind_of s) both.0) both.1)
       by false is false e true f rest =
-          let both = both_true (nat_eq n (i.watching_of s)) (has_aborts (own k s)) f in
+          let both = and_parts (nat_eq n (i.watching_of s)) (has_aborts (own k s)) f in
           found (suc s) s (monitor_checks k core i s) (omega arith) (by_watching (eqb-true n (i.watching_of s) both.0) both.1)
       by false is false e false f rest = further n s (looks_among k core i s n) (λ others m. no_match n s is e f others m) rest
 
@@ -210,7 +203,7 @@ module _ (c : Chart) (rules : IsChart features.Extended c) (core_rules : IsChart
           subst (Each (Good (i.main_of s))) (sym (ap (λ (z : StateRow). z.transitions) (rows.staying s here super stay).row))
           (led_own c rules core_rules (i.main_of s) (holder k s) (region_here c rules core_rules s here) s
           (or_parts (has_aborts (own k s)) (aborts_around (flags_here (holder k s)))
-          (not_true (has_aborts (own k s) || aborts_around (flags_here (holder k s))) stay)).0)
+          (not-true (has_aborts (own k s) || aborts_around (flags_here (holder k s))) stay)).0)
       by false apart = fork_tame c rules core_rules s here super apart
 
   entry_too : (s : ℕ) → IsState k s → IsSuper k s → Each (Good (i.entry_of s)) (own core (i.entry_of s))
@@ -258,28 +251,28 @@ module _ (c : Chart) (rules : IsChart features.Extended c) (core_rules : IsChart
 
   all_tame : (n : ℕ) → ((s : ℕ) (ts : List Transition) → s < length k.states → Matches n s ts → ⊥) → Each (Good n) (own core n)
   all_tame n none =
-      ⊎_elim (λ lt. by_sort n lt none (whole.core_sort c rules core_rules n lt)) (λ past. subst (Each (Good n)) (sym (own_past core n past)) tt)
+      ⊎_elim (λ lt. by_sort n lt none (whole.core_sort c rules core_rules n lt)) (λ past. subst (Each (Good n)) (sym (no_tests_past core n past)) tt)
       (within_or_past n (length core.states))
 
   -- ---- of each state
 
   for_match : (n s : ℕ) (ts : List Transition) → IsState k s → Matches n s ts → For n ts
   for_match n s _ here (by_main is waits) =
-      let both = both_true (is_empty k core i (state_at k s).regions) (not (is_final k s)) waits in
+      let both = and_parts (is_empty k core i (state_at k s).regions) (not (is_final k s)) waits in
       subst (λ z. For z (checks_of k core i (holder k s))) (sym is)
       (main_for c rules core_rules s
       (record {
         there = here;
         no_regions = none_empty k core i (state_at k s).regions both.0;
-        not_final = not_true (is_final k s) both.1;
+        not_final = not-true (is_final k s) both.1;
       }))
   for_match n s _ here (by_behind is waits) =
-      let both = both_true (not (is_empty k core i (state_at k s).regions))
+      let both = and_parts (not (is_empty k core i (state_at k s).regions))
       (not (stays (flags_here (holder k s)) (own k s)) && not (has_join (own k s))) waits in
-      let two = both_true (not (stays (flags_here (holder k s)) (own k s))) (not (has_join (own k s))) both.1 in
+      let two = and_parts (not (stays (flags_here (holder k s)) (own k s))) (not (has_join (own k s))) both.1 in
       subst (λ z. For z (checks_of k core i (holder k s))) (sym is)
       (behind_for c rules core_rules s here (not_empty k core i (state_at k s).regions both.0)
-      (not_true (stays (flags_here (holder k s)) (own k s)) two.0) (not_true (has_join (own k s)) two.1))
+      (not-true (stays (flags_here (holder k s)) (own k s)) two.0) (not-true (has_join (own k s)) two.1))
   for_match n s _ here (by_watching is has) =
       subst (λ z. For z (monitor_checks k core i s)) (sym is) (watching_for s here has)
 
@@ -339,25 +332,6 @@ module _ (c : Chart) (rules : IsChart features.Extended c) (core_rules : IsChart
       }
 
   -- ---- what follows for each look, and for all other transitions
-
-  pub seen_weak : (n : ℕ) (t : Transition) → Contains (looks c rules core_rules n) t → LooksAround c rules core_rules n t
-  seen_weak n t h =
-      let x = contains_map (look (of_state n).left) (of_state n).seen t (subst (λ zs. Contains zs t) (of_state n).are h) in
-      let u = (of_state n).inside x.0 x.1 in
-      record {
-        superstate = u.0;
-        flag = x.0;
-        there = u.1;
-        weak = u.2;
-        looks_at = ap (λ (z : Transition). z.trigger) (sym x.2);
-        inside = u.3;
-      }
-
-  -- nobody else reads a weak flag but the thread of the region that holds its superstate
-  pub others_read : (n : ℕ) (t : Transition) → Contains (of_state n).others t → (u x : ℕ) → IsWeak c rules core_rules u x →
-      Reads (access_of_trigger t.trigger) x → AtHome c rules core_rules n u
-  others_read n t among u x weak read =
-      (each_among (Good n) (of_state n).others (of_state n).tame t among).trigger.reads_home u x weak read
 
   pub effects_read : (n : ℕ) (t : Transition) (e : Effect) → Contains (own core n) t → Contains t.effects e → (u x : ℕ) → IsWeak c rules core_rules u x →
       ¬ Reads (access_of_assignment e.variable (assignment_of e.variable e.value)) x

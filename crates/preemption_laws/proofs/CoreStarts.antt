@@ -1,7 +1,6 @@
 -- Before the first tick, and as a tick starts, a core chart stands in form, and in normal form.
-use Rattle.std.proofs.Common.{◌≡◌, ℕ, zero, suc, Bool, true, false, List, [], ◌∷◌, map, refl, sym, ap, ap₂, subst}
+use Rattle.std.proofs.Common.{◌≡◌, ℕ, Bool, true, false, List, refl, sym, ap, subst}
 use Rattle.std.specs.List.{list_all}
-use Rattle.std.proofs.lemmas.Bool.{and_parts}
 use Rattle.sc_text.proofs.EachItem.{Each}
 use Rattle.sc_graph.specs.Tick.{Inputs}
 use Rattle.core_charts.specs.declared.region.Transition.{Transition}
@@ -16,33 +15,14 @@ use Rattle.chart_machine.specs.Turns.{standing_of}
 use Rattle.abort_expansion_laws.specs.CoreRows.{own, IsState}
 use Rattle.abort_expansion_laws.proofs.FreshInside.{nobody_there}
 use Rattle.abort_expansion_laws.proofs.Leaving.{at_number}
-use Rattle.reaction_laws.proofs.SitsAtStart.{Tops, sits_initially, sits_at_start}
+use Rattle.abort_expansion_laws.proofs.WokenConfigurations.{woken_at}
+use Rattle.reaction_laws.proofs.SitsAtStart.{Tops, sits_initially, sits_at_start, all_out}
 use Rattle.preemption_laws.specs.Looks.{Looks}
-use Rattle.preemption_laws.specs.Waiting.{waiting_at, still}
 use Rattle.preemption_laws.proofs.FitsThere.{each_entered_fits, entered_fits, all_moved_fit}
 use Rattle.preemption_laws.proofs.Forms.{InForm, own_in_form, closing_in_form, at_once_in_form, first_closing_in_form, at_once_last}
 use Rattle.preemption_laws.proofs.Ground.{Ground, MayOn}
 use Rattle.preemption_laws.proofs.NormalForms.{IsNormal, own_normal, normal_behind}
-use Rattle.preemption_laws.proofs.SoundCores.{IsCore, IsSound}
-
--- a list of standings that are each in normal form is
-all_normal : (w : Standing → Standing) (zs : List Standing) → ((q : ℕ) → w (at_number zs q) ≡ at_number zs q) → map w zs ≡ zs
-all_normal w [] each = refl
-all_normal w (z ∷ zs) each = ap₂ (λ x xs. x ∷ xs) (each 0) (all_normal w zs (λ q. each (suc q)))
-
-all_out : (zs : List Standing) → list_all is_outside zs ≡ true → (q : ℕ) → at_number zs q ≡ at.Outside
-all_out [] h q = refl
-all_out (z ∷ zs) h zero = by z (and_parts (is_outside z) (list_all is_outside zs) h).0
-  where
-    by : (x : Standing) → is_outside x ≡ true → x ≡ at.Outside
-    by at.Outside e = refl
-    by at.Ended e = absurd cc
-    by (at.Trying s tests) e = absurd cc
-    by (at.Entering s tests) e = absurd cc
-    by (at.Guarding s tests) e = absurd cc
-    by (at.Within s tests) e = absurd cc
-    by (at.Acting s effects p) e = absurd cc
-all_out (z ∷ zs) h (suc q) = all_out zs (and_parts (is_outside z) (list_all is_outside zs) h).1 q
+use Rattle.preemption_laws.proofs.SoundCores.{IsCore}
 
 module _ (k : Table) (looks : ℕ → List Transition) (l : Looks k looks) (g : Ground k) (tops : Tops k) where
   pub core_initially : IsCore k looks l g (initial k)
@@ -51,11 +31,6 @@ module _ (k : Table) (looks : ℕ → List Transition) (l : Looks k looks) (g : 
         sits = sits_initially k g.tree g.holder_there g.entries g.elsewhere g.state_there g.firsts g.once g.leads g.bare tops;
         forms = λ r. subst (InForm k looks l r) (sym (nobody_there k r)) tt;
       }
-
-  woken_there : (zs : List Standing) (q : ℕ) → at_number (map (woken k) zs) q ≡ woken k (at_number zs q)
-  woken_there [] q = refl
-  woken_there (z ∷ zs) zero = refl
-  woken_there (z ∷ zs) (suc q) = woken_there zs q
 
   not_guarding : (s : ℕ) → guarded_first s (strong_aborts (own k s)) (closing_tests (own k s)) ≡ at.Within s (closing_tests (own k s))
   not_guarding s = ap (λ ts. guarded_first s ts (closing_tests (own k s))) (l.no_strong s)
@@ -110,7 +85,7 @@ module _ (k : Table) (looks : ℕ → List Transition) (l : Looks k looks) (g : 
         nobody : (q : ℕ) → Fits q (at_number c.regions q)
         nobody q = subst (Fits q) (sym (all_out c.regions e q)) (fits_out q)
     each_fits false e r =
-        subst (Fits r) (sym (woken_there c.regions r))
+        subst (Fits r) (sym (woken_at k c.regions r))
         (woken_form r (standing_of c r) (is.sits.stands r) (is.forms r), woken_normal r (standing_of c r) (is.forms r))
 
     pub core_at_start : IsCore k looks l g (start k inputs c)
@@ -119,15 +94,3 @@ module _ (k : Table) (looks : ℕ → List Transition) (l : Looks k looks) (g : 
           sits = sits_at_start k g.tree g.holder_there g.entries g.elsewhere g.state_there g.firsts g.once g.leads g.bare tops inputs c is.sits;
           forms = λ r. (each_fits (list_all is_outside c.regions) refl r).0;
         }
-
-    pub normal_at_start : (r : ℕ) → IsNormal k looks (standing_of (start k inputs c) r)
-    normal_at_start r = (each_fits (list_all is_outside c.regions) refl r).1
-
-    pub sound_at_start : IsSound k looks l g (start k inputs c)
-    sound_at_start = record { core = core_at_start; normal = normal_at_start }
-
-    -- so its normal form is itself
-    pub still_at_start : still k looks (start k inputs c) ≡ start k inputs c
-    still_at_start =
-        ap (λ zs. record { variables = (start k inputs c).variables; regions = zs })
-        (all_normal (waiting_at k looks) (start k inputs c).regions normal_at_start)

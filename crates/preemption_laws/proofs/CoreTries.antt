@@ -1,6 +1,6 @@
 -- How a region of a core chart comes to stand before tests: it stood there, or its last test failed, or the looks of its state are all ahead.
-use Rattle.std.proofs.Common.{◌≡◌, ◌≢◌, ℕ, zero, suc, ◌<◌, ◌⊎◌, inl, inr, ⊎_elim, Bool, true, false, Option, Some, None}
-use Rattle.std.proofs.Common.{option_map, option_and_then, List, [], ◌∷◌, ◌++◌, map, length}
+use Rattle.std.proofs.Common.{◌≡◌, ◌≢◌, ℕ, suc, ◌<◌, ◌⊎◌, inl, inr, ⊎_elim, Bool, true, false, Option, Some, None}
+use Rattle.std.proofs.Common.{option_map, option_and_then, List, [], ◌∷◌, ◌++◌, length}
 use Rattle.std.proofs.Common.{Contains, if◌then◌else◌, slice_get, slice_set, refl, sym, ap, subst, ◌∙◌, arith}
 use Rattle.std.specs.List.{list_all}
 use Rattle.std.proofs.lemmas.Option.{same_Some}
@@ -27,10 +27,11 @@ use Rattle.chart_machine_laws.specs.Tree.{IsThere, holder}
 use Rattle.tick_laws.proofs.Lists.{same_or_not}
 use Rattle.tick_laws.proofs.Views.{only_if_some}
 use Rattle.abort_expansion_laws.specs.CoreRows.{own, IsState}
-use Rattle.abort_expansion_laws.proofs.KnownVariables.{Stepped, stepped, both_true}
+use Rattle.abort_expansion_laws.proofs.KnownVariables.{Stepped, stepped}
 use Rattle.abort_expansion_laws.proofs.MoreValues.{Got, got}
 use Rattle.abort_expansion_laws.proofs.Leaving.{at_number, set_here, set_other, moved_append, moved_size}
-use Rattle.reaction_laws.proofs.SitsAtStart.{Tops}
+use Rattle.abort_expansion_laws.proofs.WokenConfigurations.{woken_at}
+use Rattle.reaction_laws.proofs.SitsAtStart.{Tops, all_out}
 use Rattle.preemption_laws.specs.Looks.{look, Looks}
 use Rattle.preemption_laws.proofs.FitsThere.{entered_fits, each_entered_fits, all_dropped, all_moved_fit}
 use Rattle.preemption_laws.proofs.MappedOnes.{mapped_one, got_in}
@@ -79,9 +80,6 @@ module _ (k : Table) (looks : ℕ → List Transition) (l : Looks k looks) (g : 
       let state : x ≡ s = ap state_tried is in
       let same : at_once (own k x) ≡ tests = ap tests_at is in
       (at_once (l.others x), sym same ∙ (at_once_last k looks l x ∙ ap (λ z. at_once (l.others x) ++ looks z) state))
-
-  not_trying : (x : Standing) → ((s : ℕ) (tests : List Transition) → x ≢ at.Trying s tests) → IsFresh x
-  not_trying x none s tests is = absurd (none s tests is)
 
   -- of each region, where it stands after these moves: where it stood, or before tests with all looks ahead
   abbrev Fits : List Standing → ℕ → Standing → Type 0
@@ -288,31 +286,12 @@ module _ (k : Table) (looks : ℕ → List Transition) (l : Looks k looks) (g : 
         by [] e = absurd cc
         by (w ∷ strong) e = absurd cc
 
-    woken_at : (zs : List Standing) (q : ℕ) → at_number (map (woken k) zs) q ≡ woken k (at_number zs q)
-    woken_at [] q = refl
-    woken_at (z ∷ zs) zero = refl
-    woken_at (z ∷ zs) (suc q) = woken_at zs q
-
-    pub outside_all : (zs : List Standing) → list_all is_outside zs ≡ true → (q : ℕ) → at_number zs q ≡ at.Outside
-    outside_all [] h q = refl
-    outside_all (z ∷ zs) h zero = by z (both_true (is_outside z) (list_all is_outside zs) h).0
-      where
-        by : (x : Standing) → is_outside x ≡ true → x ≡ at.Outside
-        by at.Outside e = refl
-        by at.Ended e = absurd cc
-        by (at.Trying s tests) e = absurd cc
-        by (at.Entering s tests) e = absurd cc
-        by (at.Guarding s tests) e = absurd cc
-        by (at.Within s tests) e = absurd cc
-        by (at.Acting s effects p) e = absurd cc
-    outside_all (z ∷ zs) h (suc q) = outside_all zs (both_true (is_outside z) (list_all is_outside zs) h).1 q
-
     pub start_tries : (inputs : Inputs) (c : Configuration) (r s : ℕ) (tests : List Transition) → standing_of (start k inputs c) r ≡ at.Trying s tests →
         (front : List Transition) × (tests ≡ front ++ looks s)
     start_tries inputs c r s tests stands = by (list_all is_outside c.regions) refl s tests stands
       where
         by : (b : Bool) → list_all is_outside c.regions ≡ b → IsFresh (at_number (regions_at_start k b c.regions) r)
         by true is =
-            ⊎_elim (λ same s tests e. let wrong = sym (same ∙ outside_all c.regions is r) ∙ e in absurd cc) (λ fresh. fresh)
+            ⊎_elim (λ same s tests e. let wrong = sym (same ∙ all_out c.regions is r) ∙ e in absurd cc) (λ fresh. fresh)
             (after_moves k.opened c.regions opened_fresh r)
-        by false is = subst IsFresh (sym (woken_at c.regions r)) (woken_fresh (at_number c.regions r))
+        by false is = subst IsFresh (sym (woken_at k c.regions r)) (woken_fresh (at_number c.regions r))

@@ -4,7 +4,6 @@ use Rattle.std.proofs.Common.{◌≡◌, ℕ, zero, suc, Bool, true, false, Some
 use Rattle.std.proofs.Common.{unwrap_or, if◌then◌else◌, Contains, refl, sym, ap, ap₂, subst, ◌∙◌, arith}
 use Rattle.std.proofs.lemmas.Bool.{le-leb}
 use Rattle.sc_text.proofs.EachItem.{Each}
-use Rattle.sc_values.specs.Access.{no_access}
 use Rattle.core_charts.specs.declared.region.Transition.{Transition}
 use Rattle.chart_machine.specs.declared.region_change.RegionChange.{RegionChange}
 use Rattle.chart_machine.specs.declared.standing.Configuration.{Configuration}
@@ -12,7 +11,7 @@ use Rattle.chart_machine.specs.declared.standing.Move.{Move}
 use Rattle.chart_machine.specs.declared.standing.Standing.{Standing}
 use Rattle.chart_machine.specs.declared.standing.Standing.TheVariants as at
 use Rattle.chart_machine.specs.declared.table.Table.{Table}
-use Rattle.chart_machine.specs.Steps.{to, moved, written, after, verdict, acts, taken, state_in, change_of, step, access_of}
+use Rattle.chart_machine.specs.Steps.{to, moved, written, after, verdict, acts, taken, state_in, change_of, step}
 use Rattle.chart_machine.specs.Table.{state_at}
 use Rattle.chart_machine.specs.Turns.{standing_of, is_enabled}
 use Rattle.chart_machine_laws.specs.Tree.{IsThere, holder}
@@ -22,7 +21,7 @@ use Rattle.abort_expansion_laws.proofs.Leaving.{at_number}
 use Rattle.abort_expansion_laws.proofs.KnownVariables.{Stepped, stepped}
 use Rattle.reaction_laws.proofs.WritesSwap.{changes}
 use Rattle.preemption_laws.specs.Looks.{look, Looks}
-use Rattle.preemption_laws.specs.Waiting.{is_waiting, waiting_at, still, sees, gone, wait_step, wait_access}
+use Rattle.preemption_laws.specs.Waiting.{is_waiting, waiting_at, still, sees, gone, wait_step}
 use Rattle.preemption_laws.proofs.ChangesMade.{what_is_made}
 use Rattle.preemption_laws.proofs.Forms.{InForm, Rests, looks_behind, looks_left}
 use Rattle.preemption_laws.proofs.Ground.{Ground, MayOn, apart_on}
@@ -30,7 +29,8 @@ use Rattle.preemption_laws.proofs.LeaveSteps.{nobody_inside, sees_still}
 use Rattle.preemption_laws.proofs.NormalForms.{NormalMove, moves_normal, none_in_front, waits_few, waiting_is}
 use Rattle.preemption_laws.proofs.SoundCores.{IsCore, there_of}
 use Rattle.preemption_laws.proofs.StepsOfWaiting.{waits_then, goes_then}
-use Rattle.preemption_laws.proofs.StillTurns.{still_at, stands_still, still_set, goes_there, turn_still}
+use Rattle.preemption_laws.proofs.StillTurns.{still_set, goes_there, turn_still}
+use Rattle.preemption_laws.proofs.StillConfigurations.{still_at, stands_still}
 
 -- one of the last flags
 flag_of : (left : ℕ) (xs : List ℕ) (gone : List Transition) (w : Transition) (rest : List Transition) → map (look left) xs ≡ gone ++ w ∷ rest →
@@ -90,14 +90,7 @@ module _ (k : Table) (looks : ℕ → List Transition) (l : Looks k looks) (g : 
       let same : after one.0 (still k looks c) ≡ still k looks d = ap₂ (λ vs zs. record { variables = vs; regions = zs }) variables regions in
       goes_then k looks (still k looks c) t (ap (is_waiting k looks) at_t ∙ goes) ∙ (to_next ∙ ap Some same)
 
-  pub access_goes : (c : Configuration) (t : ℕ) → is_waiting k looks (standing_of c t) ≡ false →
-      wait_access k looks (still k looks c) t ≡ access_of (standing_of c t)
-  access_goes c t goes =
-      let at_t : standing_of (still k looks c) t ≡ standing_of c t = goes_there k looks c t goes in
-      ap (λ b. if b then no_access else access_of (standing_of (still k looks c) t)) (ap (is_waiting k looks) at_t ∙ goes) ∙ ap access_of at_t
-
   -- ---- of who waits
-
   -- a look is the first of its tests
   pub record Looking (c : Configuration) (t : ℕ) : Type 0 where
     pub state : ℕ

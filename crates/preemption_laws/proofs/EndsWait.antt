@@ -17,13 +17,15 @@ use Rattle.chart_machine_laws.specs.Tree.{around}
 use Rattle.reaction_laws.proofs.ByRank.{Begins, begins}
 use Rattle.preemption_laws.specs.Looks.{Looks}
 use Rattle.preemption_laws.specs.Waiting.{holds, is_waiting, waiting_at, still, sees, may_step, waiting_machine}
-use Rattle.preemption_laws.proofs.Erased.{still_at, waiting_same, Erased, erased}
+use Rattle.preemption_laws.proofs.Erased.{Erased, erased}
 use Rattle.preemption_laws.proofs.FlagsStayDown.{AllLooked, all_looked_still}
 use Rattle.preemption_laws.proofs.Ground.{Ground}
 use Rattle.preemption_laws.proofs.QuietLogs.{quiet_runs, quiet_admissible}
 use Rattle.preemption_laws.proofs.SoundCores.{core_still, not_guarded}
 use Rattle.preemption_laws.proofs.StillTurns.{turn_still}
-use Rattle.preemption_laws.proofs.StaysThere.{Sound, not_both}
+use Rattle.preemption_laws.proofs.StaysThere.{Sound}
+use Rattle.preemption_laws.proofs.StillConfigurations.{stands_still, waiting_same}
+use Rattle.abort_expansion_laws.proofs.Unchanged.{not_both}
 
 -- what holds of no item holds of none of a list
 none_any : {A : Type 0} (f : A → Bool) (xs : List A) → ((before after : List A) (y : A) → xs ≡ before ++ y ∷ after → f y ≡ false) → list_any f xs ≡ false
@@ -67,7 +69,7 @@ module _ (k : Table) (looks : ℕ → List Transition) (known : Looks k looks) (
 
     sees_none : (q s : ℕ) → standing_of e q ≡ at.Trying s [] → sees k looks (still k looks e) (standing_of (still k looks e) q) ≡ false
     sees_none q s stands =
-        ap (sees k looks (still k looks e)) (still_at k looks e q ∙ ap (waiting_at k looks) stands)
+        ap (sees k looks (still k looks e)) (stands_still k looks e q ∙ ap (waiting_at k looks) stands)
         ∙ none_any (holds (still k looks e)) (looks s)
         (λ before after u parts.
         ap (λ o. unwrap_or o false) (there.all q s [] before after u stands parts (omega arith)).down)

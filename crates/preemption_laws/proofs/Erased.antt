@@ -22,7 +22,11 @@ use Rattle.preemption_laws.specs.Waiting.{is_waiting, waiting_at, still, wait_st
 use Rattle.preemption_laws.proofs.CoreWaits.{goes_on_still, Looks_on, fails_on, holds_on, looks_on}
 use Rattle.preemption_laws.proofs.Ground.{Ground}
 use Rattle.preemption_laws.proofs.SoundCores.{core_still}
-use Rattle.preemption_laws.proofs.StaysThere.{Sound, is_within, not_both, stepping_there, stays_there, forks_within}
+use Rattle.preemption_laws.proofs.StaysThere.{Sound, is_within, stepping_there, stays_there, forks_within}
+use Rattle.preemption_laws.proofs.StillConfigurations.{waiting_same}
+use Rattle.preemption_laws.proofs.QuietSteps.{quiet_machine}
+use Rattle.preemption_laws.proofs.StillTurns.{goes_there}
+use Rattle.abort_expansion_laws.proofs.Unchanged.{not_both}
 
 -- ---- machines that differ in whom they call enabled alone
 
@@ -56,70 +60,18 @@ same_acts m (t ∷ run) c = ap (λ xs. act_of m c t ∷ xs) (by (m.step t c) (sa
     by (Some d) same = same d
 
 module _ (k : Table) (looks : ℕ → List Transition) where
-  -- ---- who waits, in normal form
-
-  at_least_itself : (n : ℕ) → nat_le n n ≡ true
-  at_least_itself n = le-leb n n (omega arith)
-
-  at_place : (zs : List Standing) (q : ℕ) → unwrap_or (slice_get (map (waiting_at k looks) zs) q) at.Outside ≡
-      waiting_at k looks (unwrap_or (slice_get zs q) at.Outside)
-  at_place [] q = refl
-  at_place (z ∷ zs) zero = refl
-  at_place (z ∷ zs) (suc q) = at_place zs q
-
-  pub still_at : (c : Configuration) (q : ℕ) → standing_of (still k looks c) q ≡ waiting_at k looks (standing_of c q)
-  still_at c q = at_place c.regions q
-
-  pub waits_too : (x : Standing) → is_waiting k looks (waiting_at k looks x) ≡ is_waiting k looks x
-  waits_too at.Outside = refl
-  waits_too at.Ended = refl
-  waits_too (at.Entering s tests) = refl
-  waits_too (at.Guarding s tests) = refl
-  waits_too (at.Within s tests) = refl
-  waits_too (at.Acting s effects p) = refl
-  waits_too (at.Trying s tests) = by (nat_le (length tests) (length (looks s))) refl
-    where
-      by : (b : Bool) → nat_le (length tests) (length (looks s)) ≡ b → nat_le (length (if b then looks s else tests)) (length (looks s)) ≡ b
-      by true is = at_least_itself (length (looks s))
-      by false is = is
-
-  pub waiting_same : (c : Configuration) (q : ℕ) → is_waiting k looks (standing_of (still k looks c) q) ≡ is_waiting k looks (standing_of c q)
-  waiting_same c q = ap (is_waiting k looks) (still_at c q) ∙ waits_too (standing_of c q)
-
-  -- who does not wait stands as it stood
-  pub not_moved : (x : Standing) → is_waiting k looks x ≡ false → waiting_at k looks x ≡ x
-  not_moved at.Outside is = refl
-  not_moved at.Ended is = refl
-  not_moved (at.Entering s tests) is = refl
-  not_moved (at.Guarding s tests) is = refl
-  not_moved (at.Within s tests) is = refl
-  not_moved (at.Acting s effects p) is = refl
-  not_moved (at.Trying s tests) is = ap (λ b. at.Trying s (if b then looks s else tests)) is
-
   access_same : (c : Configuration) (q : ℕ) → wait_access k looks (still k looks c) q ≡ wait_access k looks c q
   access_same c q = by (is_waiting k looks (standing_of c q)) refl
     where
       by : (b : Bool) → is_waiting k looks (standing_of c q) ≡ b → wait_access k looks (still k looks c) q ≡ wait_access k looks c q
-      by true is = rw (waiting_same c q ∙ is, is) refl
-      by false is = rw (waiting_same c q ∙ is, is) (ap access_of (still_at c q ∙ not_moved (standing_of c q) is))
-
-  -- ---- the machine of the chart, in which looks have no access
-
-  abbrev pub quiet_machine : Machine
-  quiet_machine =
-      record {
-        Configuration = Configuration;
-        enabled = is_enabled k;
-        step = step k;
-        access = wait_access k looks;
-        ForkedApart = ForkedApart k;
-      }
+      by true is = rw (waiting_same k looks c q ∙ is, is) refl
+      by false is = rw (waiting_same k looks c q ∙ is, is) (ap access_of (goes_there k looks c q is))
 
   abbrev shows : Configuration → ℕ → Bool
   shows c t = not (is_waiting k looks (standing_of c t))
 
   abbrev quiet : Machine
-  quiet = never quiet_machine
+  quiet = never (quiet_machine k looks)
 
   abbrev waits : Machine
   waits = never (waiting_machine k looks)
@@ -190,7 +142,7 @@ module _ (k : Table) (looks : ℕ → List Transition) where
         there = ap (wait_step k looks t) goes.is ∙ steps_there
 
         shows_same : shows b t ≡ shows c t
-        shows_same = ap (λ z. shows z t) goes.is ∙ ap not (waiting_same c t)
+        shows_same = ap (λ z. shows z t) goes.is ∙ ap not (waiting_same k looks c t)
 
         access_there : wait_access k looks b t ≡ wait_access k looks c t
         access_there = ap (λ z. wait_access k looks z t) goes.is ∙ access_same c t
@@ -227,14 +179,14 @@ module _ (k : Table) (looks : ℕ → List Transition) where
       pub runs : replay (waiting_machine k looks) run (still k looks c) ≡ Some (still k looks e)
       pub admissible : IsAdmissible (waiting_machine k looks) run (still k looks c)
 
-    pub erased : (run : List ℕ) (c e : Configuration) → Sound k looks l g c → replay quiet_machine run c ≡ Some e →
-        IsAdmissible quiet_machine run c → Erased c e
+    pub erased : (run : List ℕ) (c e : Configuration) → Sound k looks l g c → replay (quiet_machine k looks) run c ≡ Some e →
+        IsAdmissible (quiet_machine k looks) run c → Erased c e
     erased run c e sound runs ordered =
         let ends : Ends quiet c e =
         record {
           run = run;
-          complete = record { runs = same_replay quiet_machine run c ∙ runs; over = λ t. refl };
-          admissible = subst (IsOrdered (ForkedApart k)) (sym (same_acts quiet_machine run c)) ordered;
+          complete = record { runs = same_replay (quiet_machine k looks) run c ∙ runs; over = λ t. refl };
+          admissible = subst (IsOrdered (ForkedApart k)) (sym (same_acts (quiet_machine k looks) run c)) ordered;
         } in
         let there : EndsAlike waits Configuration Goes e (still k looks c) =
         follows_ends quiet waits shows shows Goes Goes (Sound k looks l g) follows silent (record {

@@ -3,6 +3,7 @@
 use Rattle.std.proofs.Common.{◌≡◌, ℕ, zero, suc, ◌+◌, ◌<◌, ◌≤◌, ⊎_elim, List, [], ◌∷◌, map, length, slice_set, Contains, refl, sym}
 use Rattle.std.proofs.Common.{ap, subst, ◌∙◌, arith}
 use Rattle.std.proofs.lemmas.Bool.{cases_lt}
+use Rattle.std.proofs.lemmas.List.{length-set}
 use Rattle.sc_text.proofs.EachItem.{Each, each_append}
 use Rattle.core_charts.specs.Tests.{at_once, strong_aborts, first_closing_tests}
 use Rattle.chart_machine.specs.declared.standing.Move.{Move}
@@ -16,10 +17,10 @@ use Rattle.chart_machine_laws.proofs.LyingIn.{head_in, tail_in}
 use Rattle.tick_laws.proofs.Lists.{same_or_not, map_contains}
 use Rattle.abort_expansion_laws.specs.CoreRows.{own, IsState}
 use Rattle.abort_expansion_laws.proofs.FreshInside.{all_entered}
-use Rattle.abort_expansion_laws.proofs.Leaving.{at_number, set_here, set_other, set_length}
+use Rattle.abort_expansion_laws.proofs.Leaving.{at_number, set_here, set_other}
 use Rattle.abort_expansion_laws.proofs.StateEntry.{Entry, entry_ends, entry_tries, entry_guards, entry_opens}
+use Rattle.abort_expansion_laws.proofs.NumberedRegions.{past_number}
 use Rattle.reaction_laws.proofs.EnclosedStill.{Firsts}
-use Rattle.reaction_laws.proofs.StandsStill.{past_number}
 use Rattle.preemption_laws.proofs.Ground.{Ground}
 
 module _ (k : Table) (g : Ground k) (no_strong : (s : ℕ) → strong_aborts (own k s) ≡ []) (Fits : ℕ → Standing → Type 0)
@@ -85,7 +86,7 @@ module _ (k : Table) (g : Ground k) (no_strong : (s : ℕ) → strong_aborts (ow
           subst (λ z. Fits z (at_number (slice_set zs m.region m.standing) z)) (sym same)
           (subst (Fits m.region) (sym (set_here zs m.region m.standing lt)) fits))
           (λ past.
-          let size = set_length zs m.region m.standing in
+          let size = length-set zs m.region m.standing in
           subst (Fits q) (sym (past_number (slice_set zs m.region m.standing) q (omega (size, past, same, arith)))) (outside q))
           (cases_lt m.region (length zs))
 

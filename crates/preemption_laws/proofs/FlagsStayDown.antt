@@ -22,13 +22,14 @@ use Rattle.chart_machine_laws.proofs.LyingIn.{apart_inside}
 use Rattle.tick_laws.proofs.Lists.{same_or_not, get_set_other, contains_none, contains_cons, contains_head}
 use Rattle.abort_expansion.specs.Transitions.{put, is_raised}
 use Rattle.abort_expansion_laws.proofs.FlagAccess.{put_access, raised_access}
+use Rattle.abort_expansion_laws.proofs.Unchanged.{not_both}
 use Rattle.preemption_laws.specs.Looks.{look, Looks}
 use Rattle.preemption_laws.proofs.CoreTries.{held, tails, writes, tries}
-use Rattle.preemption_laws.proofs.Ground.{Ground}
+use Rattle.preemption_laws.proofs.Ground.{Ground, enclosed_on}
 use Rattle.preemption_laws.proofs.MappedOnes.{mapped_one, got_in}
 use Rattle.preemption_laws.proofs.OneWrite.{MakesEffect, Wrote, one_write}
-use Rattle.preemption_laws.proofs.PresentApart.{present_apart}
-use Rattle.preemption_laws.proofs.StaysThere.{Sound, IsGoing, is_within, not_both, within_around, stepping_there, none_inside}
+use Rattle.preemption_laws.proofs.StaysThere.{Sound, IsGoing, is_within, within_around, stepping_there, none_inside}
+use Rattle.reaction_laws.proofs.ApartTogether.{present_apart}
 
 -- ---- of a flag
 
@@ -119,7 +120,7 @@ module _ (k : Table) (looks : ℕ → List Transition) (known : Looks k looks) (
         r_out (deeper v inner holds) = none_inside k looks known g c sound d t steps r v going inner holds
 
         apart : (a : ℕ) × ForkedApart k r t a
-        apart = present_apart k looks known g c sound r t going.entered t_here r_out t_out
+        apart = present_apart k g.tree g.holder_there c (enclosed_on k g c sound.sits) r t going.entered t_here r_out t_out
 
         -- so it does not write a flag that was looked at
         no_write : (x : ℕ) → Contains (known.seen s) x →

@@ -1,13 +1,10 @@
 -- What a table has so that its steps keep who stands where, in one record; and the machine of the table over it.
-use Rattle.std.proofs.Common.{◌≡◌, ◌≢◌, ℕ, zero, suc, ◌<◌, ⊎_elim, Some, List, ◌∷◌, [], length, Contains, refl, arith}
-use Rattle.std.proofs.lemmas.Bool.{cases_lt}
+use Rattle.std.proofs.Common.{◌≡◌, ℕ, ◌<◌, Some, List, ◌∷◌, [], length, Contains, arith}
 use Rattle.chart_machine.specs.declared.standing.Configuration.{Configuration}
 use Rattle.chart_machine.specs.declared.standing.Standing.{Standing}
-use Rattle.chart_machine.specs.declared.standing.Standing.TheVariants as at
 use Rattle.chart_machine.specs.declared.table.Table.{Table}
 use Rattle.chart_machine.specs.Machine.{machine}
 use Rattle.chart_machine.specs.Steps.{moved, state_in, step}
-use Rattle.chart_machine.specs.Turns.{standing_of}
 use Rattle.chart_machine.specs.Table.{state_at, region_at}
 use Rattle.chart_machine_laws.specs.Tree.{IsThere, IsTree, around, holder}
 use Rattle.abort_expansion_laws.specs.CoreRows.{own, IsState}
@@ -16,10 +13,9 @@ use Rattle.abort_expansion_laws.proofs.StartingRegions.{Once}
 use Rattle.abort_expansion_laws.proofs.StateEntry.{Entry}
 use Rattle.reaction_laws.specs.OneEnd.{KeepsApart}
 use Rattle.reaction_laws.proofs.ApartTogether.{Enclosed}
-use Rattle.reaction_laws.proofs.EnclosedStill.{Firsts, all_open}
+use Rattle.reaction_laws.proofs.EnclosedStill.{Firsts}
 use Rattle.reaction_laws.proofs.MovesInside.{LeadIn, MayStand}
-use Rattle.reaction_laws.proofs.SitsStill.{Sits, sits_apart, sits_still}
-use Rattle.reaction_laws.proofs.StandsStill.{past_number}
+use Rattle.reaction_laws.proofs.SitsStill.{Sits, sits_apart, sits_still, sits_enclosed}
 
 pub record Ground (k : Table) : Type 0 where
   pub tree : IsTree k
@@ -48,17 +44,5 @@ module _ (k : Table) (g : Ground k) where
   pub sits_on : (c d : Configuration) (t : ℕ) → SitsOn c → step k t c ≡ Some d → SitsOn d
   sits_on c d t sits steps = sits_still k g.tree g.holder_there g.entries g.elsewhere g.state_there g.firsts g.once g.leads g.bare c d t sits steps
 
-  there_on : (c : Configuration) → SitsOn c → (q : ℕ) → standing_of c q ≢ at.Outside → IsThere k q
-  there_on c sits zero there = absurd (there sits.chart_out)
-  there_on c sits (suc q) there =
-      ⊎_elim (λ lt. (omega arith, lt))
-      (λ past. absurd (there (past_number c.regions (suc q) (let size = sits.size in omega (past, size, arith))))) (cases_lt (suc q) (suc (length k.regions)))
-
   pub enclosed_on : (c : Configuration) → SitsOn c → EnclosedOn c
-  enclosed_on c sits =
-      record {
-        chart_out = sits.chart_out;
-        there = there_on c sits;
-        around_open = λ q s h there.
-            all_open k g.tree g.holder_there g.entries g.elsewhere g.state_there g.firsts g.once (standing_of c) sits.next (around k q) q s refl h there;
-      }
+  enclosed_on = sits_enclosed k g.tree g.holder_there g.entries g.elsewhere g.state_there g.firsts g.once g.leads g.bare

@@ -25,7 +25,7 @@ use Rattle.abort_expansion.specs.Expansion.{expanded}
 use Rattle.abort_expansion_laws.specs.CoreRows.{own, IsState, Images}
 use Rattle.abort_expansion_laws.proofs.FlagAccess.{raised_access}
 use Rattle.abort_expansion_laws.proofs.KnownVariables.{stepped}
-use Rattle.abort_expansion_laws.proofs.TickFollowed as ticks
+use Rattle.abort_expansion_laws.proofs.TicksOfCharts as ticks
 use Rattle.preemption_laws.specs.Looks.{look, Looks, looks_of}
 use Rattle.preemption_laws.specs.Waiting.{is_waiting}
 use Rattle.preemption_laws.proofs.CoreGround.{core_ground, core_tops}

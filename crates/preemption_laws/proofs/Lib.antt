@@ -16,7 +16,6 @@ pub mod QuietLogs
 pub mod OneWrite
 pub mod CoreEnds
 pub mod MappedOnes
-pub mod PresentApart
 pub mod CoreTries
 pub mod FlagsStayDown
 pub mod EndsWait

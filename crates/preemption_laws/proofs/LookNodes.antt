@@ -65,7 +65,7 @@ never_absent n e = absurd cc
 no_tests : (t : Transition) (ts : List Transition) → t ∷ ts ≡ [] → ⊥
 no_tests t ts e = absurd cc
 
-trying_outside : (s : ℕ) (ts : List Transition) → at.Trying s ts ≡ at.Outside → ⊥
+pub trying_outside : (s : ℕ) (ts : List Transition) → at.Trying s ts ≡ at.Outside → ⊥
 trying_outside s ts e = absurd cc
 
 trying_ended : (s : ℕ) (ts : List Transition) → at.Trying s ts ≡ at.Ended → ⊥

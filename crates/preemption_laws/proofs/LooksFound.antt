@@ -1,5 +1,5 @@
 -- The looks of each core state: they stand last among its transitions, and its other transitions are tame.
-use Rattle.std.proofs.Common.{◌≡◌, ℕ, ⊎_elim, Bool, true, false, not, ◌||◌}
+use Rattle.std.proofs.Common.{◌≡◌, ℕ, ⊎_elim, Bool, true, false, ◌||◌}
 use Rattle.std.proofs.Common.{Option, Some, None, List, [], ◌∷◌, ◌++◌, map, length, Contains, refl, sym, ap, subst, ◌∙◌}
 use Rattle.std.specs.Prelude.{reverse}
 use Rattle.sc_text.proofs.EachItem.{Each, each_append}
@@ -17,7 +17,6 @@ use Rattle.chart_machine.specs.Steps.{to, state_in}
 use Rattle.chart_machine_laws.specs.Tree.{IsThere, around, holder}
 use Rattle.chart_machine_laws.proofs.LyingIn.{none_in, head_in, tail_in, head_or_tail}
 use Rattle.chart_machine_laws.proofs.SoundRows.{SoundTest, each_filter}
-use Rattle.tick_laws.proofs.Lists.{map_contains}
 use Rattle.abort_expansion.specs.declared.flags.Flags.{Flags}
 use Rattle.abort_expansion.specs.Expansion.{expanded}
 use Rattle.abort_expansion.specs.Flags.{aborts_around, is_there, has_join}
@@ -26,17 +25,14 @@ use Rattle.abort_expansion.specs.Transitions.{check, strong_checks, weak_checks,
 use Rattle.abort_expansion_laws.specs.CoreRows.{own, IsState, IsSuper, IsSimple, Images, CoreRows, SimpleImage, SplitImage}
 use Rattle.abort_expansion_laws.specs.CoreRows.{flags_around}
 use Rattle.abort_expansion_laws.proofs.RowsOfCharts as whole
-use Rattle.abort_expansion_laws.proofs.TickFollowed as ticks
+use Rattle.abort_expansion_laws.proofs.TicksOfCharts as ticks
 use Rattle.abort_expansion_laws.proofs.TickStarts.{kept_none}
 use Rattle.abort_expansion_laws.proofs.YetToLook.{in_reverse}
+use Rattle.abort_expansion_laws.proofs.ThreadsAround.{thread_within}
 use Rattle.preemption_laws.specs.Looks.{look, checks_of, monitor_checks, waits_itself, waits_behind}
 use Rattle.preemption_laws.proofs.TameLists.{joined_tame, strong_checks_tame, led_own, entry_tame, strong_answers, weak_answers, closing_tame}
 use Rattle.preemption_laws.proofs.TameLists.{resets_tame, looks_mild, own_sound}
 use Rattle.preemption_laws.proofs.TameTransitions.{IsWeak, Mild, Tame}
-
-pub not_true : (b : Bool) → not b ≡ true → b ≡ false
-not_true true e = absurd cc
-not_true false e = refl
 
 module _ (c : Chart) (rules : IsChart features.Extended c) (core_rules : IsChart features.Core (expanded c)) where
   abbrev k : Table
@@ -149,7 +145,7 @@ module _ (c : Chart) (rules : IsChart features.Extended c) (core_rules : IsChart
         ((rows.region r (region_here s here)).left (aborts_among around_it u.0 x u.1 u.2))
 
     pub in_thread : (u : ℕ) → Contains (around k r) u → Contains (around core (i.thread_of r)) (i.main_of u)
-    in_thread u inner = subst (λ zs. Contains zs (i.main_of u)) (sym (rows.encloses r)) (map_contains i.main_of (around k r) u inner)
+    in_thread u inner = thread_within k core i rows r u inner
 
     pub thread_inside : (x : ℕ) → Contains (weak_numbers around_it) x →
         (u : ℕ) × IsState k u × IsWeak c rules core_rules u x × Contains (around core (holder core n)) (i.main_of u)

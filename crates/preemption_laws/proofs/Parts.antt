@@ -21,16 +21,12 @@ use Rattle.compiled_charts_laws.proofs.TickStarts as tick_starts
 use Rattle.abort_expansion_laws.specs.CoreRows.{Images}
 use Rattle.abort_expansion_laws.specs.Preemption.{HasImage}
 use Rattle.abort_expansion_laws.proofs.OwnTests.{OwnTests}
-use Rattle.abort_expansion_laws.proofs.PreemptionFollows.{SparesTests, BothRest}
-use Rattle.abort_expansion_laws.proofs.PreemptionKept.{ToldHere, own_tests_kept}
-use Rattle.abort_expansion_laws.proofs.TestsSpared.{tests_are_spared}
-use Rattle.abort_expansion_laws.proofs.TickFollowed as ticks
-use Rattle.abort_expansion_laws.proofs.ToldSteps.{told_silent}
-use Rattle.reaction_laws.proofs.ChartRuns.{is_valid}
-use Rattle.preemption_laws.specs.Looks.{Looks, looks_of}
+use Rattle.abort_expansion_laws.proofs.BetweenTicks.{SparesTests, BothRest}
+use Rattle.abort_expansion_laws.proofs.TestsSpared.{tests_are_spared, is_valid}
+use Rattle.abort_expansion_laws.proofs.TicksOfCharts as ticks
+use Rattle.abort_expansion_laws.proofs.ToldSteps.{ToldHere}
+use Rattle.preemption_laws.specs.Looks.{looks_of}
 use Rattle.preemption_laws.specs.Waiting.{still, waiting_machine}
-use Rattle.preemption_laws.proofs.Ground.{Ground}
-use Rattle.preemption_laws.proofs.CoreGround.{core_ground}
 use Rattle.preemption_laws.proofs.KnownReads.{CoreReads, IsKnown}
 
 module _ (c : Chart) (rules : IsChart features.Extended c) (image : HasImage c) (low : IsLowering (expanded c) image.scl) where
@@ -56,7 +52,7 @@ module _ (c : Chart) (rules : IsChart features.Extended c) (image : HasImage c) 
   G = program_of (numbered image.scl)
 
   abbrev pub valid : IsValid G image.tables
-  valid = is_valid c rules low.core image low
+  valid = is_valid c image
 
   -- the graph rests where the core chart does
   abbrev pub Between : Configuration → Control → Type 0
@@ -67,17 +63,10 @@ module _ (c : Chart) (rules : IsChart features.Extended c) (image : HasImage c) 
 
   abbrev pub Resting : Configuration → Configuration → Type 0
   Resting =
-      BothRest c rules low.core (AreAccepted image.program) (ToldHere c rules low.core) (told_silent k core i) spares (OwnTests k)
-      (own_tests_kept c rules low.core)
+      BothRest c rules low.core (AreAccepted image.program) (ToldHere c rules low.core) spares (OwnTests k)
 
   -- what is known of the rows of the core chart
   module _ (given : CoreReads c rules low.core) where
-    abbrev pub known : Looks core looks
-    known = given.known
-
-    abbrev pub ground : Ground core
-    ground = core_ground c rules low.core
-
     abbrev pub Known : Configuration → Type 0
     Known d = IsKnown c rules low.core given d
 

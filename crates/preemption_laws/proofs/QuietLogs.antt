@@ -10,9 +10,10 @@ use Rattle.chart_machine.specs.declared.table.Table.{Table}
 use Rattle.chart_machine.specs.Turns.{standing_of, ForkedApart}
 use Rattle.chart_machine.specs.Steps.{step, access_of}
 use Rattle.chart_machine.specs.Machine.{machine}
-use Rattle.reaction_laws.proofs.CappedRanks.{idle_first, reader_second}
+use Rattle.reaction_laws.proofs.CappedRanks.{idle_first}
 use Rattle.preemption_laws.specs.Waiting.{is_waiting, wait_access}
-use Rattle.preemption_laws.proofs.Erased.{quiet_machine}
+use Rattle.preemption_laws.proofs.QuietSteps.{quiet_machine}
+use Rattle.abort_expansion_laws.proofs.Commuting.{plain_second}
 
 -- the same access, or none
 abbrev OrSilent : Access → Access → Type 0
@@ -20,7 +21,7 @@ OrSilent now was = (now ≡ was) ⊎ (now ≡ no_access)
 
 may_still : (a b was was_too : Access) → OrSilent a was → OrSilent b was_too → MayPrecede was was_too → MayPrecede a b
 may_still a b was was_too (inr none) second may = idle_first a b none
-may_still a b was was_too (inl same) (inr none) may = reader_second a b (ap (λ (z : Access). z.writes) none)
+may_still a b was was_too (inl same) (inr none) may = plain_second a b (ap (λ (z : Access). z.writes) none)
 may_still a b was was_too (inl same) (inl same_too) may = subst (λ z. MayPrecede z b) (sym same) (subst (MayPrecede was) (sym same_too) may)
 
 module _ (k : Table) (looks : ℕ → List Transition) where

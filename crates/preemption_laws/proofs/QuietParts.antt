@@ -13,15 +13,14 @@ use Rattle.chart_machine.specs.Table.{table}
 use Rattle.chart_machine.specs.Steps.{step}
 use Rattle.chart_machine.specs.Machine.{machine}
 use Rattle.abort_expansion.specs.Expansion.{expanded}
-use Rattle.abort_expansion_laws.specs.CoreRows.{Images}
 use Rattle.abort_expansion_laws.specs.Segments.{Follows, Segment}
 use Rattle.abort_expansion_laws.specs.Stages.{Entry, Image, Watched, Silent, Correspondence, core_act, chart_log, EachFits, HasStage, ReachedAfter}
 use Rattle.abort_expansion_laws.specs.Stages.{Climbs, Overwrites, IsSpared, EachSpared}
 use Rattle.abort_expansion_laws.proofs.FlagStages.{FlagStages, usual}
 use Rattle.abort_expansion_laws.proofs.FreeFlags.{EachFitsFreely}
-use Rattle.abort_expansion_laws.proofs.PreemptionKept.{ToldHere}
-use Rattle.abort_expansion_laws.proofs.Simulation.{chart_on, follows_on}
-use Rattle.abort_expansion_laws.proofs.TickFollowed as ticks
+use Rattle.abort_expansion_laws.proofs.ToldSteps.{ToldHere}
+use Rattle.abort_expansion_laws.proofs.Segments.{chart_on, follows_on}
+use Rattle.abort_expansion_laws.proofs.TicksOfCharts as ticks
 use Rattle.preemption_laws.proofs.QuietSteps.{quiet_machine, looks, IsWeakFlag, KnowsLooks, AreUsual, silenced, quiet, quiet_fits, quiet_acts}
 
 -- ---- logs that are alike but for what silent steps do
@@ -70,14 +69,8 @@ like_chart [] (z ∷ others) like = absurd like
 like_chart (y ∷ log) [] like = absurd like
 
 module _ (c : Chart) (rules : IsChart features.Extended c) (core_rules : IsChart features.Core (expanded c)) where
-  abbrev k : Table
-  k = table c
-
   abbrev core : Table
   core = table (expanded c)
-
-  abbrev i : Images
-  i = ticks.i c rules core_rules
 
   abbrev corr : Correspondence
   corr = ticks.corr c rules core_rules

@@ -1,9 +1,8 @@
 -- Steps of a core chart's run that stand for steps of its chart, with looks at weak flags silenced: nobody reads a weak flag any more but the thread of the
 -- region that holds its superstate, so at which stage it is written is free.
-use Rattle.std.proofs.Common.{◌≡◌, ℕ, ◌<◌, ◌≤◌, ◌⊎◌, inl, inr, ⊎_elim, Bool, true, false, ◌||◌, if◌then◌else◌, Option, Some, None, List, [], ◌∷◌}
+use Rattle.std.proofs.Common.{◌≡◌, ℕ, ◌<◌, ◌≤◌, ◌⊎◌, inl, inr, ⊎_elim, Bool, true, false, ◌||◌, if◌then◌else◌, Option, Some, List, [], ◌∷◌}
 use Rattle.std.proofs.Common.{refl, sym, ap, subst, ◌∙◌, arith, length}
 use Rattle.std.specs.List.{list_any}
-use Rattle.std.proofs.lemmas.Bool.Decides.{Decides-eqb}
 use Rattle.sc_values.specs.declared.operator.Combination.{Combination}
 use Rattle.sc_values.specs.Access.{Access, Reads, no_access}
 use Rattle.sc_values.specs.Runs.{Machine, Act, act_of}
@@ -23,11 +22,11 @@ use Rattle.abort_expansion_laws.specs.CoreRows.{Images, CoreRows}
 use Rattle.abort_expansion_laws.specs.Stages.{Entry, Image, Watched, Silent, Correspondence, Touches, InitsFlag, UpdatesFlag, ReadsFlag, IsSilent}
 use Rattle.abort_expansion_laws.specs.Stages.{Fits, core_act}
 use Rattle.abort_expansion_laws.proofs.FlagNumbers.{is_it, is_it_self}
-use Rattle.abort_expansion_laws.proofs.FlagStages.{FlagStages, usual, early_stages, is_early, staged}
+use Rattle.abort_expansion_laws.proofs.FlagStages.{FlagStages, usual, early_stages, is_early, staged, it_is}
 use Rattle.abort_expansion_laws.proofs.FreeFlags.{InitsFreely, ReadsFreely, IsSilentFreely, FitsFreely}
 use Rattle.abort_expansion_laws.proofs.MoreRows.{counter_rows, opening_rows, stage_of_write}
 use Rattle.chart_machine_laws.proofs.LyingIn.{none_in}
-use Rattle.abort_expansion_laws.proofs.TickFollowed as ticks
+use Rattle.abort_expansion_laws.proofs.TicksOfCharts as ticks
 use Rattle.preemption_laws.specs.Looks.{looks_of}
 use Rattle.preemption_laws.specs.Waiting.{is_waiting, wait_access}
 
@@ -42,10 +41,6 @@ module _ (k : Table) (looks : ℕ → List Transition) where
         access = wait_access k looks;
         ForkedApart = ForkedApart k;
       }
-
-it_is : (o : Option ℕ) (x : ℕ) → is_it o x ≡ true → o ≡ Some x
-it_is None x e = absurd cc
-it_is (Some y) x e = ap Some ((Decides-eqb y x).0 e)
 
 -- one that is among these
 any_found : (p : ℕ → Bool) (xs : List ℕ) → list_any p xs ≡ true → (x : ℕ) × (p x ≡ true)

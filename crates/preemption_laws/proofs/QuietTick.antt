@@ -24,21 +24,22 @@ use Rattle.abort_expansion_laws.specs.Stages.{Entry, Correspondence, Climbs, Non
 use Rattle.abort_expansion_laws.proofs.FlagStages.{usual, early_stages}
 use Rattle.abort_expansion_laws.proofs.OwnTests.{OwnTests}
 use Rattle.abort_expansion_laws.proofs.Owed.{Resting, Started}
-use Rattle.abort_expansion_laws.proofs.PreemptionFollows.{SparesTests, BothRest, started}
-use Rattle.abort_expansion_laws.proofs.PreemptionKept.{ToldHere, own_tests_kept}
+use Rattle.abort_expansion_laws.proofs.BetweenTicks.{SparesTests, BothRest, started}
+use Rattle.abort_expansion_laws.proofs.OwnTestsKept.{own_tests_kept}
 use Rattle.abort_expansion_laws.proofs.RowsOfCharts as whole
-use Rattle.abort_expansion_laws.proofs.Simulation.{follows_replay, follows_acts}
+use Rattle.abort_expansion_laws.proofs.Segments.{follows_replay, follows_acts}
 use Rattle.abort_expansion_laws.proofs.StagesKept.{stages_kept_freely}
 use Rattle.abort_expansion_laws.proofs.StepsByCase.{each_step_followed}
 use Rattle.abort_expansion_laws.proofs.StillBegun.{HasBegun, charts_stay_begun}
 use Rattle.abort_expansion_laws.proofs.TablesCorrespond.{is_pair}
 use Rattle.abort_expansion_laws.proofs.TestsSpared.{tests_are_spared}
-use Rattle.abort_expansion_laws.proofs.TickFollowed as ticks
+use Rattle.abort_expansion_laws.proofs.TicksOfCharts as ticks
 use Rattle.abort_expansion_laws.proofs.TicksBegin.{ticks_begin}
 use Rattle.abort_expansion_laws.proofs.TicksFinish.{ticks_finish}
-use Rattle.abort_expansion_laws.proofs.ToldSteps.{told_silent}
+use Rattle.abort_expansion_laws.proofs.ToldSteps.{told_silent, ToldHere}
 use Rattle.preemption_laws.proofs.QuietParts.{Part, part_on, quieted, like_spared}
 use Rattle.preemption_laws.proofs.QuietSteps.{quiet_machine, looks, IsWeakFlag, KnowsLooks, usual_are, early_are}
+use Rattle.reaction_laws.proofs.ByRank.{holds_along}
 
 module _ (c : Chart) (rules : IsChart features.Extended c) (core_rules : IsChart features.Core (expanded c)) (Sound : Configuration → Type 0)
     (knows : KnowsLooks c rules core_rules Sound) where
@@ -135,18 +136,6 @@ module _ (c : Chart) (rules : IsChart features.Extended c) (core_rules : IsChart
           quieted c rules core_rules Sound knows (usual c rules core_rules) (usual_are c rules core_rules) d NoneReached (Stages now) []
           (Related k core i now) sound (ticks_begin c rules core_rules (usual c rules core_rules) Told (told_silent k core i) now d starts)
 
-  owns_next : (r : ℕ) (run : List ℕ) (now last : Configuration) → OwnTests k now →
-      ((next : Configuration) → OwnTests k next → replay (machine k) run next ≡ Some last → OwnTests k last) → (next : Option Configuration) →
-      step k r now ≡ next → replay (machine k) (r ∷ run) now ≡ Some last → OwnTests k last
-  owns_next r run now last own rest None e goes =
-      let none : option_and_then (replay (machine k) run) None ≡ Some last = ap (option_and_then (replay (machine k) run)) (sym e) ∙ goes in absurd cc
-  owns_next r run now last own rest (Some next) e goes =
-      rest next ((own_tests_kept c rules core_rules).steps now next r own e) (ap (option_and_then (replay (machine k) run)) (sym e) ∙ goes)
-
-  owns_on : (run : List ℕ) (now last : Configuration) → OwnTests k now → replay (machine k) run now ≡ Some last → OwnTests k last
-  owns_on [] now last own runs = subst (OwnTests k) (same_Some now last runs) own
-  owns_on (r ∷ run) now last own runs = owns_next r run now last own (λ next. owns_on run next last) (step k r now) refl runs
-
   -- a run of the core that follows the chart's tick to its end, and is ordered but for looks
   pub record QuietRun (d last : Configuration) : Type 0 where
     pub run : List ℕ
@@ -163,7 +152,7 @@ module _ (c : Chart) (rules : IsChart features.Extended c) (core_rules : IsChart
 
     abbrev pub BothRestHere : Configuration → Configuration → Type 0
     BothRestHere =
-        BothRest c rules core_rules (AreAccepted image.program) Told (told_silent k core i) spares (OwnTests k) (own_tests_kept c rules core_rules)
+        BothRest c rules core_rules (AreAccepted image.program) Told spares (OwnTests k)
 
     pub quiet_run : (inputs : Inputs) (before last d : Configuration) → AreAccepted image.program inputs → BothRestHere before d →
         Sound (start core inputs d) → Ends (machine k) (start k inputs before) last → QuietRun (start core inputs d) last
@@ -181,7 +170,9 @@ module _ (c : Chart) (rules : IsChart features.Extended c) (core_rules : IsChart
               (ticks.written_at c rules core_rules)) (IsWeakFlag c rules core_rules) s.log s.fits spared climbs
               (subst (IsOrdered (ForkedApart k)) (sym s.charted) ends.admissible));
           rested = record { rests = s.reaches; over = ends.complete.over };
-          owns = owns_on ends.run (start k inputs before) last owned ends.complete.runs;
+          owns =
+              holds_along (machine k) (OwnTests k) (own_tests_kept c rules core_rules).steps ends.run (start k inputs before) last owned
+              ends.complete.runs;
           sound = s.sound;
         }
       where
@@ -191,8 +182,7 @@ module _ (c : Chart) (rules : IsChart features.Extended c) (core_rules : IsChart
         s : Parts (start core inputs d) NoneReached (Stages last) (acts (machine k) ends.run (start k inputs before)) (RestsThere last)
         s =
             tick_part (start k inputs before) last (start core inputs d)
-            (started c rules core_rules (AreAccepted image.program) Told (told_silent k core i) spares (OwnTests k) (own_tests_kept c rules core_rules)
-            inputs before d both.alike) owned sound ends
+            (started c rules core_rules inputs before d both.alike) owned sound ends
 
         climbs : Climbs corr NoneReached s.log
         climbs = subst (Climbs corr NoneReached) (append-nil s.log) (s.climbs [] tt)

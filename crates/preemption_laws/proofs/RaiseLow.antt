@@ -30,26 +30,24 @@ use Rattle.scl_graph.specs.Graph.{program_of}
 use Rattle.abort_expansion.specs.Transitions.{put, is_raised}
 use Rattle.abort_expansion_laws.proofs.FlagAccess.{put_access}
 use Rattle.abort_expansion_laws.proofs.Supplying.{sets}
+use Rattle.abort_expansion_laws.proofs.Unchanged.{not_both}
 use Rattle.chart_lowering_laws.specs.Laws.{IsLowering}
 use Rattle.reaction_laws.specs.StepNodes.{AtOwnNode}
 use Rattle.reaction_laws.proofs.LinesAhead.{LowAhead}
+use Rattle.reaction_laws.proofs.ApartTogether.{present_apart}
 use Rattle.preemption_laws.specs.Looks.{look, Looks}
 use Rattle.preemption_laws.specs.Waiting.{holds}
 use Rattle.preemption_laws.proofs.CoreTries.{held, writes}
 use Rattle.preemption_laws.proofs.FlagsStayDown.{raised_same, raised_reads}
 use Rattle.preemption_laws.proofs.GraphMoves.{apart_there}
-use Rattle.preemption_laws.proofs.Ground.{Ground}
-use Rattle.preemption_laws.proofs.LookNodes.{LookNode}
+use Rattle.preemption_laws.proofs.Ground.{Ground, enclosed_on}
+use Rattle.preemption_laws.proofs.LookNodes.{LookNode, trying_outside}
 use Rattle.preemption_laws.proofs.OneWrite.{MakesEffect, one_write}
-use Rattle.preemption_laws.proofs.PresentApart.{present_apart}
-use Rattle.preemption_laws.proofs.StaysThere.{not_both, is_within, within_around}
+use Rattle.preemption_laws.proofs.StaysThere.{is_within, within_around}
 use Rattle.preemption_laws.proofs.WaitLow.{Stands, join_at, at_node}
 
 trying_acting : (s u p : ℕ) (ts : List Transition) (es : List Effect) → at.Trying s ts ≡ at.Acting u es p → ⊥
 trying_acting s u p ts es e = absurd cc
-
-trying_out : (s : ℕ) (ts : List Transition) → at.Trying s ts ≡ at.Outside → ⊥
-trying_out s ts e = absurd cc
 
 acting_out : (u p : ℕ) (es : List Effect) → at.Acting u es p ≡ at.Outside → ⊥
 acting_out u p es e = absurd cc
@@ -70,7 +68,7 @@ module _ (e : Chart) (p : Scl) (q : Tables) (low : IsLowering e p) (valid : IsVa
       (u v s x : ℕ) (ts : List Transition) (stands : standing_of c u ≡ at.Trying s ts) (seen : Contains (l.seen s) x) (out : ¬ LiesIn K u t)
       (node : LookNode G q u x (join_at e p q low valid looks l g v)) where
     u_here : standing_of c u ≢ at.Outside
-    u_here is = trying_out s ts (sym stands ∙ is)
+    u_here is = trying_outside s ts (sym stands ∙ is)
 
     module _ (w : MakesEffect (standing_of c t)) where
       now : access_of (standing_of c t) ≡ access_of (at.Acting w.state (w.effect ∷ w.effects) w.target)
@@ -100,7 +98,7 @@ module _ (e : Chart) (p : Scl) (q : Tables) (low : IsLowering e p) (valid : IsVa
         own = all.nodes t on some
 
         apart : (a : ℕ) × ForkedApart K t u a
-        apart = present_apart K looks l g c all.sound.core t u t_here u_here t_out out
+        apart = present_apart K g.tree g.holder_there c (enclosed_on K g c all.sound.core.sits) t u t_here u_here t_out out
 
         before : Precedes (accesses G own.node) (accesses G node.node)
         before =

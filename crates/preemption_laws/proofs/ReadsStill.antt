@@ -1,5 +1,5 @@
 -- What a region of a core chart has yet to read: if it is no look its state has it, as the table has it. Steps keep this, and starts of ticks make it.
-use Rattle.std.proofs.Common.{◌≡◌, ℕ, zero, suc, ◌<◌, Bool, true, false, Some, List, [], ◌∷◌, ◌++◌, map, length, Contains, refl, sym, ap}
+use Rattle.std.proofs.Common.{◌≡◌, ℕ, suc, ◌<◌, Bool, true, false, Some, List, [], ◌∷◌, ◌++◌, map, length, Contains, refl, sym, ap}
 use Rattle.std.proofs.Common.{subst, ◌∙◌, arith}
 use Rattle.std.specs.List.{list_all}
 use Rattle.std.proofs.lemmas.List.{length-append}
@@ -26,10 +26,10 @@ use Rattle.abort_expansion_laws.proofs.ChartSteps.{Makes, takes_trying, takes_en
 use Rattle.abort_expansion_laws.proofs.ChartSteps.{waits_on, acts_on, StepMade, step_made}
 use Rattle.abort_expansion_laws.proofs.FreshInside.{nobody_there}
 use Rattle.abort_expansion_laws.proofs.Leaving.{at_number}
-use Rattle.reaction_laws.proofs.SitsAtStart.{Tops}
+use Rattle.abort_expansion_laws.proofs.WokenConfigurations.{woken_at}
+use Rattle.reaction_laws.proofs.SitsAtStart.{Tops, all_out}
 use Rattle.preemption_laws.specs.Looks.{look, Looks}
 use Rattle.preemption_laws.specs.Waiting.{is_waiting}
-use Rattle.preemption_laws.proofs.CoreTries.{outside_all}
 use Rattle.preemption_laws.proofs.FitsThere.{entered_fits, each_entered_fits, all_dropped, all_moved_fit}
 use Rattle.preemption_laws.proofs.Forms.{closing_are, first_closing_are, at_once_last}
 use Rattle.preemption_laws.proofs.Ground.{Ground, MayOn, apart_on}
@@ -157,11 +157,6 @@ module _ (k : Table) (looks : ℕ → List Transition) (l : Looks k looks) (g : 
   pub reads_initially : AllRead (initial k)
   reads_initially r = subst ReadsSo (sym (nobody_there k r)) tt
 
-  woken_there : (zs : List Standing) (q : ℕ) → at_number (map (woken k) zs) q ≡ woken k (at_number zs q)
-  woken_there [] q = refl
-  woken_there (z ∷ zs) zero = refl
-  woken_there (z ∷ zs) (suc q) = woken_there zs q
-
   not_guarding : (s : ℕ) → guarded_first s (strong_aborts (own k s)) (closing_tests (own k s)) ≡ at.Within s (closing_tests (own k s))
   not_guarding s = ap (λ ts. guarded_first s ts (closing_tests (own k s))) (l.no_strong s)
 
@@ -184,8 +179,8 @@ module _ (k : Table) (looks : ℕ → List Transition) (l : Looks k looks) (g : 
           (λ x h. entered_so x (tops.states x h).0))
 
       by : (b : Bool) → list_all is_outside c.regions ≡ b → ReadsSo (at_number (regions_at_start k b c.regions) r)
-      by true e = moved_so k.opened c.regions opened_so (λ q. subst ReadsSo (sym (outside_all k looks l g tops c.regions e q)) tt) r
-      by false e = subst ReadsSo (sym (woken_there c.regions r)) (woken_so (at_number c.regions r) (all r))
+      by true e = moved_so k.opened c.regions opened_so (λ q. subst ReadsSo (sym (all_out c.regions e q)) tt) r
+      by false e = subst ReadsSo (sym (woken_at k c.regions r)) (woken_so (at_number c.regions r) (all r))
 
   -- ---- what is read next
 

@@ -1,5 +1,5 @@
 -- Two configurations of a chart in which nobody is enabled, and which are one to the machine that waits, are one.
-use Rattle.std.proofs.Common.{◌≡◌, ℕ, suc, Bool, true, false, ◌||◌, List, [], ◌∷◌, length, refl, sym, ap, ap₂}
+use Rattle.std.proofs.Common.{◌≡◌, ℕ, Bool, true, false, ◌||◌, List, [], ◌∷◌, length, refl, sym, ap, ap₂}
 use Rattle.std.proofs.Common.{◌∙◌, arith}
 use Rattle.std.proofs.lemmas.List.{length-map}
 use Rattle.sc_values.specs.Runs.{IsOver}
@@ -11,16 +11,10 @@ use Rattle.chart_machine.specs.declared.table.Table.{Table}
 use Rattle.chart_machine.specs.Machine.{machine}
 use Rattle.chart_machine.specs.Turns.{standing_of, guards, is_guarded, is_enabled}
 use Rattle.chart_machine_laws.specs.Tree.{around, holder}
-use Rattle.abort_expansion_laws.proofs.Leaving.{at_number}
 use Rattle.preemption_laws.specs.Waiting.{waiting_at, still}
-use Rattle.preemption_laws.proofs.Erased.{still_at}
-use Rattle.preemption_laws.proofs.StaysThere.{not_both}
-
-all_same : (xs ys : List Standing) → length xs ≡ length ys → ((q : ℕ) → at_number xs q ≡ at_number ys q) → xs ≡ ys
-all_same [] [] size each = refl
-all_same [] (y ∷ ys) size each = absurd (omega (size, arith))
-all_same (x ∷ xs) [] size each = absurd (omega (size, arith))
-all_same (x ∷ xs) (y ∷ ys) size each = ap₂ (λ z zs. z ∷ zs) (each 0) (all_same xs ys (omega (size, arith)) (λ q. each (suc q)))
+use Rattle.preemption_laws.proofs.StillConfigurations.{stands_still}
+use Rattle.reaction_laws.proofs.StepsSwap.{all_same}
+use Rattle.abort_expansion_laws.proofs.Unchanged.{not_both}
 
 abbrev is_trying : Standing → Bool
 is_trying (at.Trying s tests) = true
@@ -93,7 +87,7 @@ module _ (k : Table) (looks : ℕ → List Transition) where
 
   module _ (c d : Configuration) (same : still k looks c ≡ still k looks d) where
     at_each : (q : ℕ) → W (standing_of c q) ≡ W (standing_of d q)
-    at_each q = sym (still_at k looks c q) ∙ (ap (λ z. standing_of z q) same ∙ still_at k looks d q)
+    at_each q = sym (stands_still k looks c q) ∙ (ap (λ z. standing_of z q) same ∙ stands_still k looks d q)
 
     guarded_same : (zs : List ℕ) → is_guarded k c zs ≡ is_guarded k d zs
     guarded_same [] = refl

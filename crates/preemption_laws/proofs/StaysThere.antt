@@ -17,6 +17,8 @@ use Rattle.tick_laws.proofs.Lists.{list_all_at}
 use Rattle.abort_expansion_laws.proofs.ChartSteps.{StepMade, step_made}
 use Rattle.abort_expansion_laws.proofs.KnownVariables.{Stepped, stepped}
 use Rattle.abort_expansion_laws.proofs.Leaving.{at_number}
+use Rattle.abort_expansion_laws.proofs.SettledInOrder.{ended_back}
+use Rattle.abort_expansion_laws.proofs.Unchanged.{not_both}
 use Rattle.reaction_laws.proofs.ApartTogether.{IsOpen, open_guarding, open_within, Through, through}
 use Rattle.reaction_laws.proofs.MovesInside.{moves_inside}
 use Rattle.preemption_laws.specs.Looks.{Looks}
@@ -24,31 +26,13 @@ use Rattle.preemption_laws.proofs.Forms.{InForm}
 use Rattle.preemption_laws.proofs.Ground.{Ground, enclosed_on}
 use Rattle.preemption_laws.proofs.SoundCores.{IsCore}
 
-pub not_both : (b : Bool) → b ≡ true → b ≡ false → ⊥
-not_both true e f = absurd cc
-not_both false e f = absurd cc
-
 abbrev pub is_within : Standing → Bool
 is_within (at.Within s tests) = true
 is_within other = false
 
--- ends are told
-ended_is : (x : Standing) → has_ended x ≡ true → x ≡ at.Ended
-ended_is at.Ended h = refl
-ended_is at.Outside h = absurd cc
-ended_is (at.Trying s tests) h = absurd cc
-ended_is (at.Entering s tests) h = absurd cc
-ended_is (at.Guarding s tests) h = absurd cc
-ended_is (at.Within s tests) h = absurd cc
-ended_is (at.Acting s effects p) h = absurd cc
-
 open_not_ended : (s : ℕ) (x : Standing) → IsOpen s x → x ≡ at.Ended → ⊥
 open_not_ended s _ (open_guarding tests) e = absurd cc
 open_not_ended s _ (open_within tests) e = absurd cc
-
-open_not_outside : (s : ℕ) (x : Standing) → IsOpen s x → x ≡ at.Outside → ⊥
-open_not_outside s _ (open_guarding tests) e = absurd cc
-open_not_outside s _ (open_within tests) e = absurd cc
 
 -- who is there, and has not ended
 pub record IsGoing (c : Configuration) (r : ℕ) : Type 0 where
@@ -91,7 +75,7 @@ module _ (k : Table) (looks : ℕ → List Transition) (l : Looks k looks) (g : 
 
         ended : standing_of c w.side ≡ at.Ended
         ended =
-            ended_is (standing_of c w.side)
+            ended_back (standing_of c w.side)
             (list_all_at (λ q. has_ended (standing_of c q)) (state_at k v).regions w.side over (g.tree.innermost w.side v w.rest w.directly))
 
         by : LiesIn k r w.side → ⊥

@@ -1,9 +1,10 @@
 -- A step of the waiting machine, taken apart: a region that waits leaves, or one that does not steps as in the core chart. Who is enabled has its turn in
 -- the core chart, too.
-use Rattle.std.proofs.Common.{◌≡◌, ◌≢◌, ℕ, suc, ◌⊎◌, inl, inr, ⊎_elim, Bool, true, false, Some, List, [], ◌∷◌, length, slice_set}
-use Rattle.std.proofs.Common.{if◌then◌else◌, refl, sym, ap, ap₂, subst, ◌∙◌, arith}
+use Rattle.std.proofs.Common.{◌≡◌, ◌≢◌, ℕ, ◌⊎◌, inl, inr, ⊎_elim, Bool, true, false, Some, List, [], ◌∷◌, length, slice_set}
+use Rattle.std.proofs.Common.{if◌then◌else◌, refl, sym, ap, subst, ◌∙◌, arith}
 use Rattle.std.proofs.lemmas.Bool.{cases_lt}
 use Rattle.std.proofs.lemmas.Option.{same_Some}
+use Rattle.std.proofs.lemmas.List.{length-set}
 use Rattle.sc_values.specs.declared.value.Value.{Value}
 use Rattle.sc_graph.specs.Steps.{only_if}
 use Rattle.core_charts.specs.declared.region.Transition.{Transition}
@@ -18,10 +19,11 @@ use Rattle.tick_laws.proofs.Lists.{same_or_not}
 use Rattle.tick_laws.proofs.Views.{only_if_some}
 use Rattle.abort_expansion_laws.proofs.ChartSteps.{StepMade, step_made}
 use Rattle.abort_expansion_laws.proofs.FreshInside.{moved_alike}
-use Rattle.abort_expansion_laws.proofs.Leaving.{at_number, set_here, set_other, set_length, moved_size}
+use Rattle.abort_expansion_laws.proofs.Leaving.{at_number, set_here, set_other, moved_size}
+use Rattle.abort_expansion_laws.proofs.NumberedRegions.{past_number}
 use Rattle.reaction_laws.proofs.ApartTogether.{not_in}
 use Rattle.reaction_laws.proofs.MovesInside.{moves_inside}
-use Rattle.reaction_laws.proofs.StandsStill.{past_number}
+use Rattle.reaction_laws.proofs.StepsSwap.{all_same}
 use Rattle.preemption_laws.specs.Looks.{Looks}
 use Rattle.preemption_laws.specs.Waiting.{is_waiting, sees, gone, may_step, wait_step}
 use Rattle.preemption_laws.proofs.FitsThere.{all_moved_fit}
@@ -33,23 +35,17 @@ use Rattle.preemption_laws.proofs.SoundCores.{IsSound, sound_still, there_of}
 
 -- ---- lists of standings
 
-all_same : (xs ys : List Standing) → length xs ≡ length ys → ((q : ℕ) → at_number xs q ≡ at_number ys q) → xs ≡ ys
-all_same [] [] size each = refl
-all_same [] (y ∷ ys) size each = absurd (omega (size, arith))
-all_same (x ∷ xs) [] size each = absurd (omega (size, arith))
-all_same (x ∷ xs) (y ∷ ys) size each = ap₂ (λ z zs. z ∷ zs) (each 0) (all_same xs ys (omega (size, arith)) (λ q. each (suc q)))
-
 -- a region may end before or after moves of others
 pub ends_before : (ms : List Move) (t : ℕ) (zs : List Standing) →
     at_number (moved ms (slice_set zs t at.Ended)) t ≡ at_number (slice_set zs t at.Ended) t →
     slice_set (moved ms zs) t at.Ended ≡ moved ms (slice_set zs t at.Ended)
 ends_before ms t zs stays =
     all_same (slice_set (moved ms zs) t at.Ended) (moved ms (slice_set zs t at.Ended))
-    (set_length (moved ms zs) t at.Ended ∙ (moved_size ms zs ∙ (sym (set_length zs t at.Ended) ∙ sym (moved_size ms (slice_set zs t at.Ended)))))
+    (length-set (moved ms zs) t at.Ended ∙ (moved_size ms zs ∙ (sym (length-set zs t at.Ended) ∙ sym (moved_size ms (slice_set zs t at.Ended)))))
     (λ q. ⊎_elim (λ same. subst (λ p. at_number (slice_set (moved ms zs) t at.Ended) p ≡ at_number (moved ms (slice_set zs t at.Ended)) p) (sym same) here)
     (λ ne.
     set_other (moved ms zs) t q at.Ended ne
-    ∙ sym (moved_alike ms (slice_set zs t at.Ended) zs q (set_length zs t at.Ended) (set_other zs t q at.Ended ne))) (same_or_not q t))
+    ∙ sym (moved_alike ms (slice_set zs t at.Ended) zs q (length-set zs t at.Ended) (set_other zs t q at.Ended ne))) (same_or_not q t))
   where
     here : at_number (slice_set (moved ms zs) t at.Ended) t ≡ at_number (moved ms (slice_set zs t at.Ended)) t
     here =
@@ -59,8 +55,8 @@ ends_before ms t zs stays =
         ∙ sym (stays ∙ set_here zs t at.Ended lt))
         (λ past.
         past_number (slice_set (moved ms zs) t at.Ended) t
-        (let size = moved_size ms zs in let set_size = set_length (moved ms zs) t at.Ended in omega (size, set_size, past, arith))
-        ∙ sym (stays ∙ past_number (slice_set zs t at.Ended) t (let size = set_length zs t at.Ended in omega (size, past, arith))))
+        (let size = moved_size ms zs in let set_size = length-set (moved ms zs) t at.Ended in omega (size, set_size, past, arith))
+        ∙ sym (stays ∙ past_number (slice_set zs t at.Ended) t (let size = length-set zs t at.Ended in omega (size, past, arith))))
         (cases_lt t (length zs))
 
 module _ (k : Table) (looks : ℕ → List Transition) where
@@ -152,7 +148,7 @@ module _ (k : Table) (looks : ℕ → List Transition) where
                 (subst (IsNormal k looks) (sym (set_here c.regions t at.Ended lt)) refl))
                 (λ past.
                 subst (IsNormal k looks)
-                (sym (past_number (slice_set c.regions t at.Ended) q (let size = set_length c.regions t at.Ended in omega (size, past, same, arith)))) refl)
+                (sym (past_number (slice_set c.regions t at.Ended) q (let size = length-set c.regions t at.Ended in omega (size, past, same, arith)))) refl)
                 (cases_lt t (length c.regions))
 
     pub kept : (c d : Configuration) (t : ℕ) → IsSound k looks l g c → wait_step k looks t c ≡ Some d → IsSound k looks l g d

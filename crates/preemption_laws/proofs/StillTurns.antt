@@ -16,6 +16,7 @@ use Rattle.tick_laws.proofs.Lists.{list_all_at}
 use Rattle.abort_expansion_laws.specs.CoreRows.{own}
 use Rattle.abort_expansion_laws.proofs.InsideAround.{inside_around, all_from}
 use Rattle.abort_expansion_laws.proofs.Leaving.{at_number}
+use Rattle.abort_expansion_laws.proofs.Unchanged.{not_both}
 use Rattle.reaction_laws.proofs.ApartTogether.{Through, through, IsOpen, open_guarding, open_within}
 use Rattle.reaction_laws.proofs.MovesInside.{LeadIn}
 use Rattle.preemption_laws.specs.Looks.{Looks}
@@ -24,6 +25,7 @@ use Rattle.preemption_laws.proofs.Forms.{InForm, TestsWell, looks_behind, own_we
 use Rattle.preemption_laws.proofs.Ground.{Ground, MayOn, enclosed_on}
 use Rattle.preemption_laws.proofs.NormalForms.{goes_normal, normal_then, waiting_is}
 use Rattle.preemption_laws.proofs.SoundCores.{IsCore, IsSound, not_guarded}
+use Rattle.preemption_laws.proofs.StillConfigurations.{stands_still}
 
 -- the last of what holds for all of a list
 each_last : {A : Type 0} (P : List A → Type 0) → ((x : A) (xs : List A) → P (x ∷ xs) → P xs) → (front back : List A) → P (front ++ back) → P back
@@ -31,14 +33,6 @@ each_last P less [] back h = h
 each_last P less (x ∷ front) back h = each_last P less front back (less x (front ++ back) h)
 
 module _ (k : Table) (looks : ℕ → List Transition) where
-  pub still_at : (zs : List Standing) (q : ℕ) → at_number (map (waiting_at k looks) zs) q ≡ waiting_at k looks (at_number zs q)
-  still_at [] q = refl
-  still_at (z ∷ zs) zero = refl
-  still_at (z ∷ zs) (suc q) = still_at zs q
-
-  pub stands_still : (c : Configuration) (q : ℕ) → standing_of (still k looks c) q ≡ waiting_at k looks (standing_of c q)
-  stands_still c q = still_at c.regions q
-
   pub still_set : (zs : List Standing) (q : ℕ) (x : Standing) →
       map (waiting_at k looks) (slice_set zs q x) ≡ slice_set (map (waiting_at k looks) zs) q (waiting_at k looks x)
   still_set [] q x = refl
@@ -46,7 +40,7 @@ module _ (k : Table) (looks : ℕ → List Transition) where
   still_set (z ∷ zs) (suc q) x = ap (λ ys. waiting_at k looks z ∷ ys) (still_set zs q x)
 
   pub goes_there : (c : Configuration) (q : ℕ) → is_waiting k looks (standing_of c q) ≡ false → standing_of (still k looks c) q ≡ standing_of c q
-  goes_there c q goes = stands_still c q ∙ goes_normal k looks (standing_of c q) goes
+  goes_there c q goes = stands_still k looks c q ∙ goes_normal k looks (standing_of c q) goes
 
   same_end : (x : Standing) → has_ended (waiting_at k looks x) ≡ has_ended x
   same_end at.Outside = refl
@@ -111,24 +105,20 @@ module _ (k : Table) (looks : ℕ → List Transition) where
           core = record {
             sits = record {
               size = length-map c.regions (waiting_at k looks) ∙ is.sits.size;
-              chart_out = stands_still c 0 ∙ ap (waiting_at k looks) is.sits.chart_out;
+              chart_out = stands_still k looks c 0 ∙ ap (waiting_at k looks) is.sits.chart_out;
               next = λ q u us round there.
-                  subst (IsOpen u) (sym (stands_still c (holder k u)))
+                  subst (IsOpen u) (sym (stands_still k looks c (holder k u)))
                   (same_open u (standing_of c (holder k u))
-                  (is.sits.next q u us round (same_out (standing_of c q) (λ out. there (stands_still c q ∙ out)))));
-              stands = λ r. subst (MayOn k g r) (sym (stands_still c r)) (may_still r (standing_of c r) (is.sits.stands r));
+                  (is.sits.next q u us round (same_out (standing_of c q) (λ out. there (stands_still k looks c q ∙ out)))));
+              stands = λ r. subst (MayOn k g r) (sym (stands_still k looks c r)) (may_still r (standing_of c r) (is.sits.stands r));
             };
             forms = λ r.
-                subst (InForm k looks l r) (sym (stands_still c r)) (form_still r (standing_of c r) (is.sits.stands r) (is.forms r));
+                subst (InForm k looks l r) (sym (stands_still k looks c r)) (form_still r (standing_of c r) (is.sits.stands r) (is.forms r));
           };
-          normal = λ r. subst (λ x. waiting_at k looks x ≡ x) (sym (stands_still c r)) (normal_then k looks (standing_of c r));
+          normal = λ r. subst (λ x. waiting_at k looks x ≡ x) (sym (stands_still k looks c r)) (normal_then k looks (standing_of c r));
         }
 
     -- ---- turns
-
-    differ : (b : Bool) → b ≡ true → b ≡ false → ⊥
-    differ true e f = absurd cc
-    differ false e f = absurd cc
 
     -- where all regions of a superstate have ended, nobody inside has anything to do
     idle_inside : (c : Configuration) → IsCore k looks l g c → (s : ℕ) → list_all (λ r. has_ended (standing_of c r)) (state_at k s).regions ≡ true → (q : ℕ) →
@@ -160,7 +150,7 @@ module _ (k : Table) (looks : ℕ → List Transition) where
             absurd
             (never_open y (standing_of c w.side)
             (subst (λ r. IsOpen y (standing_of c r)) held
-            ((enclosed_on k g c is.sits).around_open q y inner (λ out. differ (has_work k c (standing_of c q)) e (ap (has_work k c) out)))) over)
+            ((enclosed_on k g c is.sits).around_open q y inner (λ out. not_both (has_work k c (standing_of c q)) e (ap (has_work k c) out)))) over)
 
         by : LiesIn k q w.side → has_work k c (standing_of c q) ≡ false
         by (itself same) = ap (λ r. has_work k c (standing_of c r)) same ∙ ended_works (standing_of c w.side) over
@@ -186,7 +176,7 @@ module _ (k : Table) (looks : ℕ → List Transition) where
     ends_alike : (c : Configuration) (rs : List ℕ) →
         list_all (λ q. has_ended (standing_of (still k looks c) q)) rs ≡ list_all (λ q. has_ended (standing_of c q)) rs
     ends_alike c [] = refl
-    ends_alike c (r ∷ rs) = ap₂ (λ a b. a && b) (ap has_ended (stands_still c r) ∙ same_end (standing_of c r)) (ends_alike c rs)
+    ends_alike c (r ∷ rs) = ap₂ (λ a b. a && b) (ap has_ended (stands_still k looks c r) ∙ same_end (standing_of c r)) (ends_alike c rs)
 
     pub turn_still : (c : Configuration) → IsCore k looks l g c → (r : ℕ) → is_waiting k looks (standing_of c r) ≡ false →
         is_enabled k (still k looks c) r ≡ is_enabled k c r

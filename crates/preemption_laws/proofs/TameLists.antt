@@ -25,7 +25,7 @@ use Rattle.abort_expansion.specs.Transitions.{is_number, is_raised, put, count_d
 use Rattle.abort_expansion.specs.Transitions.{answers, raising}
 use Rattle.abort_expansion_laws.specs.CoreRows.{own, Images, CoreRows, counter_over, joins}
 use Rattle.abort_expansion_laws.proofs.MoreRows.{opening_rows}
-use Rattle.abort_expansion_laws.proofs.TickFollowed as ticks
+use Rattle.abort_expansion_laws.proofs.TicksOfCharts as ticks
 use Rattle.preemption_laws.proofs.TameTransitions.{AtHome, TameTrigger, TameEffect, Mild, Tame, no_trigger, strong_trigger, strong_number}
 use Rattle.preemption_laws.proofs.TameTransitions.{counter_number, weak_number, declared_trigger, declared_effect, count_effect, raise_effect, own_effect}
 

@@ -37,7 +37,7 @@ use Rattle.abort_expansion_laws.proofs.KnownVariables.{known}
 use Rattle.abort_expansion_laws.proofs.MoreRows.{opening_rows}
 use Rattle.abort_expansion_laws.proofs.Resets.{Apart}
 use Rattle.abort_expansion_laws.proofs.Supplying.{tests, tests_at}
-use Rattle.abort_expansion_laws.proofs.TickFollowed as ticks
+use Rattle.abort_expansion_laws.proofs.TicksOfCharts as ticks
 
 -- ---- what is declared has values, and what has a value reads what is declared
 

@@ -1,9 +1,8 @@
 -- The law of weak aborts inside of weak ones, from its parts: tick for tick the core chart ends where the chart does.
-use Rattle.std.proofs.Common.{◌≡◌, ℕ, inr, Some, List, [], ◌∷◌, length, slice_get, sym, ap, subst, ◌∙◌}
+use Rattle.std.proofs.Common.{◌≡◌, inr, Some, List, [], ◌∷◌, length, slice_get, sym, ap, subst, ◌∙◌}
 use Rattle.std.proofs.lemmas.List.{length-map}
-use Rattle.std.proofs.lemmas.Option.{same_Some}
 use Rattle.sc_values.specs.Operator.{kind_of}
-use Rattle.sc_values.specs.Runs.{replay, Ends}
+use Rattle.sc_values.specs.Runs.{Ends}
 use Rattle.sc_graph.specs.Tick.{Inputs, AreAccepted, values_at_start}
 use Rattle.sc_graph.specs.Tick as graph_tick
 use Rattle.core_charts.specs.declared.features.Features.TheVariants as features
@@ -23,15 +22,15 @@ use Rattle.abort_expansion_laws.specs.Preemption.{chart_machine, SeenAlike, HasI
 use Rattle.abort_expansion_laws.specs.Ticks.{Reaction, AllOf, EachAlike, Keeps}
 use Rattle.abort_expansion_laws.proofs.ListsOfTicks.{KeepsTicks, ticks_kept}
 use Rattle.abort_expansion_laws.proofs.OwnTests.{OwnTests}
-use Rattle.abort_expansion_laws.proofs.PreemptionFollows.{begin_resting, seen}
-use Rattle.abort_expansion_laws.proofs.PreemptionKept.{ToldHere, own_tests_kept}
+use Rattle.abort_expansion_laws.proofs.BetweenTicks.{begin_resting, seen}
+use Rattle.abort_expansion_laws.proofs.OwnTestsKept.{own_tests_kept}
 use Rattle.abort_expansion_laws.proofs.RestedCharts.{rested_over}
-use Rattle.abort_expansion_laws.proofs.TickFollowed as ticks
-use Rattle.abort_expansion_laws.proofs.ToldSteps.{told_silent}
+use Rattle.abort_expansion_laws.proofs.TicksOfCharts as ticks
+use Rattle.abort_expansion_laws.proofs.ToldSteps.{ToldHere}
+use Rattle.abort_expansion_laws.proofs.TestsSpared.{takes}
 use Rattle.reaction_laws.specs.Reacts.{ReactsInOneWay}
 use Rattle.reaction_laws.specs.StepNodes.{Alike}
-use Rattle.reaction_laws.proofs.ByRank.{Begins, begins}
-use Rattle.reaction_laws.proofs.ChartRuns.{takes}
+use Rattle.reaction_laws.proofs.ByRank.{begins, holds_along}
 use Rattle.reaction_laws.proofs.OneEnd.{one_end}
 use Rattle.reaction_laws.proofs.RanksOfCharts.{charts_react}
 use Rattle.reaction_laws.proofs.RunsComplete.{start_value, kind_at, reached_on}
@@ -75,20 +74,6 @@ module _ (c : Chart) (rules : IsChart features.Extended c) (image : HasImage c) 
   abbrev Rests : Configuration → Configuration → Type 0
   Rests = RestBoth c rules image low given
 
-  -- ---- along a run
-
-  sound_kept : (run : List ℕ) (d e : Configuration) → Known d → replay (machine core) run d ≡ Some e → Known e
-  sound_kept [] d e sound runs = subst Known (same_Some d e runs) sound
-  sound_kept (t ∷ run) d e sound runs =
-      let b : Begins (machine core) t run d e = begins (machine core) t run d e runs in
-      sound_kept run b.next e (known_still c rules low.core given d b.next t sound b.steps) b.rest
-
-  owns_kept : (run : List ℕ) (now last : Configuration) → OwnTests k now → replay (machine k) run now ≡ Some last → OwnTests k last
-  owns_kept [] now last owns runs = subst (OwnTests k) (same_Some now last runs) owns
-  owns_kept (r ∷ run) now last owns runs =
-      let b : Begins (machine k) r run now last = begins (machine k) r run now last runs in
-      owns_kept run b.next last ((own_tests_kept c rules low.core).steps now b.next r owns b.steps) b.rest
-
   -- ---- a tick
 
   module _ (inputs : Inputs) (before d : Configuration) (accepted : AreAccepted image.program inputs) (rests : Rests before d) where
@@ -96,7 +81,7 @@ module _ (c : Chart) (rules : IsChart features.Extended c) (image : HasImage c) 
     begun = start core inputs d
 
     accepted_too : AreAccepted (parts.G c rules image low) inputs
-    accepted_too = takes c rules low.core image low inputs accepted
+    accepted_too = takes c image inputs accepted
 
     alike : Alike (expanded c) image.scl begun (graph_tick.start (parts.G c rules image low) inputs rests.graph.0)
     alike = tick_starts.starts_alike (expanded c) image.scl image.tables low (parts.valid c rules image low) inputs accepted_too d rests.graph.0 rests.graph.1
@@ -136,7 +121,8 @@ module _ (c : Chart) (rules : IsChart features.Extended c) (image : HasImage c) 
       followed = follows c rules image low given inputs before d accepted rests last ends
 
       sound_at_end : Known e
-      sound_at_end = sound_kept core_ends.run begun e sound_there core_ends.complete.runs
+      sound_at_end =
+          holds_along (machine core) Known (known_still c rules low.core given) core_ends.run begun e sound_there core_ends.complete.runs
 
       one_there : settled followed.0 ≡ settled e
       one_there =
@@ -160,7 +146,9 @@ module _ (c : Chart) (rules : IsChart features.Extended c) (image : HasImage c) 
                 record {
                   alike = inr (subst (ticks.HasRested c rules low.core last) same followed.2);
                   rests = (parts.spares c rules image low).goes_on inputs d e accepted rests.both.rests core_ends;
-                  holds = owns_kept ends.run (start k inputs before) last ((own_tests_kept c rules low.core).starts inputs before rests.both.holds)
+                  holds =
+                      holds_along (machine k) (OwnTests k) (own_tests_kept c rules low.core).steps ends.run (start k inputs before) last
+                      ((own_tests_kept c rules low.core).starts inputs before rests.both.holds)
                       ends.complete.runs;
                 };
             graph =
@@ -176,8 +164,8 @@ module _ (c : Chart) (rules : IsChart features.Extended c) (image : HasImage c) 
   first =
       record {
         both =
-            begin_resting c rules low.core (AreAccepted image.program) (ToldHere c rules low.core) (told_silent k core (parts.i c rules image low))
-            (parts.spares c rules image low) (OwnTests k) (own_tests_kept c rules low.core);
+            begin_resting c rules low.core (AreAccepted image.program) (ToldHere c rules low.core) (parts.spares c rules image low) (OwnTests k)
+            (own_tests_kept c rules low.core);
         graph = (
           graph_tick.initial (parts.G c rules image low),
           tick_starts.begins (expanded c) image.scl image.tables low (parts.valid c rules image low),
@@ -187,9 +175,7 @@ module _ (c : Chart) (rules : IsChart features.Extended c) (image : HasImage c) 
       }
 
   seen_there : (before d : Configuration) → Rests before d → SeenAlike c before d
-  seen_there before d rests =
-      seen c rules low.core (AreAccepted image.program) (ToldHere c rules low.core) (told_silent k core (parts.i c rules image low))
-      (parts.spares c rules image low) (OwnTests k) (own_tests_kept c rules low.core) before d rests.both.alike
+  seen_there before d rests = seen c rules low.core before d rests.both.alike
 
   keeps_ticks : KeepsTicks (chart_machine c) (chart_machine (expanded c)) (AreAccepted image.program) (SeenAlike c)
   keeps_ticks =

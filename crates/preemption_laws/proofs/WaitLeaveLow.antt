@@ -40,6 +40,8 @@ use Rattle.preemption_laws.proofs.LookRuns.{LeaveRun, leave_run}
 use Rattle.preemption_laws.proofs.StaysThere.{is_within, all_ended}
 use Rattle.preemption_laws.proofs.StepsOfWaiting.{gone_sound}
 use Rattle.preemption_laws.proofs.WaitLow.{Low, Stands, join_at, all_have, on_still, on_ended, line_kept, join_kept, leave_kept}
+use Rattle.preemption_laws.proofs.WaitStepLow.{none_left}
+use Rattle.preemption_laws.proofs.LookNodes.{trying_outside}
 
 -- who has ended waits for nothing, and has no turn
 ended_goes : (k : Table) (looks : ℕ → List Transition) (x : Standing) → x ≡ at.Ended → is_waiting k looks x ≡ true → ⊥
@@ -47,12 +49,6 @@ ended_goes k looks x e waits = let wrong = sym (ap (is_waiting k looks) e) ∙ w
 
 ended_idle : (k : Table) (c : Configuration) (x : Standing) → x ≡ at.Ended → has_work k c x ≡ true → ⊥
 ended_idle k c x e works = let wrong = sym (ap (has_work k c) e) ∙ works in absurd cc
-
-none_left : (k : Table) (c : Configuration) (u v : ℕ) → standing_of c u ≡ at.Within v [] → has_work k c (standing_of c u) ≡ true → ⊥
-none_left k c u v is works = let wrong = sym (ap (has_work k c) is) ∙ works in absurd cc
-
-trying_out : (s : ℕ) (ts : List Transition) → at.Trying s ts ≡ at.Outside → ⊥
-trying_out s ts e = absurd cc
 
 module _ (e : Chart) (rules : IsChart features.Core e) (p : Scl) (q : Tables) (low : IsLowering e p) (valid : IsValid (program_of (numbered p)) q)
     (looks : ℕ → List Transition) (l : Looks (table e) looks) (g : Ground (table e)) where
@@ -110,7 +106,7 @@ module _ (e : Chart) (rules : IsChart features.Core e) (p : Scl) (q : Tables) (l
 
     t_place : t < length c.regions
     t_place =
-        let there = (enclosed_on K g c all.sound.core.sits).there t (λ out. trying_out h.state (looks h.state) (sym h.stands ∙ out)) in
+        let there = (enclosed_on K g c all.sound.core.sits).there t (λ out. trying_outside h.state (looks h.state) (sym h.stands ∙ out)) in
         let size = all.sound.core.sits.size in let lt = there.1 in omega (size, lt, arith)
 
     ended : standing_of d t ≡ at.Ended

@@ -1,10 +1,9 @@
 -- The steps of the machine that waits have ranks, from where a graph stands alike: the priorities of its threads, capped.
 use Rattle.std.proofs.Common.{◌≡◌, ◌≢◌, ℕ, ◌<◌, ◌≤◌, inl, ⊎_elim, Bool, true, false, Option, Some, None, List, [], ◌∷◌, length, slice_get, unwrap_or}
 use Rattle.std.proofs.Common.{refl, sym, ap, subst, ◌∙◌, arith}
-use Rattle.std.proofs.Math.Nat.{min-le_right}
 use Rattle.std.proofs.lemmas.Bool.{cases_Bool}
 use Rattle.std.proofs.lemmas.Option.{same_Some, slice_get_within}
-use Rattle.sc_values.specs.Access.{Access, Nothing, no_access, MayPrecede}
+use Rattle.sc_values.specs.Access.{Nothing, no_access, MayPrecede}
 use Rattle.sc_values.specs.Runs.{Machine, replay}
 use Rattle.sc_graph.specs.declared.control.Control.{Control}
 use Rattle.sc_graph.specs.declared.tables.Tables.{Tables}
@@ -36,10 +35,10 @@ use Rattle.reaction_laws.specs.ChartRanks.{HasRanks}
 use Rattle.reaction_laws.specs.OneEnd.{RankedSteps}
 use Rattle.reaction_laws.proofs.ApartTogether.{turn}
 use Rattle.reaction_laws.proofs.ByRank.{Begins, begins}
-use Rattle.reaction_laws.proofs.CappedRanks.{idle_first, capped_are_ranks}
+use Rattle.reaction_laws.proofs.CappedRanks.{idle_first, capped_are_ranks, capped_within}
 use Rattle.reaction_laws.proofs.CappedSteps.{is_idle, idle_is}
 use Rattle.reaction_laws.proofs.RunsComplete.{enabled_there}
-use Rattle.reaction_laws.proofs.StepNodes.{priorities_order_steps}
+use Rattle.reaction_laws.proofs.StepNodes.{priorities_order_steps, does_some}
 use Rattle.preemption_laws.specs.Looks.{Looks}
 use Rattle.preemption_laws.specs.Waiting.{is_waiting, sees, may_step, wait_step, wait_access, waiting_machine}
 use Rattle.preemption_laws.proofs.Ground.{Ground}
@@ -55,10 +54,6 @@ pub record RanksFrom (m : Machine) (c : m.Configuration) : Type 1 where
   pub ranked : RankedSteps m
   pub known : ranked.Known
   pub holds : ranked.Holds c known
-
-capped_within : (free : Bool) (cap n : ℕ) → capped free cap n ≤ cap
-capped_within true cap n = omega arith
-capped_within false cap n = min-le_right n cap
 
 -- who waits is there
 waits_in_place : (k : Table) (looks : ℕ → List Transition) (c : Configuration) (u : ℕ) → is_waiting k looks (standing_of c u) ≡ true → u < length c.regions
@@ -183,11 +178,7 @@ module _ (e : Chart) (rules : IsChart features.Core e) (p : Scl) (q : Tables) (l
         known.lines u goes.turn_now goes.free (no_superstate goes busy) [] k.control refl u (inl (below_self G u))
         (at_node e p q low valid looks l g k.now k.control stands u goes.turn_now (λ none. busy (goes.access ∙ none)))
 
-  some_access : (a : Access) → a.writes ≢ Nothing → a ≢ no_access
-  some_access a writes none = writes (ap (λ (z : Access). z.writes) none)
-
   -- ---- the order of two
-
   module _ (j k : KnownAt) (here : Stands e p q low valid looks l g j.now j.control) (there : Stands e p q low valid looks l g k.now k.control) (t u a : ℕ)
       (on : may_step K looks j.now t ≡ true) (on_too : may_step K looks k.now u ≡ true) (apart : ForkedApart K t u a)
       (writes : (wait_access K looks k.now u).writes ≢ Nothing) (lower : priority_at k u ≤ priority_at j t) where
@@ -195,7 +186,7 @@ module _ (e : Chart) (rules : IsChart features.Core e) (p : Scl) (q : Tables) (l
     in_order = ⊎_elim waits goes (may_by K looks j.now t on)
       where
         second : Goes k there u on_too
-        second = goes_or_idle k there u on_too (some_access (wait_access K looks k.now u) writes)
+        second = goes_or_idle k there u on_too (does_some (wait_access K looks k.now u) writes)
 
         waits : (is_waiting K looks (standing_of j.now t) ≡ true) × (sees K looks j.now (standing_of j.now t) ≡ true) →
             MayPrecede (wait_access K looks j.now t) (wait_access K looks k.now u)
@@ -245,7 +236,7 @@ module _ (e : Chart) (rules : IsChart features.Core e) (p : Scl) (q : Tables) (l
               subst (λ z. wait_access K looks z u ≡ no_access) (sym known.same) (idle_is (wait_access K looks j.now u) idle);
           uncapped = λ x j top u known on writes.
               writes_within j known.stands u (subst (λ z. may_step K looks z u ≡ true) known.same on) top known.known
-              (some_access (wait_access K looks j.now u) (subst (λ z. (wait_access K looks z u).writes ≢ Nothing) known.same writes));
+              (does_some (wait_access K looks j.now u) (subst (λ z. (wait_access K looks z u).writes ≢ Nothing) known.same writes));
           order = λ x y i j top other t u a known known_too on on_too apart writes lower.
               subst (λ z. MayPrecede (wait_access K looks z t) (wait_access K looks y u)) (sym known.same)
               (subst (λ z. MayPrecede (wait_access K looks i.now t) (wait_access K looks z u)) (sym known_too.same)

@@ -1,7 +1,6 @@
 -- As a tick starts nobody has looked at a flag: the configuration is in normal form, and the machine that waits has ranks from there.
-use Rattle.std.proofs.Common.{◌≡◌, ℕ, zero, suc, ◌≤◌, List, [], ◌∷◌, ◌++◌, map, slice_index, refl, sym, ap, ap₂, subst}
+use Rattle.std.proofs.Common.{◌≡◌, ℕ, suc, List, [], ◌∷◌, ◌++◌, map, refl, sym, ap, ap₂, subst}
 use Rattle.std.proofs.Common.{arith}
-use Rattle.std.proofs.Math.Nat.{le-max_left, le-max_right}
 use Rattle.sc_graph.specs.declared.control.Control.{Control}
 use Rattle.sc_graph.specs.declared.tables.Tables.{Tables}
 use Rattle.sc_graph.specs.Program.{Program}
@@ -24,7 +23,7 @@ use Rattle.scl_graph.specs.Graph.{program_of}
 use Rattle.abort_expansion_laws.proofs.Leaving.{at_number}
 use Rattle.chart_lowering_laws.specs.Laws.{IsLowering}
 use Rattle.reaction_laws.specs.StepNodes.{Alike}
-use Rattle.reaction_laws.proofs.GreatestPriority.{greatest_of, greatest_priority, all_ahead}
+use Rattle.reaction_laws.proofs.GreatestPriority.{greatest_priority, all_ahead, within_greatest}
 use Rattle.preemption_laws.specs.Looks.{Looks}
 use Rattle.preemption_laws.specs.Waiting.{waiting_at, still, waiting_machine}
 use Rattle.preemption_laws.proofs.GraphMoves as moves
@@ -33,12 +32,6 @@ use Rattle.preemption_laws.proofs.NormalForms.{IsNormal, normal_behind}
 use Rattle.preemption_laws.proofs.SoundCores.{IsCore}
 use Rattle.preemption_laws.proofs.WaitLow.{Low, Stands, join_at}
 use Rattle.preemption_laws.proofs.WaitRanks.{RanksFrom, HoldsAt, ranks_from}
-
-within_greatest : (xs : List ℕ) (n : ℕ) → slice_index xs n ≤ greatest_of xs
-within_greatest [] n = omega arith
-within_greatest (x ∷ xs) zero = le-max_left x (greatest_of xs)
-within_greatest (x ∷ xs) (suc n) =
-    let rest = within_greatest xs n in let more = le-max_right x (greatest_of xs) in omega (rest, more, arith)
 
 all_normal : (k : Table) (looks : ℕ → List Transition) (zs : List Standing) → ((q : ℕ) → IsNormal k looks (at_number zs q)) → map (waiting_at k looks) zs ≡ zs
 all_normal k looks [] each = refl

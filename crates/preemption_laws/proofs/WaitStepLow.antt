@@ -49,8 +49,9 @@ use Rattle.preemption_laws.proofs.LeaveSteps.{Leaver, leaver, any_holds}
 use Rattle.preemption_laws.proofs.LookNodes as nodes
 use Rattle.preemption_laws.proofs.RaiseLow.{raise_low}
 use Rattle.preemption_laws.proofs.SoundCores.{sound_still}
-use Rattle.preemption_laws.proofs.StaysThere.{is_within, not_both, all_ended, stays_elsewhere}
+use Rattle.preemption_laws.proofs.StaysThere.{is_within, all_ended, stays_elsewhere}
 use Rattle.preemption_laws.proofs.WaitLow.{Low, Stands, join_at, all_have, on_trying, on_still, on_ended, line_kept, join_kept, leave_kept}
+use Rattle.abort_expansion_laws.proofs.Unchanged.{not_both}
 
 -- a standing in a superstate, taken apart
 pub record InSuperstate (x : Standing) : Type 0 where

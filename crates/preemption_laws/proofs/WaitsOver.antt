@@ -1,8 +1,7 @@
 -- Where a tick of a chart and its core chart have ended nobody may leave: all flags that somebody could see are down. So the waiting machine is over.
-use Rattle.std.proofs.Common.{◌≡◌, ◌≢◌, ℕ, zero, suc, ⊎_elim, Bool, true, false, ◌||◌, if◌then◌else◌, Some, List, [], ◌∷◌, length}
+use Rattle.std.proofs.Common.{◌≡◌, ◌≢◌, ℕ, ⊎_elim, Bool, true, false, ◌||◌, if◌then◌else◌, Some, List, [], ◌∷◌}
 use Rattle.std.proofs.Common.{Contains, refl, sym, ap, ap₂, subst, ◌∙◌, arith, unwrap_or, slice_get, pos}
 use Rattle.std.specs.List.{list_any}
-use Rattle.std.proofs.lemmas.Bool.{cases_lt}
 use Rattle.sc_values.specs.declared.value.Value.TheVariants as value_is
 use Rattle.sc_values.specs.Runs.{IsOver}
 use Rattle.core_charts.specs.declared.features.Features.TheVariants as features
@@ -21,7 +20,7 @@ use Rattle.abort_expansion.specs.Expansion.{expanded}
 use Rattle.abort_expansion.specs.Transitions.{is_raised}
 use Rattle.chart_machine_laws.specs.Tree.{IsThere, around, holder}
 use Rattle.chart_machine_laws.proofs.LyingIn.{head_or_tail}
-use Rattle.tick_laws.proofs.Lists.{contains_head, contains_tail}
+use Rattle.tick_laws.proofs.Lists.{contains_head, contains_tail, contains_map}
 use Rattle.abort_expansion_laws.specs.CoreRows.{own, IsState, Images, CoreRows}
 use Rattle.abort_expansion_laws.specs.Related.{IsInside, open_inside, Stores}
 use Rattle.abort_expansion_laws.proofs.MoreValues.{lowered_verdict}
@@ -29,12 +28,11 @@ use Rattle.abort_expansion_laws.proofs.Owed.{RestsIn, rests_outside, rests_ended
 use Rattle.abort_expansion_laws.proofs.Owed.{WatchRests, watch_within, watch_elsewhere}
 use Rattle.abort_expansion_laws.proofs.RestedCharts.{rested_over}
 use Rattle.abort_expansion_laws.proofs.RowsOfCharts as whole
-use Rattle.abort_expansion_laws.proofs.TablesCorrespond.{contains_map}
-use Rattle.abort_expansion_laws.proofs.TickFollowed as ticks
-use Rattle.reaction_laws.proofs.StandsStill.{past_number}
+use Rattle.abort_expansion_laws.proofs.TicksOfCharts as ticks
+use Rattle.abort_expansion_laws.proofs.NumberedRegions.{is_region}
 use Rattle.preemption_laws.specs.Waiting.{holds, is_waiting, waiting_at, still, sees, may_step, waiting_machine}
 use Rattle.preemption_laws.proofs.QuietSteps.{looks}
-use Rattle.preemption_laws.proofs.StillConfigurations.{standing_still, waits_too}
+use Rattle.preemption_laws.proofs.StillConfigurations.{stands_still, waits_too}
 
 module _ (c : Chart) (rules : IsChart features.Extended c) (core_rules : IsChart features.Core (expanded c)) where
   abbrev k : Table
@@ -119,12 +117,7 @@ module _ (c : Chart) (rules : IsChart features.Extended c) (core_rules : IsChart
 
     -- who stands somewhere is a thread of the core chart
     core_there : (t : ℕ) → standing_of e t ≢ at.Outside → IsThere core t
-    core_there zero there = absurd (there rested.rests.no_core)
-    core_there (suc t) there =
-        ⊎_elim (λ lt. (omega arith, lt))
-        (λ past.
-        absurd (there (past_number e.regions (suc t) (let size = rested.rests.core_regions in omega (past, size, arith)))))
-        (cases_lt (suc t) (suc (length core.regions)))
+    core_there = is_region core e rested.rests.no_core rested.rests.core_regions
 
     inside_it : (t u s : ℕ) (tests : List Transition) → standing_of e t ≡ at.Trying s tests → Contains (around core t) (i.main_of u) →
         IsInside k core i u (standing_of last (holder k u))
@@ -176,7 +169,7 @@ module _ (c : Chart) (rules : IsChart features.Extended c) (core_rules : IsChart
       waits_over t = by (is_waiting core looks_here (standing_of (still core looks_here e) t)) refl
         where
           here : standing_of (still core looks_here e) t ≡ waiting_at core looks_here (standing_of e t)
-          here = standing_still core looks_here e t
+          here = stands_still core looks_here e t
 
           by : (b : Bool) → is_waiting core looks_here (standing_of (still core looks_here e) t) ≡ b →
               may_step core looks_here (still core looks_here e) t ≡ false
@@ -187,5 +180,5 @@ module _ (c : Chart) (rules : IsChart features.Extended c) (core_rules : IsChart
           by false goes =
               ap (λ b. if b then sees core looks_here (still core looks_here e) (standing_of (still core looks_here e) t) else is_enabled core
               (still core looks_here e) t) goes
-              ∙ (knows.enabled_too e t sound (waits_too core looks_here (standing_of e t) (sym (ap (is_waiting core looks_here) here) ∙ goes))
+              ∙ (knows.enabled_too e t sound (sym (waits_too core looks_here (standing_of e t)) ∙ (sym (ap (is_waiting core looks_here) here) ∙ goes))
               ∙ rested_over c rules core_rules last e rested.rests rested.over t)

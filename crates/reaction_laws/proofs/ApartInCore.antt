@@ -8,10 +8,10 @@ use Rattle.chart_machine.specs.declared.table.Table.{Table}
 use Rattle.chart_machine.specs.Table.{table}
 use Rattle.chart_machine.specs.Turns.{LiesIn, itself, deeper, SideBySide, holder_of, ForkedApart}
 use Rattle.abort_expansion.specs.Expansion.{expanded}
-use Rattle.tick_laws.proofs.Lists.{map_contains}
 use Rattle.chart_machine_laws.proofs.LyingIn.{around, holder, head_in, tail_in}
 use Rattle.abort_expansion_laws.specs.CoreRows.{own, IsState, Images, CoreRows, WatcherImage}
-use Rattle.abort_expansion_laws.proofs.TickFollowed as ticks
+use Rattle.abort_expansion_laws.proofs.TicksOfCharts as ticks
+use Rattle.abort_expansion_laws.proofs.ThreadsAround.{thread_within}
 
 module _ (c : Chart) (rules : IsChart features.Extended c) (core_rules : IsChart features.Core (expanded c)) where
   abbrev k : Table
@@ -33,7 +33,7 @@ module _ (c : Chart) (rules : IsChart features.Extended c) (core_rules : IsChart
   pub thread_there : (r : ℕ) → LiesThere r (i.thread_of r)
   thread_there r side (itself same) = itself (ap i.thread_of same)
   thread_there r side (deeper s inner held) =
-      deeper (i.main_of s) (subst (λ zs. Contains zs (i.main_of s)) (sym (rows.encloses r)) (map_contains i.main_of (around k r) s inner))
+      deeper (i.main_of s) (thread_within k core i rows r s inner)
       (rows.held s ∙ ap i.thread_of held)
 
   pub monitor_there : (o r : ℕ) → IsState k o → has_aborts (own k o) ≡ true → holder k o ≡ r → LiesThere r (i.watcher_of o)
@@ -51,8 +51,7 @@ module _ (c : Chart) (rules : IsChart features.Extended c) (core_rules : IsChart
           deeper (i.main_of s)
           (subst (λ zs. Contains zs (i.main_of s)) (sym image.encloses)
           (tail_in (i.main_of o) (i.main_of s) (around core (i.thread_of (holder k o)))
-          (subst (λ zs. Contains zs (i.main_of s)) (sym (rows.encloses (holder k o)))
-          (map_contains i.main_of (around k (holder k o)) s (subst (λ h. Contains (around k h) s) (sym held) inner)))))
+          (thread_within k core i rows (holder k o) s (subst (λ h. Contains (around k h) s) (sym held) inner))))
           (rows.held s ∙ ap i.thread_of held_too)
 
   beside_too : (left right : ℕ) → SideBySide k left right → SideBySide core (i.thread_of left) (i.thread_of right)

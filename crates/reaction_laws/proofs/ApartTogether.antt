@@ -1,6 +1,8 @@
--- Two regions of a chart that have their turn together lie in different regions of one superstate, or of the chart: neither lies in the other.
-use Rattle.std.proofs.Common.{◌≡◌, ◌≢◌, ℕ, ◌⊎◌, inl, inr, ⊎_elim, Bool, true, false, not, ◌&&◌, List, [], ◌∷◌, Contains, refl, sym}
+-- Two regions of a chart that are there, neither of which lies in the other, lie in different regions of one superstate, or of the chart; and so do two
+-- that have their turn together.
+use Rattle.std.proofs.Common.{◌≡◌, ◌≢◌, ℕ, ◌⊎◌, inl, inr, ⊎_elim, true, false, not, ◌&&◌, List, [], ◌∷◌, Contains, refl, sym}
 use Rattle.std.proofs.Common.{ap, subst, ◌∙◌, arith}
+use Rattle.std.proofs.lemmas.Bool.{and_parts, not-true}
 use Rattle.core_charts.specs.declared.region.Transition.{Transition}
 use Rattle.chart_machine.specs.declared.standing.Configuration.{Configuration}
 use Rattle.chart_machine.specs.declared.standing.Standing.{Standing}
@@ -12,8 +14,8 @@ use Rattle.chart_machine_laws.specs.Tree.{IsThere, IsTree, LiesUnder, around, ho
 use Rattle.chart_machine_laws.proofs.LyingIn.{none_in, head_in, tail_in, head_or_tail, inwards, lies_in_outer, around_outer, apart_inside}
 use Rattle.tick_laws.proofs.Lists.{same_or_not, list_all_at}
 use Rattle.abort_expansion_laws.proofs.InsideAround.{one_in_other}
-use Rattle.abort_expansion_laws.proofs.KnownVariables.{both_true, not_so}
 use Rattle.abort_expansion_laws.proofs.StageReached.{any_in, inside_in}
+use Rattle.abort_expansion_laws.proofs.Unchanged.{not_both}
 
 -- the region is in the superstate, and so are regions of that
 pub data IsOpen (s : ℕ) : Standing → Type 0 where
@@ -104,17 +106,13 @@ module _ (k : Table) (tree : IsTree k) (holder_there : (q s : ℕ) → Contains 
 
   pub turn : (c : Configuration) (q : ℕ) → is_enabled k c q ≡ true → Turn c q
   turn c q on =
-      let one = both_true (has_work k c (standing_of c q)) (not (is_guarded k c (around k q)) && inside_is_done k c (standing_of c q)) on in
-      let two = both_true (not (is_guarded k c (around k q))) (inside_is_done k c (standing_of c q)) one.1 in
-      record { works = one.0; free = not_so (is_guarded k c (around k q)) two.0; done = two.1 }
-
-  differ : (b : Bool) → b ≡ true → b ≡ false → ⊥
-  differ true e f = absurd cc
-  differ false e f = absurd cc
+      let one = and_parts (has_work k c (standing_of c q)) (not (is_guarded k c (around k q)) && inside_is_done k c (standing_of c q)) on in
+      let two = and_parts (not (is_guarded k c (around k q))) (inside_is_done k c (standing_of c q)) one.1 in
+      record { works = one.0; free = not-true (is_guarded k c (around k q)) two.0; done = two.1 }
 
   -- who has work is there
   pub present : (c : Configuration) (x : Standing) → has_work k c x ≡ true → x ≢ at.Outside
-  present c x works e = differ (has_work k c at.Outside) (ap (has_work k c) (sym e) ∙ works) refl
+  present c x works e = not_both (has_work k c at.Outside) (ap (has_work k c) (sym e) ∙ works) refl
 
   module _ (c : Configuration) (enclosed : Enclosed c) where
     -- who has its turn lies in nobody else who has its own
@@ -132,7 +130,7 @@ module _ (k : Table) (tree : IsTree k) (holder_there : (q s : ℕ) → Contains 
 
         guarded_too : (tests : List Transition) → standing_of c t ≡ at.Guarding s tests → ⊥
         guarded_too tests e =
-            differ (is_guarded k c (around k u))
+            not_both (is_guarded k c (around k u))
             (any_in (λ z. guards (standing_of c (holder k z))) (around k u) s inner (ap (λ z. guards (standing_of c z)) held ∙ ap guards e)) of_u.free
 
         done_too : (tests : List Transition) → standing_of c t ≡ at.Within s tests → ⊥
@@ -140,86 +138,88 @@ module _ (k : Table) (tree : IsTree k) (holder_there : (q s : ℕ) → Contains 
             let idle : not (has_work k c (standing_of c u)) ≡ true =
             list_all_at (λ q. not (has_work k c (standing_of c q))) (inside k s) u
             (sym (ap (inside_is_done k c) e) ∙ of_t.done) (inside_in k s u (holder_there u s inner).0 inner) in
-            differ (has_work k c (standing_of c u)) of_u.works (not_so (has_work k c (standing_of c u)) idle)
+            not_both (has_work k c (standing_of c u)) of_u.works (not-true (has_work k c (standing_of c u)) idle)
 
         by_open : (x : Standing) → standing_of c t ≡ x → IsOpen s x → ⊥
         by_open _ e (open_guarding tests) = guarded_too tests e
         by_open _ e (open_within tests) = done_too tests e
 
-    -- one of them lies in this region, and the other does not
-    apart_at : (t u : ℕ) → is_enabled k c t ≡ true → is_enabled k c u ≡ true → t ≢ u → (ss : List ℕ) (z : ℕ) → around k z ≡ ss → LiesIn k t z →
-        ¬ LiesIn k u z → (a : ℕ) × ForkedApart k t u a
-    apart_at t u on on_too ne [] z e in_z out =
-        let w : Top u = top (around k u) u refl in (
-          0,
-          record {
-            left = z;
-            right = w.side;
-            beside = record {
-              differ = λ same. out (subst (LiesIn k u) (sym same) w.lies);
-              first = t_side.0;
-              second = (u_side w.side w.lies).0;
-              first_there = t_side.1;
-              second_there = (u_side w.side w.lies).1;
-              around = e ∙ sym w.bare;
-            };
-            r_in = in_z;
-            u_in = w.lies;
-            held = ap (holder_of k) e;
-          },
-        )
-      where
-        t_side : IsThere k z
-        t_side = lies_there t z (enclosed.there t (present c (standing_of c t) (turn c t on).works)) in_z
+    -- two that are there, neither of which lies in the other
+    module _ (t u : ℕ) (t_here : standing_of c t ≢ at.Outside) (u_here : standing_of c u ≢ at.Outside) (t_out : ¬ LiesIn k t u) where
+      -- t lies in this region, and u does not
+      apart_at : (ss : List ℕ) (z : ℕ) → around k z ≡ ss → LiesIn k t z → ¬ LiesIn k u z → (a : ℕ) × ForkedApart k t u a
+      apart_at [] z e in_z out =
+          let w : Top u = top (around k u) u refl in
+          let t_side = lies_there t z (enclosed.there t t_here) in_z in
+          let u_side = lies_there u w.side (enclosed.there u u_here) w.lies in (
+            0,
+            record {
+              left = z;
+              right = w.side;
+              beside = record {
+                differ = λ same. out (subst (LiesIn k u) (sym same) w.lies);
+                first = t_side.0;
+                second = u_side.0;
+                first_there = t_side.1;
+                second_there = u_side.1;
+                around = e ∙ sym w.bare;
+              };
+              r_in = in_z;
+              u_in = w.lies;
+              held = ap (holder_of k) e;
+            },
+          )
+      apart_at (s ∷ ss) z e in_z out =
+          by_upper (lies_or_not u (holder k s)) (λ outside. apart_at ss (holder k s) (sym (tree.nested.upward z s ss e)) up outside)
+        where
+          in_s : Contains (around k z) s
+          in_s = subst (λ zs. Contains zs s) (sym e) (head_in s ss)
 
-        u_side : (side : ℕ) → LiesIn k u side → IsThere k side
-        u_side side lies = lies_there u side (enclosed.there u (present c (standing_of c u) (turn c u on_too).works)) lies
-    apart_at t u on on_too ne (s ∷ ss) z e in_z out =
-        by_upper (lies_or_not u (holder k s))
-        (λ outside. apart_at t u on on_too ne ss (holder k s) (sym (tree.nested.upward z s ss e)) up outside)
-      where
-        in_s : Contains (around k z) s
-        in_s = subst (λ zs. Contains zs s) (sym e) (head_in s ss)
+          up : LiesIn k t (holder k s)
+          up = lies_in_outer k tree.nested (around k t) t z (holder k s) refl in_z (deeper s in_s refl)
 
-        up : LiesIn k t (holder k s)
-        up = lies_in_outer k tree.nested (around k t) t z (holder k s) refl in_z (deeper s in_s refl)
+          by_upper : LiesIn k u (holder k s) ⊎ ¬ LiesIn k u (holder k s) → (¬ LiesIn k u (holder k s) → (a : ℕ) × ForkedApart k t u a) →
+              (a : ℕ) × ForkedApart k t u a
+          by_upper (inr outside) rest = rest outside
+          by_upper (inl (itself same)) rest = absurd (t_out (subst (LiesIn k t) (sym same) up))
+          by_upper (inl (deeper v inner held)) rest =
+              let s_open : IsOpen s (standing_of c (holder k s)) =
+              enclosed.around_open t s (around_outer k tree.nested (around k t) t z s refl in_z in_s) t_here in
+              let v_open : IsOpen v (standing_of c (holder k s)) =
+              subst (λ h. IsOpen v (standing_of c h)) held (enclosed.around_open u v inner u_here) in
+              let same : s ≡ v = one_open s v (standing_of c (holder k s)) s_open v_open in
+              let w : Through u v = through (around k u) u v refl inner in
+              let u_there = lies_there u w.side (enclosed.there u u_here) w.lies in
+              let t_there = lies_there t z (enclosed.there t t_here) in_z in
+              let even : s ∷ ss ≡ v ∷ w.rest =
+              ap (λ zs. s ∷ zs) (tree.nested.upward z s ss e)
+              ∙ (ap (λ x. x ∷ around k (holder k x)) same ∙ ap (λ zs. v ∷ zs) (sym (tree.nested.upward w.side v w.rest w.directly))) in (
+                holder k s,
+                record {
+                  left = z;
+                  right = w.side;
+                  beside = record {
+                    differ = λ at_z. out (subst (LiesIn k u) (sym at_z) w.lies);
+                    first = t_there.0;
+                    second = u_there.0;
+                    first_there = t_there.1;
+                    second_there = u_there.1;
+                    around = e ∙ (even ∙ sym w.directly);
+                  };
+                  r_in = in_z;
+                  u_in = w.lies;
+                  held = ap (holder_of k) e;
+                },
+              )
 
-        by_upper : LiesIn k u (holder k s) ⊎ ¬ LiesIn k u (holder k s) → (¬ LiesIn k u (holder k s) → (a : ℕ) × ForkedApart k t u a) →
-            (a : ℕ) × ForkedApart k t u a
-        by_upper (inr outside) rest = rest outside
-        by_upper (inl (itself same)) rest = absurd (not_in u t on_too on (λ e. ne (sym e)) (subst (LiesIn k t) (sym same) up))
-        by_upper (inl (deeper v inner held)) rest =
-            let s_open : IsOpen s (standing_of c (holder k s)) =
-            enclosed.around_open t s (around_outer k tree.nested (around k t) t z s refl in_z in_s) (present c (standing_of c t) (turn c t on).works) in
-            let v_open : IsOpen v (standing_of c (holder k s)) =
-            subst (λ h. IsOpen v (standing_of c h)) held (enclosed.around_open u v inner (present c (standing_of c u) (turn c u on_too).works)) in
-            let same : s ≡ v = one_open s v (standing_of c (holder k s)) s_open v_open in
-            let w : Through u v = through (around k u) u v refl inner in
-            let u_there = lies_there u w.side (enclosed.there u (present c (standing_of c u) (turn c u on_too).works)) w.lies in
-            let t_there = lies_there t z (enclosed.there t (present c (standing_of c t) (turn c t on).works)) in_z in
-            let even : s ∷ ss ≡ v ∷ w.rest =
-            ap (λ zs. s ∷ zs) (tree.nested.upward z s ss e)
-            ∙ (ap (λ x. x ∷ around k (holder k x)) same ∙ ap (λ zs. v ∷ zs) (sym (tree.nested.upward w.side v w.rest w.directly))) in (
-              holder k s,
-              record {
-                left = z;
-                right = w.side;
-                beside = record {
-                  differ = λ at_z. out (subst (LiesIn k u) (sym at_z) w.lies);
-                  first = t_there.0;
-                  second = u_there.0;
-                  first_there = t_there.1;
-                  second_there = u_there.1;
-                  around = e ∙ (even ∙ sym w.directly);
-                };
-                r_in = in_z;
-                u_in = w.lies;
-                held = ap (holder_of k) e;
-              },
-            )
+    pub present_apart : (t u : ℕ) → standing_of c t ≢ at.Outside → standing_of c u ≢ at.Outside → ¬ LiesIn k t u → ¬ LiesIn k u t →
+        (a : ℕ) × ForkedApart k t u a
+    present_apart t u t_here u_here t_out u_out = apart_at t u t_here u_here t_out (around k t) t refl (itself refl) u_out
 
     pub are_apart : (t u : ℕ) → is_enabled k c t ≡ true → is_enabled k c u ≡ true → t ≢ u → (a : ℕ) × ForkedApart k t u a
-    are_apart t u on on_too ne = apart_at t u on on_too ne (around k t) t refl (itself refl) (not_in t u on on_too ne)
+    are_apart t u on on_too ne =
+        present_apart t u (present c (standing_of c t) (turn c t on).works) (present c (standing_of c u) (turn c u on_too).works)
+        (not_in u t on_too on (λ e. ne (sym e))) (not_in t u on on_too ne)
 
     -- who has its turn forks nobody apart from another one who has
     pub forks_none : (t u v a : ℕ) → is_enabled k c t ≡ true → is_enabled k c u ≡ true → ForkedApart k t v a → a ≢ u
@@ -227,7 +227,7 @@ module _ (k : Table) (tree : IsTree k) (holder_there : (q s : ℕ) → Contains 
       where
         by_under : LiesUnder k t a → ⊥
         by_under (inr none) =
-            differ (has_work k c at.Outside)
+            not_both (has_work k c at.Outside)
             (sym (ap (has_work k c) (ap (standing_of c) (sym same ∙ none) ∙ enclosed.chart_out)) ∙ (turn c u on_too).works) refl
         by_under (inl (s, inner, held)) =
             ⊎_elim (λ e. let up = tree.deeper t s inner in omega (up, held, same, e, arith))

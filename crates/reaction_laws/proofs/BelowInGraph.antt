@@ -22,7 +22,7 @@ use Rattle.chart_lowering_laws.specs.Stands.{Lowered}
 use Rattle.compiled_charts_laws.proofs.Stands.{stand_alike}
 use Rattle.abort_expansion_laws.specs.CoreRows.{Images}
 use Rattle.abort_expansion_laws.proofs.RowsOfCharts as whole
-use Rattle.abort_expansion_laws.proofs.TickFollowed as ticks
+use Rattle.abort_expansion_laws.proofs.TicksOfCharts as ticks
 use Rattle.reaction_laws.specs.StepNodes.{Alike}
 use Rattle.reaction_laws.proofs.ApartInCore.{LiesThere}
 

@@ -2,12 +2,12 @@
 use Rattle.std.proofs.Common.{◌≡◌, ◌≢◌, ℕ, zero, suc, ◌≤◌, ⊎_elim, true, Option, Some, None, option_and_then, List, [], ◌∷◌}
 use Rattle.std.proofs.Common.{length, refl, sym, ap, subst, ◌∙◌, arith}
 use Rattle.std.proofs.lemmas.Bool.{cases_Bool}
-use Rattle.std.proofs.lemmas.Option.{none-some}
+use Rattle.std.proofs.lemmas.Option.{none-some, same_Some}
 use Rattle.sc_values.specs.Access.{Access, MayPrecede}
 use Rattle.sc_values.specs.Runs.{Machine, replay, IsOver, act_of, acts, acts_after}
 use Rattle.sc_values.proofs.Order.{Clear, EachIsOpen, Orderly, admissible_from_orderly}
 use Rattle.reaction_laws.proofs.Greatest.{Leads, NoneOf, leader}
-use Rattle.reaction_laws.specs.Ranked.{Ranked, Next, ComesToAnEnd, RanksLeadToEnds}
+use Rattle.reaction_laws.specs.Ranked.{Ranked, Next, ComesToAnEnd}
 
 -- the first step of a run, and the rest of it
 pub record Begins (m : Machine) (t : ℕ) (run : List ℕ) (c last : m.Configuration) : Type 0 where
@@ -21,6 +21,13 @@ begins m t run c last runs = at (m.step t c) refl runs
     at : (o : Option m.Configuration) → m.step t c ≡ o → option_and_then (replay m run) o ≡ Some last → Begins m t run c last
     at None is h = absurd (none-some last h)
     at (Some d) is h = record { next = d; steps = is; rest = h }
+
+-- what each step keeps, each run keeps
+pub holds_along : (m : Machine) (P : m.Configuration → Type 0) → ((c d : m.Configuration) (t : ℕ) → P c → m.step t c ≡ Some d → P d) →
+    (run : List ℕ) (c d : m.Configuration) → P c → replay m run c ≡ Some d → P d
+holds_along m P keeps [] c d holds runs = subst P (same_Some c d runs) holds
+holds_along m P keeps (t ∷ run) c d holds runs =
+    let b : Begins m t run c d = begins m t run c d runs in holds_along m P keeps run b.next d (keeps c b.next t holds b.steps) b.rest
 
 acts_on : (m : Machine) (t : ℕ) (run : List ℕ) (c d : m.Configuration) → m.step t c ≡ Some d → acts m (t ∷ run) c ≡ act_of m c t ∷ acts m run d
 acts_on m t run c d steps = ap (λ o. act_of m c t ∷ acts_after m (acts m run) o) steps
@@ -121,6 +128,3 @@ module _ (m : Machine) (r : Ranked m) where
           admissible = admissible_from_orderly m.ForkedApart (acts m o.run c) o.orderly;
         };
       }
-
-pub ranks_lead_to_ends : RanksLeadToEnds
-ranks_lead_to_ends m r c k holds = comes_to_an_end m r c k holds

@@ -3,22 +3,18 @@ use Rattle.std.proofs.Common.{◌≡◌, ◌≢◌, ℕ, ◌≤◌, ◌⊎◌, i
 use Rattle.std.proofs.Common.{subst, arith}
 use Rattle.std.proofs.lemmas.Bool.{cases_Bool}
 use Rattle.std.proofs.Math.Nat.{min-le_left, min-le_right, min-eq_left}
-use Rattle.sc_values.specs.Access.{Access, Writing, Nothing, Init, Update, no_access, Precedes, init_update, init_read, update_read}
+use Rattle.sc_values.specs.Access.{Access, Writing, Nothing, Init, Update, no_access, Precedes}
 use Rattle.sc_values.specs.Access.{Clash, two_inits, two_updates}
 use Rattle.sc_values.specs.Access.{MayPrecede}
 use Rattle.sc_graph.specs.Tick.{Inputs}
-use Rattle.abort_expansion_laws.proofs.StrongTestsQuiet.{precedes_writes}
 use Rattle.reaction_laws.proofs.Greatest.{Leads, leader}
 use Rattle.abort_expansion_laws.specs.Ticks.{Reactive}
+use Rattle.abort_expansion_laws.proofs.QuietBegins.{none_before}
+use Rattle.abort_expansion_laws.proofs.Commuting.{plain_second}
 use Rattle.reaction_laws.specs.ChartRanks.{HasRanks}
 use Rattle.reaction_laws.specs.CappedRanks.{capped, HasCappedRanks}
 
 -- ---- a step that writes nothing may come behind each other one, and one that does nothing before each
-
-pub nothing_before : (b : Access) → ¬ Precedes b no_access
-nothing_before b (init_update x f i u) = absurd cc
-nothing_before b (init_read x i r) = let lt = r.1 in absurd (omega (lt, arith))
-nothing_before b (update_read x f u r) = let lt = r.1 in absurd (omega (lt, arith))
 
 pub both_write : (a b : Access) → Clash a b → (a.writes ≢ Nothing) × (b.writes ≢ Nothing)
 both_write a b (two_inits x i j differ) = (λ e. by_first e, λ e. by_second e)
@@ -33,13 +29,9 @@ both_write a b (two_updates x f g u v differ) = (λ e. absurd cc, λ e. absurd c
 pub idle_first : (a b : Access) → a ≡ no_access → MayPrecede a b
 idle_first a b idle =
     record {
-      no_order = λ before. nothing_before b (subst (Precedes b) idle before);
+      no_order = λ before. none_before b (subst (Precedes b) idle before);
       no_clash = λ clash. (both_write a b clash).0 (ap (λ z. z.writes) idle);
     }
-
-pub reader_second : (a b : Access) → b.writes ≡ Nothing → MayPrecede a b
-reader_second a b none =
-    record { no_order = λ before. precedes_writes b a before none; no_clash = λ clash. (both_write a b clash).1 none }
 
 writes_or_not : (w : Writing) → (w ≡ Nothing) ⊎ (w ≢ Nothing)
 writes_or_not Nothing = inl refl
@@ -48,7 +40,7 @@ writes_or_not (Update x f) = inr (λ e. absurd cc)
 
 -- ---- capped numbers
 
-capped_within : (free : Bool) (cap n : ℕ) → capped free cap n ≤ cap
+pub capped_within : (free : Bool) (cap n : ℕ) → capped free cap n ≤ cap
 capped_within true cap n = omega arith
 capped_within false cap n = min-le_right n cap
 
@@ -95,7 +87,7 @@ module _ (r : Reactive) (Accepted : Inputs → Type 0) (has : HasCappedRanks r A
             omega (arith, is, below, low)
 
     in_order : MayPrecede (r.machine.access c t) (r.machine.access d u)
-    in_order = ⊎_elim (reader_second (r.machine.access c t) (r.machine.access d u)) by_writing (writes_or_not (r.machine.access d u).writes)
+    in_order = ⊎_elim (plain_second (r.machine.access c t) (r.machine.access d u)) by_writing (writes_or_not (r.machine.access d u).writes)
 
   falls : (c d : C) (k : Now) (t : ℕ) → has.Holds c k.0 k.1 → r.machine.step t c ≡ Some d →
       (l : Now) × has.Holds d l.0 l.1

@@ -2,6 +2,7 @@
 use Rattle.std.proofs.Common.{◌≡◌, ◌≢◌, ℕ, ◌≤◌, Bool, true, false, ◌&&◌, ◌⊎◌, inl, inr, ⊎_elim, min, List, [], ◌∷◌, refl, sym, ap, subst, ◌∙◌}
 use Rattle.sc_values.specs.declared.expression.Expr.{Expr}
 use Rattle.std.proofs.Common.{Option, Some, None}
+use Rattle.std.proofs.lemmas.Bool.{and_parts}
 use Rattle.sc_values.specs.Access.{Access, Writing, Nothing, Init, Update, no_access}
 use Rattle.sc_graph.specs.declared.control.Control.{Control}
 use Rattle.sc_graph.specs.declared.tables.Tables.{Tables}
@@ -27,8 +28,7 @@ use Rattle.scl_graph.specs.Graph.{program_of}
 use Rattle.abort_expansion.specs.Expansion.{expanded}
 use Rattle.chart_lowering_laws.specs.Laws.{IsLowering}
 use Rattle.abort_expansion_laws.specs.CoreRows.{Images}
-use Rattle.abort_expansion_laws.proofs.KnownVariables.{both_true}
-use Rattle.abort_expansion_laws.proofs.TickFollowed as ticks
+use Rattle.abort_expansion_laws.proofs.TicksOfCharts as ticks
 use Rattle.reaction_laws.specs.CappedRanks.{capped}
 use Rattle.reaction_laws.specs.StepNodes.{AtOwnNode, Alike}
 use Rattle.reaction_laws.proofs.ChartOrder.{AllAt, step_priority}
@@ -51,7 +51,7 @@ is_idle a = reads_nothing a.reads && writes_nothing a.writes
 
 pub idle_is : (a : Access) → is_idle a ≡ true → a ≡ no_access
 idle_is a idle =
-    let both = both_true (reads_nothing a.reads) (writes_nothing a.writes) idle in
+    let both = and_parts (reads_nothing a.reads) (writes_nothing a.writes) idle in
     ap (λ rs. record { reads = rs; writes = a.writes }) (none a.reads both.0) ∙ ap (λ w. record { reads = []; writes = w }) (nothing a.writes both.1)
   where
     none : (rs : List ℕ) → reads_nothing rs ≡ true → rs ≡ []
@@ -79,9 +79,6 @@ module _ (c : Chart) (rules : IsChart features.Extended c) (core_rules : IsChart
     (low : IsLowering (expanded c) p) (valid : IsValid (program_of (numbered p)) q) where
   abbrev k : Table
   k = table c
-
-  abbrev core : Table
-  core = table (expanded c)
 
   abbrev i : Images
   i = ticks.i c rules core_rules

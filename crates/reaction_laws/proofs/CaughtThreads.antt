@@ -24,9 +24,7 @@ use Rattle.scl.specs.Numbering.{Numbered, numbered}
 use Rattle.scl.specs.Meaning.{State, Doing, Away, Todo, Forked, Resting, Resuming, Finished, doing}
 use Rattle.scl_graph.specs.Graph.{program_of}
 use Rattle.scl_graph_laws.specs.Keeps.{Corresponds as StandsInGraph}
-use Rattle.scl_graph_laws.specs.Mirrors.{Mirrors}
 use Rattle.scl_graph_laws.specs.Standing.{standing, IsOfText}
-use Rattle.scl_graph_laws.proofs.Texts.{program_mirrors}
 use Rattle.chart_lowering_laws.specs.Corresponds.{Live, HeldBy, Fits, Corresponds, ComesTo}
 use Rattle.chart_lowering_laws.specs.Laws.{IsLowering}
 use Rattle.chart_lowering_laws.specs.Layout.{Layout, IsRegionOf, Lowers}
@@ -64,9 +62,6 @@ module _ (c : Chart) (p : Scl) (low : IsLowering c p) where
 
   lowers : Lowers K P L
   lowers = chart_is_lowered c p low
-
-  mirrors : Mirrors P G
-  mirrors = program_mirrors p
 
   abbrev pub WaitsAtJoins : Configuration → Control → Type 0
   WaitsAtJoins d m =

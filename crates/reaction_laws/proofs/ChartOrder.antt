@@ -22,15 +22,16 @@ use Rattle.chart_lowering_laws.specs.Laws.{IsLowering}
 use Rattle.abort_expansion_laws.specs.CoreRows.{Images}
 use Rattle.abort_expansion_laws.specs.Related.{Related}
 use Rattle.abort_expansion_laws.proofs.OwnTests.{OwnTests}
-use Rattle.abort_expansion_laws.proofs.TickFollowed as ticks
+use Rattle.abort_expansion_laws.proofs.TicksOfCharts as ticks
 use Rattle.reaction_laws.specs.StepNodes.{AtTheirNodes}
 use Rattle.reaction_laws.proofs.ApartInCore.{LiesThere, thread_there, monitor_there, apart_in_core}
-use Rattle.reaction_laws.proofs.CappedRanks.{idle_first, reader_second}
+use Rattle.reaction_laws.proofs.CappedRanks.{idle_first}
 use Rattle.reaction_laws.proofs.CoreTurns.{HasTurn, taker, TakenBy, by_thread, by_monitor, by_nobody, taken_by}
 use Rattle.reaction_laws.proofs.NoResumes.{NoneResumes}
 use Rattle.reaction_laws.proofs.CaughtThreads.{GoOn, WaitsAtJoins, AtFirstEffects}
 use Rattle.reaction_laws.proofs.StepNodes.{priorities_order_steps}
 use Rattle.abort_expansion_laws.proofs.MonitorsReady.{IsReady}
+use Rattle.abort_expansion_laws.proofs.Commuting.{plain_second}
 
 module _ (c : Chart) (rules : IsChart features.Extended c) (core_rules : IsChart features.Core (expanded c)) (p : Scl) (q : Tables)
     (low : IsLowering (expanded c) p) (valid : IsValid (program_of (numbered p)) q) where
@@ -96,4 +97,4 @@ module _ (c : Chart) (rules : IsChart features.Extended c) (core_rules : IsChart
         takes now d t (taken_by c rules core_rules now d here.related here.ready here.owns t on)
         (λ idle. idle_first (access_of (standing_of now t)) (access_of (standing_of next u)) idle)
         (λ x. takes next e u (taken_by c rules core_rules next e there.related there.ready there.owns u on_too)
-        (λ idle. reader_second (access_of (standing_of now t)) (access_of (standing_of next u)) (ap (λ z. z.writes) idle)) (λ y. both x y))
+        (λ idle. plain_second (access_of (standing_of now t)) (access_of (standing_of next u)) (ap (λ z. z.writes) idle)) (λ y. both x y))

@@ -9,7 +9,6 @@ use Rattle.sc_values.specs.Runs.{replay, Completes, Ends}
 use Rattle.sc_graph.specs.declared.control.Control.{Control}
 use Rattle.sc_graph.specs.Tick.{Inputs, AreAccepted, values_at_start}
 use Rattle.sc_graph.specs.Tick as graph_tick
-use Rattle.sc_graph.specs.Valid.{IsValid}
 use Rattle.core_charts.specs.declared.features.Features.TheVariants as features
 use Rattle.core_charts.specs.Chart.{Chart}
 use Rattle.core_charts.specs.Rules.{IsChart}
@@ -32,17 +31,17 @@ use Rattle.abort_expansion_laws.specs.Related.{Related}
 use Rattle.abort_expansion_laws.specs.Segments.{threads}
 use Rattle.abort_expansion_laws.specs.Stages.{Entry, Correspondence}
 use Rattle.abort_expansion_laws.specs.Ticks.{Reaction, AllOf}
-use Rattle.abort_expansion_laws.proofs.Owed.{Started, first_tick, later_tick}
+use Rattle.abort_expansion_laws.proofs.Owed.{Started}
 use Rattle.abort_expansion_laws.proofs.OwnTests.{OwnTests}
-use Rattle.abort_expansion_laws.proofs.PreemptionFollows.{RestsAlike}
-use Rattle.abort_expansion_laws.proofs.PreemptionKept.{ToldHere, own_tests_kept}
-use Rattle.abort_expansion_laws.proofs.FirstTickBegins.{first_begun}
+use Rattle.abort_expansion_laws.proofs.BetweenTicks.{RestsAlike, started}
+use Rattle.abort_expansion_laws.proofs.OwnTestsKept.{own_tests_kept}
 use Rattle.abort_expansion_laws.proofs.FlagStages.{usual}
 use Rattle.abort_expansion_laws.proofs.RestedCharts.{rested_over}
-use Rattle.abort_expansion_laws.proofs.StillBegun.{HasBegun, charts_stay_begun, starts_begun}
-use Rattle.abort_expansion_laws.proofs.TickFollowed as ticks
+use Rattle.abort_expansion_laws.proofs.StillBegun.{HasBegun, charts_stay_begun}
+use Rattle.abort_expansion_laws.proofs.TicksOfCharts as ticks
 use Rattle.abort_expansion_laws.proofs.TicksFinish.{ticks_finish}
-use Rattle.abort_expansion_laws.proofs.ToldSteps.{told_silent}
+use Rattle.abort_expansion_laws.proofs.ToldSteps.{told_silent, ToldHere}
+use Rattle.abort_expansion_laws.proofs.TestsSpared.{is_valid, takes}
 use Rattle.reaction_laws.specs.Bounded.{last_of, GoesOn, EndsEachTick, TicksEnd}
 use Rattle.reaction_laws.proofs.ByRank.{Begins, begins}
 use Rattle.reaction_laws.proofs.CoreRuns.{Within, within_on, most_silent, longest, tick_within}
@@ -144,11 +143,6 @@ module _ (c : Chart) (rules : IsChart features.Extended c) (core_rules : IsChart
         owns = rest.owns;
       }
 
-  started_begun : (now d : Configuration) → Started k core i now d → HasBegun k now
-  started_begun now d (first_tick inputs chart_is core_is) = subst (HasBegun k) (sym chart_is) (first_begun c rules core_rules inputs)
-  started_begun now d (later_tick inputs before core_before rests chart_is core_is) =
-      subst (HasBegun k) (sym chart_is) (starts_begun k core i before core_before rests inputs)
-
   -- the core chart completes the tick too, and rests alike
   record Rested (last d : Configuration) : Type 0 where
     run : List ℕ
@@ -162,7 +156,7 @@ module _ (c : Chart) (rules : IsChart features.Extended c) (core_rules : IsChart
   comes_to_rest run now last d started owns completes =
       let first : StartRun c rules core_rules now d = start_run c rules core_rules now d started in
       let there : Comes last first.last =
-      comes_along run now last first.last first.ready.related (started_begun now d started) owns completes.runs in
+      comes_along run now last first.last first.ready.related (ticks.started_begun c rules core_rules now d started) owns completes.runs in
       let ends = ticks_finish c rules core_rules (usual c rules core_rules) Told (told_silent k core i) last there.end there.related completes.over
       there.has_begun in
       record {
@@ -183,15 +177,9 @@ module _ (c : Chart) (rules : IsChart features.Extended c) (core_rules : IsChart
   -- ---- between two ticks
 
   module _ (image : HasImage c) (low : IsLowering (expanded c) image.scl) where
-    pub is_valid : IsValid (program_of (numbered image.scl)) image.tables
-    is_valid = subst (λ z. IsValid z image.tables) image.graph.is image.valid
-
-    pub takes : (inputs : Inputs) → AreAccepted image.program inputs → AreAccepted (program_of (numbered image.scl)) inputs
-    takes inputs accepted = subst (λ z. AreAccepted z inputs) image.graph.is accepted
-
     -- the graph rests where the core chart does
     abbrev pub GraphRests : Configuration → Type 0
-    GraphRests d = (m : Control) × tick_starts.Between (expanded c) image.scl image.tables low is_valid d m
+    GraphRests d = (m : Control) × tick_starts.Between (expanded c) image.scl image.tables low (is_valid c image) d m
 
     pub record BothRest (before d : Configuration) : Type 0 where
       pub alike : RestsAlike c rules core_rules before d
@@ -207,20 +195,15 @@ module _ (c : Chart) (rules : IsChart features.Extended c) (core_rules : IsChart
           reached = reached_first;
           graph = (
             graph_tick.initial (program_of (numbered image.scl)),
-            tick_starts.begins (expanded c) image.scl image.tables low is_valid,
+            tick_starts.begins (expanded c) image.scl image.tables low (is_valid c image),
           );
         }
-
-    pub started : (inputs : Inputs) (before d : Configuration) → RestsAlike c rules core_rules before d →
-        Started k core i (start k inputs before) (start core inputs d)
-    started inputs before d (inl (first, core_first)) = first_tick inputs (ap (start k inputs) first) (ap (start core inputs) core_first)
-    started inputs before d (inr rested) = later_tick inputs before d rested.rests refl refl
 
     keeps_kinds : (inputs : Inputs) (before d : Configuration) → AreAccepted image.program inputs → BothRest before d → KeepKinds k.variables inputs
     keeps_kinds inputs before d accepted both j x v is input gives =
         let x_rests = both.graph.1 in
         let nodes = program_keeps_runs image.scl low.rules low.no_loop in
-        let begun_alike = nodes.starts inputs x_rests.state both.graph.0 (takes inputs accepted) x_rests.corresponds in
+        let begun_alike = nodes.starts inputs x_rests.state both.graph.0 (takes c image inputs accepted) x_rests.corresponds in
         let there : slice_get image.scl.variables j ≡ Some x =
         ap (λ xs. slice_get xs j) (low.variables ∙ (ticks.rows c rules core_rules).variables)
         ∙ in_front k.variables (ticks.rows c rules core_rules).added j x is in
@@ -236,7 +219,7 @@ module _ (c : Chart) (rules : IsChart features.Extended c) (core_rules : IsChart
         Ends (machine k) (start k inputs before) last → (e : Configuration) × BothRest last e
     after_tick inputs before last d accepted both ends =
         let there : Rested last (start core inputs d) =
-        comes_to_rest ends.run (start k inputs before) last (start core inputs d) (started inputs before d both.alike)
+        comes_to_rest ends.run (start k inputs before) last (start core inputs d) (started c rules core_rules inputs before d both.alike)
         ((own_tests_kept c rules core_rules).starts inputs before both.owns) ends.complete in (
           there.end,
           record {
@@ -245,8 +228,8 @@ module _ (c : Chart) (rules : IsChart features.Extended c) (core_rules : IsChart
             reached = reached_on features.Extended c rules ends.run (start k inputs before) last (start_reached inputs before d accepted both)
                 ends.complete.runs;
             graph =
-                completes_to (expanded c) image.scl image.tables low is_valid inputs (takes inputs accepted) d both.graph.0 both.graph.1 there.run
-                there.end there.completes;
+                completes_to (expanded c) image.scl image.tables low (is_valid c image) inputs (takes c image inputs accepted) d both.graph.0 both.graph.1
+                there.run there.end there.completes;
           },
         )
 
@@ -274,10 +257,10 @@ module _ (c : Chart) (rules : IsChart features.Extended c) (core_rules : IsChart
       pub tick_bounded : Within (machine k) most_steps (start k next before)
       tick_bounded run d runs =
           let other : CoreRuns (start core next resting.0) (length run) =
-          tick_runs run (start k next before) d (start core next resting.0) (started next before resting.0 resting.1.alike)
+          tick_runs run (start k next before) d (start core next resting.0) (started c rules core_rules next before resting.0 resting.1.alike)
           ((own_tests_kept c rules core_rules).starts next before resting.1.owns) runs in
-          let few = tick_within (expanded c) image.scl low image.tables is_valid next (takes next takes_next) resting.0 resting.1.graph.0 resting.1.graph.1
-          other.run other.end other.runs in
+          let few = tick_within (expanded c) image.scl low image.tables (is_valid c image) next (takes c image next takes_next) resting.0 resting.1.graph.0
+          resting.1.graph.1 other.run other.end other.runs in
           let long = other.long in omega (few, long, arith)
 
       pub tick_reached : IsReached k (start k next before)

@@ -22,7 +22,7 @@ use Rattle.abort_expansion_laws.specs.Ticks.{Reaction, AllOf}
 use Rattle.abort_expansion_laws.proofs.ChartsOpened.{entry_rows}
 use Rattle.abort_expansion_laws.proofs.EnteredAlike.{OpensAlike}
 use Rattle.abort_expansion_laws.proofs.FlagNumbers.{numbers_once}
-use Rattle.abort_expansion_laws.proofs.InitialPairs.{Initials, initials, held_there, in_map}
+use Rattle.abort_expansion_laws.proofs.InitialPairs.{Initials, initials, held_there}
 use Rattle.abort_expansion_laws.proofs.JustEntered.{EntryRows}
 use Rattle.abort_expansion_laws.proofs.OpenedInside.{Leads, charts_lead}
 use Rattle.abort_expansion_laws.proofs.RowsOfCharts as whole
@@ -38,6 +38,7 @@ use Rattle.reaction_laws.proofs.OneReaction.{one_reaction}
 use Rattle.reaction_laws.proofs.RunsComplete.{enabled_there}
 use Rattle.reaction_laws.proofs.SitsAtStart.{Tops, sits_initially, sits_at_start}
 use Rattle.reaction_laws.proofs.SitsStill.{Sits, sits_apart}
+use Rattle.tick_laws.proofs.Lists.{map_contains}
 
 module _ (c : Chart) (rules : IsChart features.Extended c) (core_rules : IsChart features.Core (expanded c)) where
   abbrev k : Table
@@ -95,7 +96,7 @@ module _ (c : Chart) (rules : IsChart features.Extended c) (core_rules : IsChart
       states : (x : ℕ) → Contains init.firsts x → IsState k x
       states x among =
           let child : Contains (state_at k s).regions (holder k x) =
-          subst (λ zs. Contains zs (holder k x)) init.holders (in_map (holder k) init.firsts x among) in
+          subst (λ zs. Contains zs (holder k x)) init.holders (map_contains (holder k) init.firsts x among) in
           let inner : Contains (around k (holder k x)) s =
           subst (λ zs. Contains zs s) (sym (rows.tree.children s (holder k x) child)) (head_in s (around k (holder k s))) in
           held_there k x (holder k x) refl (around_there k (holder k x) s inner)
@@ -115,7 +116,7 @@ module _ (c : Chart) (rules : IsChart features.Extended c) (core_rules : IsChart
       init = initials k core i rows.rows rows.tree rows.core_tree (tops c rules) k.opened core.opened (entered c rules)
 
       among : (x : ℕ) → Contains init.firsts x → Contains (tops c rules) (holder k x)
-      among x h = subst (λ zs. Contains zs (holder k x)) init.holders (in_map (holder k) init.firsts x h)
+      among x h = subst (λ zs. Contains zs (holder k x)) init.holders (map_contains (holder k) init.firsts x h)
 
   -- ---- so its steps keep how it sits
 

@@ -1,7 +1,7 @@
 -- Each step of a chart that reads or writes is one that a thread of its core chart may take now: that of its region, or a monitor.
 use Rattle.std.proofs.Common.{◌≡◌, ℕ, Bool, true, false, not, if◌then◌else◌, ◌&&◌, None, List, [], ◌∷◌, ◌++◌}
 use Rattle.std.proofs.Common.{map, Contains, refl, sym, ap, subst}
-use Rattle.std.proofs.lemmas.Bool.{cases_Bool}
+use Rattle.std.proofs.lemmas.Bool.{cases_Bool, or_right, and_parts, not-true}
 use Rattle.std.proofs.Common.{◌∙◌, ◌⊎◌, ⊎_elim, length}
 use Rattle.sc_values.specs.Access.{Access, no_access}
 use Rattle.core_charts.specs.declared.features.Features.TheVariants as features
@@ -25,17 +25,17 @@ use Rattle.chart_machine_laws.specs.Tree.{IsThere, around, holder}
 use Rattle.abort_expansion_laws.specs.CoreRows.{own, IsState, Images, CoreRows}
 use Rattle.abort_expansion_laws.specs.Related.{monitor_last}
 use Rattle.abort_expansion_laws.specs.Related.{Related, held_back, raises, raise_each}
-use Rattle.abort_expansion_laws.proofs.CasesFollowed.{other_true, has_from}
+use Rattle.abort_expansion_laws.proofs.CasesFollowed.{has_from}
 use Rattle.abort_expansion_laws.proofs.EffectFollowed.{IsActing, acting_back}
 use Rattle.abort_expansion_laws.proofs.EntryTestFails.{IsEntering, entering_back}
-use Rattle.abort_expansion_laws.proofs.KnownVariables.{both_true, present_there}
+use Rattle.abort_expansion_laws.proofs.KnownVariables.{present_there}
 use Rattle.abort_expansion_laws.proofs.OwnTests.{OwnTests, IsOwn, IsClosing}
 use Rattle.abort_expansion_laws.proofs.QuietBegins.{state_with_aborts}
 use Rattle.abort_expansion_laws.proofs.StrongNotTaken.{IsGuarding, guarding_back, MonitorGuards}
 use Rattle.abort_expansion_laws.proofs.TestFails.{IsTrying, trying_back, no_front}
 use Rattle.abort_expansion_laws.proofs.TestHolds.{counting_first}
 use Rattle.abort_expansion_laws.proofs.TestTargets.{ends_untested}
-use Rattle.abort_expansion_laws.proofs.TickFollowed as ticks
+use Rattle.abort_expansion_laws.proofs.TicksOfCharts as ticks
 use Rattle.abort_expansion_laws.proofs.Unchanged.{never_guarded}
 use Rattle.abort_expansion_laws.proofs.WeakNotTaken.{IsWithin, within_back, MonitorWaits}
 use Rattle.abort_expansion_laws.proofs.HasLooked.{looked_strong, looked_weak}
@@ -86,14 +86,10 @@ module _ (c : Chart) (rules : IsChart features.Extended c) (core_rules : IsChart
     module _ (owns : OwnTests k now) (q : ℕ) (on : is_enabled k now q ≡ true) where
       both : (has_work k now (standing_of now q) ≡ true)
           × ((not (is_guarded k now (around k q)) && inside_is_done k now (standing_of now q)) ≡ true)
-      both = both_true (has_work k now (standing_of now q)) (not (is_guarded k now (around k q)) && inside_is_done k now (standing_of now q)) on
-
-      turned : (b : Bool) → not b ≡ true → b ≡ false
-      turned false h = refl
-      turned true h = absurd cc
+      both = and_parts (has_work k now (standing_of now q)) (not (is_guarded k now (around k q)) && inside_is_done k now (standing_of now q)) on
 
       free : is_guarded k now (around k q) ≡ false
-      free = turned (is_guarded k now (around k q)) (both_true (not (is_guarded k now (around k q))) (inside_is_done k now (standing_of now q)) both.1).0
+      free = not-true (is_guarded k now (around k q)) (and_parts (not (is_guarded k now (around k q))) (inside_is_done k now (standing_of now q)) both.1).0
 
       there : IsThere k q
       there = present_there k core i now d related q (λ out. let wrong : true ≡ false = sym both.0 ∙ ap (has_work k now) out in absurd cc)
@@ -144,7 +140,7 @@ module _ (c : Chart) (rules : IsChart features.Extended c) (core_rules : IsChart
           is_join t.kind ≡ false → is_weak t.kind ≡ true → TakenBy now d q
       by_weak o t tests is own_one no_join weak =
           let has : has_aborts (own k o) ≡ true =
-          other_true (has_strong (own k o)) (has_weak (own k o)) (has_from (λ z. is_weak z.kind) (own k o) t own_one weak) in
+          or_right (has_strong (own k o)) (has_weak (own k o)) (has_from (λ z. is_weak z.kind) (own k o) t own_one weak) in
           let b : IsWithin k core i now q o (standing_of d (i.thread_of q)) =
           within_back k core i now q o has (standing_of now q) (standing_of d (i.thread_of q)) (related.regions q there) (t ∷ tests) is in
           let here : IsState k o = state_with_aborts k o has in

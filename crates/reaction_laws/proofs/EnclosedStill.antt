@@ -1,6 +1,7 @@
 -- A step of a chart keeps that whoever is there is inside of all that is around it.
 use Rattle.std.proofs.Common.{◌≡◌, ◌≢◌, ℕ, zero, suc, ◌+◌, ◌<◌, ◌≤◌, ◌⊎◌, inl, inr, ⊎_elim, List, [], ◌∷◌, map, length, slice_set, Contains}
 use Rattle.std.proofs.Common.{refl, sym, ap, subst, ◌∙◌, arith}
+use Rattle.std.proofs.lemmas.List.{length-set}
 use Rattle.core_charts.specs.declared.region.Effect.{Effect}
 use Rattle.core_charts.specs.declared.region.Transition.{Transition}
 use Rattle.core_charts.specs.Tests.{closing_tests, first_closing_tests}
@@ -19,7 +20,7 @@ use Rattle.abort_expansion_laws.proofs.ChartSteps.{Makes, takes_trying, takes_en
 use Rattle.abort_expansion_laws.proofs.ChartSteps.{waits_on, acts_on}
 use Rattle.abort_expansion_laws.proofs.FreshInside.{moved_alike, all_entered, Fresh, Begins, begun_closed, begun_open, Begun}
 use Rattle.abort_expansion_laws.proofs.FreshInside.{one_state, one_begins, fresh_begins}
-use Rattle.abort_expansion_laws.proofs.Leaving.{at_number, set_here, set_other, set_length, drops_in, stay_out, moved_append, moved_size}
+use Rattle.abort_expansion_laws.proofs.Leaving.{at_number, set_here, set_other, drops_in, stay_out, moved_append, moved_size}
 use Rattle.abort_expansion_laws.proofs.StageReached.{inside_in}
 use Rattle.abort_expansion_laws.proofs.StartingRegions.{Once}
 use Rattle.abort_expansion_laws.proofs.StateEntry.{Entry}
@@ -272,7 +273,7 @@ module _ (k : Table) (tree : IsTree k) (holder_there : (q s : ℕ) → Contains 
                 ∙ (elsewhere s r (slice_set zs r (at.Within s tests)) is_state (λ inner. let up = tree.deeper r s inner in omega (up, held, arith))
                 ∙ set_here zs r (at.Within s tests) (in_table zs size));
             fresh = λ ws ws_size empty q inner.
-                moved_alike (state_at k s).opened (slice_set zs r (at.Within s tests)) ws q (set_length zs r (at.Within s tests) ∙ (size ∙ sym ws_size))
+                moved_alike (state_at k s).opened (slice_set zs r (at.Within s tests)) ws q (length-set zs r (at.Within s tests) ∙ (size ∙ sym ws_size))
                 (was_out q s inner held ∙ sym (empty q inner));
             others = λ y q held_y ne inner.
                 elsewhere s q (slice_set zs r (at.Within s tests)) is_state (λ in_s. ne (one_state k tree entries elsewhere q s y in_s inner held_y))

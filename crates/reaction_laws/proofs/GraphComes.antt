@@ -29,7 +29,7 @@ use Rattle.abort_expansion_laws.specs.CoreRows.{Images}
 use Rattle.abort_expansion_laws.specs.Related.{Related}
 use Rattle.abort_expansion_laws.proofs.OwnTests.{OwnTests}
 use Rattle.abort_expansion_laws.proofs.QuietBegins.{LoweredTests}
-use Rattle.abort_expansion_laws.proofs.TickFollowed as ticks
+use Rattle.abort_expansion_laws.proofs.TicksOfCharts as ticks
 use Rattle.reaction_laws.specs.StepNodes.{Alike}
 use Rattle.reaction_laws.proofs.ChartOrder.{AllAt}
 use Rattle.reaction_laws.proofs.GraphRuns.{GoesToNodes, goes_to_nodes, comes_own}

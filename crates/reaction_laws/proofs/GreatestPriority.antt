@@ -14,7 +14,7 @@ abbrev pub greatest_of : List ℕ → ℕ
 greatest_of [] = 0
 greatest_of (x ∷ xs) = max x (greatest_of xs)
 
-within_greatest : (xs : List ℕ) (n : ℕ) → slice_index xs n ≤ greatest_of xs
+pub within_greatest : (xs : List ℕ) (n : ℕ) → slice_index xs n ≤ greatest_of xs
 within_greatest [] n = omega arith
 within_greatest (x ∷ xs) zero = le-max_left x (greatest_of xs)
 within_greatest (x ∷ xs) (suc n) =

@@ -1,5 +1,6 @@
 -- Where a region that tested an opened superstate stands in one with nobody inside who has anything left to do, all lines are within the new cap.
 use Rattle.std.proofs.Common.{◌≡◌, ◌≢◌, ℕ, zero, suc, true, false, not, ◌&&◌, ⊎_elim, Some, List, Contains, sym, ap, subst, ◌∙◌}
+use Rattle.std.proofs.lemmas.Bool.{and_parts}
 use Rattle.sc_values.specs.Runs.{replay}
 use Rattle.sc_graph.specs.declared.control.Control.{Control}
 use Rattle.sc_graph.specs.declared.tables.Tables.{Tables}
@@ -31,9 +32,10 @@ use Rattle.chart_machine_laws.proofs.LyingIn.{around, holder}
 use Rattle.abort_expansion_laws.specs.CoreRows.{Images, CoreRows}
 use Rattle.abort_expansion_laws.specs.Related.{Related, Stands, outside, ended, left, trying, acting, entering, guarding, staying, within, behind}
 use Rattle.abort_expansion_laws.specs.Related.{IsInside, guarded, open_inside}
-use Rattle.abort_expansion_laws.proofs.KnownVariables.{both_true, present_there}
-use Rattle.abort_expansion_laws.proofs.StageReached.{inside_in, none_of, some_work}
-use Rattle.abort_expansion_laws.proofs.TickFollowed as ticks
+use Rattle.abort_expansion_laws.proofs.KnownVariables.{present_there}
+use Rattle.abort_expansion_laws.proofs.StageReached.{inside_in, some_work}
+use Rattle.abort_expansion_laws.proofs.TicksOfCharts as ticks
+use Rattle.abort_expansion_laws.proofs.Unchanged.{none_among}
 use Rattle.reaction_laws.proofs.ApartInCore.{thread_there}
 use Rattle.reaction_laws.proofs.BelowInGraph.{below_there}
 use Rattle.reaction_laws.proofs.CappedSteps.{IsCapped}
@@ -85,11 +87,11 @@ module _ (c : Chart) (rules : IsChart features.Extended c) (core_rules : IsChart
     none_deeper z (itself same) ne turn = ne same
     none_deeper z (deeper v inner held) ne turn =
         let wrong : true ≡ false =
-        sym works ∙ none_of (λ w. has_work k next (standing_of next w)) (inside k u) z idle
+        sym works ∙ none_among (λ w. has_work k next (standing_of next w)) (inside k u) z idle
         (inside_in k u z there (subst (λ w. Contains (around k z) w) state inner)) in absurd cc
       where
         works : has_work k next (standing_of next z) ≡ true
-        works = (both_true (has_work k next (standing_of next z)) (not (is_guarded k next (around k z)) && inside_is_done k next (standing_of next z)) turn).0
+        works = (and_parts (has_work k next (standing_of next z)) (not (is_guarded k next (around k z)) && inside_is_done k next (standing_of next z)) turn).0
 
         entered : standing_of next z ≢ at.Outside
         entered out = let wrong : true ≡ false = sym works ∙ ap (has_work k next) out in absurd cc

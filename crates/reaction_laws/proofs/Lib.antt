@@ -51,6 +51,5 @@ pub mod MonitorsLow
 pub mod QuietRuns
 pub mod GraphComes
 pub mod NextCapped
-pub mod QuietStarts
 pub mod RanksOfCharts
 pub mod Proved

@@ -1,6 +1,7 @@
 -- While a monitor has strong aborts to test, its superstate's holder comes to no greater priority than the monitor, for nobody beside it does.
 use Rattle.std.proofs.Common.{◌≡◌, ◌≢◌, ℕ, suc, ◌<◌, ◌≤◌, true, false, not, ◌&&◌, ⊎_elim, Option, Some, None, List, [], ◌∷◌, ◌++◌, map, pos, refl, sym, ap}
 use Rattle.std.proofs.Common.{subst, ◌∙◌, arith}
+use Rattle.std.proofs.lemmas.Bool.{and_parts, not-true}
 use Rattle.sc_values.specs.Access.{no_access}
 use Rattle.sc_values.specs.declared.expression.Expr.{Expr}
 use Rattle.sc_values.specs.declared.value.Value.TheVariants as value_is
@@ -45,12 +46,12 @@ use Rattle.abort_expansion_laws.specs.Related.{raises, raise_each}
 use Rattle.abort_expansion_laws.proofs.ChecksUpTo.{strong_around}
 use Rattle.abort_expansion_laws.proofs.FlagAccess.{put_access}
 use Rattle.abort_expansion_laws.proofs.HasLooked.{looked_strong}
-use Rattle.abort_expansion_laws.proofs.KnownVariables.{present_there, both_true, not_so}
+use Rattle.abort_expansion_laws.proofs.KnownVariables.{present_there}
 use Rattle.abort_expansion_laws.proofs.QuietBegins.{LoweredTests, IsRaising, StaysLow, state_with_aborts}
 use Rattle.abort_expansion_laws.proofs.RowsOfCharts as whole
 use Rattle.abort_expansion_laws.proofs.StrongNotTaken.{IsGuarding as StandsGuarding, guarding_back, MonitorGuards}
 use Rattle.abort_expansion_laws.proofs.StrongTestsQuiet.{SoonLow, soon_low, soon_resumed, soon_tested}
-use Rattle.abort_expansion_laws.proofs.TickFollowed as ticks
+use Rattle.abort_expansion_laws.proofs.TicksOfCharts as ticks
 use Rattle.reaction_laws.specs.StepNodes.{Alike}
 use Rattle.reaction_laws.proofs.CappedSteps.{IsGuarding}
 use Rattle.reaction_laws.proofs.ChartOrder.{AllAt, step_priority}
@@ -118,10 +119,10 @@ module _ (c : Chart) (rules : IsChart features.Extended c) (core_rules : IsChart
 
           both : (has_work k now (standing_of now t) ≡ true)
               × ((not (is_guarded k now (around k t)) && inside_is_done k now (standing_of now t)) ≡ true)
-          both = both_true (has_work k now (standing_of now t)) (not (is_guarded k now (around k t)) && inside_is_done k now (standing_of now t)) on
+          both = and_parts (has_work k now (standing_of now t)) (not (is_guarded k now (around k t)) && inside_is_done k now (standing_of now t)) on
 
           free : is_guarded k now (around k t) ≡ false
-          free = not_so (is_guarded k now (around k t)) (both_true (not (is_guarded k now (around k t))) (inside_is_done k now (standing_of now t)) both.1).0
+          free = not-true (is_guarded k now (around k t)) (and_parts (not (is_guarded k now (around k t))) (inside_is_done k now (standing_of now t)) both.1).0
 
           monitor : MonitorGuards k core i o test tests (standing_of d (i.watcher_of o))
           monitor =

@@ -27,9 +27,9 @@ use Rattle.abort_expansion_laws.specs.CoreRows.{Images}
 use Rattle.abort_expansion_laws.proofs.KnownVariables.{present_there}
 use Rattle.abort_expansion_laws.proofs.Owed.{Started}
 use Rattle.abort_expansion_laws.proofs.OwnTests.{OwnTests}
-use Rattle.abort_expansion_laws.proofs.PreemptionKept.{own_tests_kept}
+use Rattle.abort_expansion_laws.proofs.OwnTestsKept.{own_tests_kept}
 use Rattle.abort_expansion_laws.proofs.QuietBegins.{LoweredTests}
-use Rattle.abort_expansion_laws.proofs.TickFollowed as ticks
+use Rattle.abort_expansion_laws.proofs.TicksOfCharts as ticks
 use Rattle.reaction_laws.specs.StepNodes.{Alike}
 use Rattle.reaction_laws.proofs.CappedSteps.{IsCapped}
 use Rattle.reaction_laws.proofs.ChartOrder.{AllAt}

@@ -1,10 +1,11 @@
 -- Moves that leave each region where it stands are none.
 use Rattle.std.proofs.Common.{◌≡◌, ◌≢◌, ℕ, zero, suc, ◌<◌, List, [], ◌∷◌, length, slice_set, refl, sym, ap, ◌∙◌, arith}
+use Rattle.std.proofs.lemmas.List.{length-set}
 use Rattle.chart_machine.specs.declared.standing.Move.{Move}
 use Rattle.chart_machine.specs.declared.standing.Standing.{Standing}
 use Rattle.chart_machine.specs.declared.standing.Standing.TheVariants as at
 use Rattle.chart_machine.specs.Steps.{moved}
-use Rattle.abort_expansion_laws.proofs.Leaving.{at_number, set_here, set_length}
+use Rattle.abort_expansion_laws.proofs.Leaving.{at_number, set_here}
 
 -- whatever stood there, the region of the last move stands as that says
 last_move : (m : Move) (ms : List Move) →
@@ -14,7 +15,7 @@ last_move m (n ∷ ms) =
     let later = last_move n ms in (
       later.0,
       later.1,
-      λ zs lt. later.2 (slice_set zs m.region m.standing) (let size = set_length zs m.region m.standing in omega (size, lt, arith)),
+      λ zs lt. later.2 (slice_set zs m.region m.standing) (let size = length-set zs m.region m.standing in omega (size, lt, arith)),
     )
 
 another : (x : Standing) → (y : Standing) × (x ≢ y)

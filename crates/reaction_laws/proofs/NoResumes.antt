@@ -42,7 +42,7 @@ assigns_other : (x next n : ℕ) (a : Assignment) → assigns x a next ≡ node_
 assigns_other x next n (Inits e) h = absurd cc
 assigns_other x next n (Combines f e) h = absurd cc
 
-one_node : (m n : ℕ) → status.At m ≡ status.At n → m ≡ n
+pub one_node : (m n : ℕ) → status.At m ≡ status.At n → m ≡ n
 one_node m n h = cc
 
 module _ (c : Chart) (p : Scl) (low : IsLowering c p) where

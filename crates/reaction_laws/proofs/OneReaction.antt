@@ -1,7 +1,5 @@
 -- A machine that keeps threads apart, and the steps of which have ranks, has one list of ends at most for each list of inputs.
-use Rattle.std.proofs.Common.{◌≡◌, ℕ, ◌<◌, true, Option, Some, None, option_and_then, List, [], ◌∷◌, ◌++◌, refl, sym, ap₂, subst}
-use Rattle.std.proofs.lemmas.Option.{none-some, same_Some}
-use Rattle.sc_values.specs.Runs.{replay}
+use Rattle.std.proofs.Common.{◌≡◌, ℕ, ◌<◌, true, List, [], ◌∷◌, ◌++◌, refl, sym, ap₂, subst}
 use Rattle.sc_graph.specs.Tick.{Inputs}
 use Rattle.abort_expansion_laws.specs.Ticks.{Reactive, Reaction, AllOf}
 use Rattle.reaction_laws.specs.Bounded.{last_of}
@@ -9,6 +7,7 @@ use Rattle.reaction_laws.specs.ChartRanks.{HasRanks}
 use Rattle.reaction_laws.specs.OneEnd.{KeepsApart, RankedSteps}
 use Rattle.reaction_laws.proofs.OneEnd.{one_end}
 use Rattle.reaction_laws.proofs.RanksReact.{reaction_on, last_on, all_on}
+use Rattle.reaction_laws.proofs.ByRank.{holds_along}
 
 module _ (r : Reactive) (Sound : r.machine.Configuration → Type 0) (keeps : KeepsApart r.machine Sound) (initially : Sound r.initial)
     (starts : (inputs : Inputs) (c : r.machine.Configuration) → Sound c → Sound (r.start inputs c)) (threads : r.machine.Configuration → ℕ)
@@ -26,15 +25,6 @@ module _ (r : Reactive) (Sound : r.machine.Configuration → Type 0) (keeps : Ke
         order = λ c d k l t u a here there on on_too apart low. ranks.order c d k l t u a here there on on_too apart low;
       }
 
-  run_kept : (run : List ℕ) (c d : r.machine.Configuration) → Sound c → replay r.machine run c ≡ Some d → Sound d
-  run_kept [] c d sound runs = subst Sound (same_Some c d runs) sound
-  run_kept (t ∷ run) c d sound runs = at (r.machine.step t c) refl runs (λ e kept rest. run_kept run e d kept rest)
-    where
-      at : (o : Option r.machine.Configuration) → r.machine.step t c ≡ o → option_and_then (replay r.machine run) o ≡ Some d →
-          ((e : r.machine.Configuration) → Sound e → replay r.machine run e ≡ Some d → Sound d) → Sound d
-      at None is rest on = absurd (none-some d rest)
-      at (Some e) is rest on = on e (keeps.kept c e t sound is) rest
-
   -- from where a list of ends leads
   from : (rest done : List Inputs) (ends ds es : List r.machine.Configuration) → AllOf Accepted done → AllOf Accepted rest →
       Reaction r done r.initial ends → Sound (last_of r.initial ends) → Reaction r rest (last_of r.initial ends) ds →
@@ -49,7 +39,7 @@ module _ (r : Reactive) (Sound : r.machine.Configuration → Type 0) (keeps : Ke
       let known = ranks.begins done ends next accepted others.0 before in
       let sound_now : Sound c = starts next (last_of r.initial ends) sound in
       let same : d ≡ e = one_end r.machine Sound keeps ranked c known.0 sound_now known.1 d e h.0 g.0 in
-      let kept : Sound d = run_kept h.0.run c d sound_now h.0.complete.runs in
+      let kept : Sound d = holds_along r.machine Sound keeps.kept h.0.run c d sound_now h.0.complete.runs in
       let last : last_of r.initial (ends ++ d ∷ []) ≡ d = last_on ends r.initial d in
       ap₂ (λ x xs. x ∷ xs) same
       (from rest (done ++ next ∷ []) (ends ++ d ∷ []) ds es (all_on Accepted done next accepted others.0) others.1

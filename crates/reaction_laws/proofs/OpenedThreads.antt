@@ -1,6 +1,7 @@
 -- Where a region stands in an opened superstate, and tests it, its thread waits at the join of that.
-use Rattle.std.proofs.Common.{◌≡◌, ℕ, Bool, true, false, not, ◌&&◌, ⊎_elim, List, [], ◌∷◌, map, refl, sym, ap, subst, ◌∙◌}
+use Rattle.std.proofs.Common.{◌≡◌, ℕ, true, false, not, ◌&&◌, ⊎_elim, List, [], ◌∷◌, map, sym, ap, subst, ◌∙◌}
 use Rattle.std.specs.List.{list_all}
+use Rattle.std.proofs.lemmas.Bool.{or_right, and_parts, not-true}
 use Rattle.sc_graph.specs.declared.control.Control.{Control}
 use Rattle.sc_graph.specs.declared.control.Status.TheVariants as status
 use Rattle.sc_graph.specs.declared.tables.Tables.{Tables}
@@ -30,15 +31,10 @@ use Rattle.chart_machine_laws.specs.Tree.{IsThere, holder}
 use Rattle.compiled_charts_laws.proofs.AtJoins as at_joins
 use Rattle.abort_expansion_laws.specs.CoreRows.{own, flags_around, Images, joins}
 use Rattle.abort_expansion_laws.specs.Related.{Stands, outside, ended, left, trying, acting, entering, guarding, staying, within, behind, is_behind}
-use Rattle.abort_expansion_laws.proofs.CasesFollowed.{other_true, has_from}
-use Rattle.abort_expansion_laws.proofs.KnownVariables.{both_true}
+use Rattle.abort_expansion_laws.proofs.CasesFollowed.{has_from}
 use Rattle.abort_expansion_laws.proofs.OwnTests.{IsOwn, IsClosing}
-use Rattle.abort_expansion_laws.proofs.TickFollowed as ticks
+use Rattle.abort_expansion_laws.proofs.TicksOfCharts as ticks
 use Rattle.reaction_laws.proofs.ChartOrder.{AllAt}
-
-turned : (b : Bool) → not b ≡ true → b ≡ false
-turned false h = refl
-turned true h = absurd cc
 
 module _ (c : Chart) (rules : IsChart features.Extended c) (core_rules : IsChart features.Core (expanded c)) where
   abbrev k : Table
@@ -56,23 +52,23 @@ module _ (c : Chart) (rules : IsChart features.Extended c) (core_rules : IsChart
     where
       parts : (not (stays (flags_around k core i (holder k s)) (own k s)) ≡ true)
           × ((not (has_aborts (own k s)) && (not (has_join (own k s)) && list_all (λ r. has_ended (standing_of now r)) (state_at k s).regions)) ≡ true)
-      parts = both_true (not (stays (flags_around k core i (holder k s)) (own k s))) _ over
+      parts = and_parts (not (stays (flags_around k core i (holder k s)) (own k s))) _ over
 
       more : (not (has_aborts (own k s)) ≡ true)
           × ((not (has_join (own k s)) && list_all (λ r. has_ended (standing_of now r)) (state_at k s).regions) ≡ true)
-      more = both_true (not (has_aborts (own k s))) _ parts.1
+      more = and_parts (not (has_aborts (own k s))) _ parts.1
 
       weak : is_weak t.kind ≡ true → ⊥
       weak is =
           let has : has_aborts (own k s) ≡ true =
-          other_true (has_strong (own k s)) (has_weak (own k s)) (has_from (λ z. is_weak z.kind) (own k s) t closes.0 is) in
-          let none : has_aborts (own k s) ≡ false = turned (has_aborts (own k s)) more.0 in
+          or_right (has_strong (own k s)) (has_weak (own k s)) (has_from (λ z. is_weak z.kind) (own k s) t closes.0 is) in
+          let none : has_aborts (own k s) ≡ false = not-true (has_aborts (own k s)) more.0 in
           let wrong : true ≡ false = sym has ∙ none in absurd cc
 
       join : is_join t.kind ≡ true → ⊥
       join is =
           let has : has_join (own k s) ≡ true = has_from (λ z. is_join z.kind) (own k s) t closes.0 is in
-          let none : has_join (own k s) ≡ false = turned (has_join (own k s)) (both_true (not (has_join (own k s))) _ more.1).0 in
+          let none : has_join (own k s) ≡ false = not-true (has_join (own k s)) (and_parts (not (has_join (own k s))) _ more.1).0 in
           let wrong : true ≡ false = sym has ∙ none in absurd cc
 
   -- so it is in the image of the superstate

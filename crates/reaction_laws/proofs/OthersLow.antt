@@ -20,7 +20,7 @@ use Rattle.scl_graph.specs.Graph.{program_of}
 use Rattle.abort_expansion.specs.Expansion.{expanded}
 use Rattle.chart_lowering_laws.specs.Laws.{IsLowering}
 use Rattle.abort_expansion_laws.specs.CoreRows.{Images}
-use Rattle.abort_expansion_laws.proofs.TickFollowed as ticks
+use Rattle.abort_expansion_laws.proofs.TicksOfCharts as ticks
 use Rattle.reaction_laws.specs.CappedRanks.{capped}
 use Rattle.reaction_laws.proofs.CappedSteps.{IsCapped, is_idle, line_kept}
 use Rattle.reaction_laws.proofs.ChartOrder.{step_priority}

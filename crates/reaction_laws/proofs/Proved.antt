@@ -1,11 +1,9 @@
 -- All that was proved, passed on from one place, so that the check reads each file.
 use Rattle.std.proofs.Common.{◌≡◌, ℕ, refl}
-pub use Rattle.reaction_laws.proofs.ByRank.{ranks_lead_to_ends}
 pub use Rattle.reaction_laws.proofs.OneEnd.{one_end}
 pub use Rattle.reaction_laws.proofs.AssignmentsSwap.{assignments_swap}
 pub use Rattle.reaction_laws.proofs.WritesSwap.{changes_swap}
 pub use Rattle.reaction_laws.proofs.ApartTogether.{are_apart, forks_none}
-pub use Rattle.reaction_laws.proofs.StepsSwap.{keeps_apart}
 pub use Rattle.reaction_laws.proofs.SitsStill.{sits_apart}
 pub use Rattle.reaction_laws.proofs.SitsAtStart.{sits_initially, sits_at_start}
 pub use Rattle.reaction_laws.proofs.CoreCompletes.{completes_to}
@@ -19,7 +17,6 @@ pub use Rattle.reaction_laws.proofs.GraphRuns.{goes_to_nodes, comes_own}
 pub use Rattle.reaction_laws.proofs.StillAtJoins.{has_stepped}
 pub use Rattle.reaction_laws.proofs.MonitorsLow.{guards_low}
 pub use Rattle.reaction_laws.proofs.QuietRuns.{steps_keep, coming_keeps}
-pub use Rattle.reaction_laws.proofs.QuietStarts.{starts_quiet}
 pub use Rattle.reaction_laws.proofs.RanksOfCharts.{has_capped_ranks, charts_react}
 pub use Rattle.reaction_laws.proofs.NextCapped.{first_capped, next_capped}
 pub use Rattle.reaction_laws.proofs.LinesAhead.{low_once_stepped, once_stepped_above, stepped_ahead, once_stepped_on, once_stepped_both}

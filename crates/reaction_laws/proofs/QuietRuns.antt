@@ -1,5 +1,6 @@
 -- What is beside a monitor with a delayed test to make stays low, while the core chart takes steps and the threads of its graph catch up.
 use Rattle.std.proofs.Common.{◌≡◌, ◌≢◌, ℕ, true, false, not, Some, List, [], ◌∷◌, Contains, ⊎_elim, refl, sym, ap, subst, ◌∙◌}
+use Rattle.std.proofs.lemmas.Bool.{not-true}
 use Rattle.sc_values.specs.Runs.{replay}
 use Rattle.sc_graph.specs.declared.control.Control.{Control}
 use Rattle.sc_graph.specs.declared.tables.Tables.{Tables}
@@ -31,12 +32,12 @@ use Rattle.chart_machine_laws.proofs.LyingIn.{IsNested, around, holder, head_in}
 use Rattle.compiled_charts_laws.proofs.LateTests.{is_late}
 use Rattle.abort_expansion_laws.specs.CoreRows.{own, IsState, Images, CoreRows}
 use Rattle.abort_expansion_laws.proofs.ChecksUpTo.{strong_around}
-use Rattle.abort_expansion_laws.proofs.KnownVariables.{stepped, not_so}
+use Rattle.abort_expansion_laws.proofs.KnownVariables.{stepped}
 use Rattle.abort_expansion_laws.proofs.QuietBegins.{LoweredTests, Beside}
 use Rattle.abort_expansion_laws.proofs.RowsOfCharts as whole
 use Rattle.abort_expansion_laws.proofs.StageReached.{inside_in}
 use Rattle.abort_expansion_laws.proofs.StrongTestsQuiet.{along}
-use Rattle.abort_expansion_laws.proofs.TickFollowed as ticks
+use Rattle.abort_expansion_laws.proofs.TicksOfCharts as ticks
 use Rattle.reaction_laws.specs.StepNodes.{Alike}
 use Rattle.reaction_laws.proofs.GraphRuns.{KeptByFollowing}
 use Rattle.reaction_laws.proofs.MonitorsLow.{lowered, Stays, MonitorsQuiet}
@@ -96,7 +97,7 @@ module _ (c : Chart) (rules : IsChart features.Extended c) (core_rules : IsChart
       inside_in core (i.main_of o) (i.watcher_of o) image.there
       (subst (λ zs. Contains zs (i.main_of o)) (sym image.encloses) (head_in (i.main_of o) (around core (home o)))) in
       let idle : has_work core d (standing_of d (i.watcher_of o)) ≡ false =
-      not_so (has_work core d (standing_of d (i.watcher_of o)))
+      not-true (has_work core d (standing_of d (i.watcher_of o)))
       (list_all_at (λ r. not (has_work core d (standing_of d r))) (inside core (i.main_of o)) (i.watcher_of o) done inner) in
       let wrong : true ≡ false = sym (late_works core d (standing_of d (i.watcher_of o)) late) ∙ idle in absurd cc
 

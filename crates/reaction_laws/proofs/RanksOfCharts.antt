@@ -21,7 +21,9 @@ use Rattle.chart_lowering_laws.specs.Laws.{IsLowering}
 use Rattle.compiled_charts_laws.proofs.TickStarts as tick_starts
 use Rattle.abort_expansion_laws.specs.Preemption.{chart_machine, HasImage}
 use Rattle.abort_expansion_laws.specs.Ticks.{Reaction, AllOf}
-use Rattle.abort_expansion_laws.proofs.PreemptionKept.{own_tests_kept}
+use Rattle.abort_expansion_laws.proofs.OwnTestsKept.{own_tests_kept}
+use Rattle.abort_expansion_laws.proofs.BetweenTicks.{started}
+use Rattle.abort_expansion_laws.proofs.TestsSpared.{lowered_tests, earlier, starts_quiet, is_valid, takes}
 use Rattle.reaction_laws.specs.Bounded.{last_of}
 use Rattle.reaction_laws.specs.CappedRanks.{HasCappedRanks}
 use Rattle.reaction_laws.specs.ChartRanks.{HasRanks}
@@ -30,13 +32,13 @@ use Rattle.reaction_laws.proofs.CappedRanks.{capped_are_ranks}
 use Rattle.reaction_laws.proofs.ChartsSit.{one_list_of_ends}
 use Rattle.reaction_laws.proofs.CappedSteps.{IsCapped, idle_is, is_idle, uncapped}
 use Rattle.reaction_laws.proofs.ChartOrder.{step_priority, in_order}
-use Rattle.reaction_laws.proofs.ChartRuns.{BothRest, is_valid, resting, started, takes}
+use Rattle.reaction_laws.proofs.ChartRuns.{BothRest, resting}
 use Rattle.reaction_laws.proofs.GreatestPriority.{greatest_priority}
 use Rattle.reaction_laws.proofs.NextCapped.{n, m_first, followed, next_capped, quiet_next, first, first_capped, quiet_first}
 use Rattle.reaction_laws.proofs.OthersLow.{RanksWithin}
-use Rattle.reaction_laws.proofs.QuietStarts.{Quiet, lowered_tests, earlier, starts_quiet}
 use Rattle.reaction_laws.proofs.RanksReact.{has_reaction}
 use Rattle.reaction_laws.proofs.RunsComplete.{enabled_there, turn_of}
+use Rattle.reaction_laws.proofs.MonitorsLow.{MonitorsQuiet}
 
 module _ (c : Chart) (rules : IsChart features.Extended c) (image : HasImage c) (low : IsLowering (expanded c) image.scl) where
   abbrev k : Table
@@ -46,10 +48,12 @@ module _ (c : Chart) (rules : IsChart features.Extended c) (image : HasImage c) 
   G = program_of (numbered image.scl)
 
   abbrev Calm : Configuration → Control → Type 0
-  Calm = Quiet c rules low.core image.scl image.tables low (is_valid c rules low.core image low)
+  Calm =
+      MonitorsQuiet c rules low.core image.scl image.tables low (is_valid c image)
+      (lowered_tests c rules low.core image.scl low image.tables (is_valid c image)) (earlier c rules low.core image.scl low image.tables (is_valid c image))
 
   abbrev Capped : (now d : Configuration) → Control → ℕ → Type 0
-  Capped = IsCapped c rules low.core image.scl image.tables low (is_valid c rules low.core image low)
+  Capped = IsCapped c rules low.core image.scl image.tables low (is_valid c image)
 
   -- where the chart is, its core chart, and the graph of that
   pub record KnownAt : Type 0 where
@@ -63,16 +67,16 @@ module _ (c : Chart) (rules : IsChart features.Extended c) (image : HasImage c) 
     pub quiet : Calm at.core at.control
 
   abbrev priority_at : KnownAt → ℕ → ℕ
-  priority_at at = step_priority c rules low.core image.scl image.tables low (is_valid c rules low.core image low) at.now at.control
+  priority_at at = step_priority c rules low.core image.scl image.tables low (is_valid c image) at.now at.control
 
   goes_at : (next : Configuration) (at : KnownAt) (cap least t : ℕ) → Capped at.now at.core at.control cap → Calm at.core at.control →
       step k t at.now ≡ Some next →
-      RanksWithin c rules low.core image.scl image.tables low (is_valid c rules low.core image low) at.now at.control cap least →
+      RanksWithin c rules low.core image.scl image.tables low (is_valid c image) at.now at.control cap least →
       (l : KnownAt) × HoldsAt next l least
   goes_at next at cap least t known quiet steps ranks =
-      let v = is_valid c rules low.core image low in
-      let tests = lowered_tests c rules low.core image.scl image.tables low v in
-      let late = earlier c rules low.core image.scl image.tables low v in (
+      let v = is_valid c image in
+      let tests = lowered_tests c rules low.core image.scl low image.tables v in
+      let late = earlier c rules low.core image.scl low image.tables v in (
         record {
           now = next;
           core =
@@ -93,19 +97,19 @@ module _ (c : Chart) (rules : IsChart features.Extended c) (image : HasImage c) 
       AreAccepted image.program next → Reaction (chart_machine c) inputs (initial k) ends →
       (at : KnownAt) × (cap : ℕ) × HoldsAt (start k next (last_of (initial k) ends)) at cap
   begins_at inputs ends next accepted takes_next reaction =
-      let v = is_valid c rules low.core image low in
-      let tests = lowered_tests c rules low.core image.scl image.tables low v in
-      let late = earlier c rules low.core image.scl image.tables low v in
+      let v = is_valid c image in
+      let tests = lowered_tests c rules low.core image.scl low image.tables v in
+      let late = earlier c rules low.core image.scl low image.tables v in
       let here : (d : Configuration) × BothRest c rules low.core image low (last_of (initial k) ends) d =
       resting c rules low.core image low inputs ends next accepted takes_next reaction in
       let before : Configuration = last_of (initial k) ends in
-      let taken = takes c rules low.core image low next takes_next in
+      let taken = takes c image next takes_next in
       let d : Configuration = start (table (expanded c)) next here.0 in
       let m : Control = graph_tick.start G next here.1.graph.0 in
-      let begun = started c rules low.core image low next before here.0 here.1.alike in
+      let begun = started c rules low.core next before here.0 here.1.alike in
       let owns = (own_tests_kept c rules low.core).starts next before here.1.owns in
       let alike = tick_starts.starts_alike (expanded c) image.scl image.tables low v next taken here.0 here.1.graph.0 here.1.graph.1 in
-      let quiet = starts_quiet c rules low.core image.scl image.tables low v next taken before here.0 here.1.graph.0 here.1.graph.1 here.1.alike in (
+      let quiet = starts_quiet c rules low.core image.scl low image.tables v next taken before here.0 here.1.graph.0 here.1.graph.1 here.1.alike in (
         record {
           now = start k next before;
           core = (first c rules low.core image.scl image.tables low v tests late (start k next before) d m begun owns alike quiet).last;
@@ -140,13 +144,13 @@ module _ (c : Chart) (rules : IsChart features.Extended c) (image : HasImage c) 
         is_free = λ x at cap u holds free.
             ap (λ z. access_of (standing_of z u)) holds.same ∙ idle_is (access_of (standing_of at.now u)) free;
         uncapped = λ x at cap u holds on writes.
-            uncapped c rules low.core image.scl image.tables low (is_valid c rules low.core image low) at.now at.core at.control cap
+            uncapped c rules low.core image.scl image.tables low (is_valid c image) at.now at.core at.control cap
             holds.is_capped u
             (enabled_too x at u holds.same on) (λ none. writes (ap (λ z. (access_of (standing_of z u)).writes) holds.same ∙ none));
         order = λ x y at to cap other t u a here there on on_too apart writes lower.
             subst (λ z. MayPrecede (access_of (standing_of z t)) (access_of (standing_of y u))) (sym here.same)
             (subst (λ z. MayPrecede (access_of (standing_of at.now t)) (access_of (standing_of z u))) (sym there.same)
-            (in_order c rules low.core image.scl image.tables low (is_valid c rules low.core image low) at.now at.core to.now to.core at.control
+            (in_order c rules low.core image.scl image.tables low (is_valid c image) at.now at.core to.now to.core at.control
             to.control here.is_capped.all there.is_capped.all t u a (enabled_too x at t here.same on) (enabled_too y to u there.same on_too) apart lower));
       }
 

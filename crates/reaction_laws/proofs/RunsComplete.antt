@@ -1,8 +1,8 @@
 -- Where the runs of a chart are bounded, each one can be completed, since each enabled region has a step.
 use Rattle.std.proofs.Common.{◌≡◌, ℕ, zero, suc, ◌<◌, ◌≤◌, ◌⊎◌, inl, inr, ⊎_elim, true, false, not, ◌&&◌, Option, Some, None, option_and_then, List, []}
 use Rattle.std.proofs.Common.{◌∷◌, ◌++◌}
-use Rattle.std.proofs.Common.{map, option_map, length, slice_get, unwrap_or, refl, sym, ap, subst, ◌∙◌, arith}
-use Rattle.std.proofs.lemmas.Bool.{cases_lt, cases_Bool}
+use Rattle.std.proofs.Common.{map, option_map, length, slice_get, unwrap_or, refl, sym, ap, ◌∙◌, arith}
+use Rattle.std.proofs.lemmas.Bool.{cases_lt, cases_Bool, and_parts}
 use Rattle.std.proofs.lemmas.Option.{none-some, same_Some, slice_get_within}
 use Rattle.sc_values.specs.declared.value.Value.{Value}
 use Rattle.sc_values.specs.Operator.{kind_of, initial_value}
@@ -24,8 +24,7 @@ use Rattle.tick_laws.proofs.Views.{only_if_some}
 use Rattle.chart_machine.specs.Machine.{machine}
 use Rattle.chart_machine_laws.specs.Progress.{IsReached, stepped}
 use Rattle.chart_machine_laws.proofs.NeverStuck.{never_stuck}
-use Rattle.abort_expansion_laws.proofs.KnownVariables.{both_true}
-use Rattle.reaction_laws.proofs.ByRank.{Begins, begins}
+use Rattle.reaction_laws.proofs.ByRank.{holds_along}
 use Rattle.reaction_laws.proofs.CoreRuns.{Within}
 
 -- ---- what is given for an input is of its kind
@@ -66,10 +65,7 @@ module _ (f : Features) (c : Chart) (rules : IsChart f c) where
   k = table c
 
   pub reached_on : (run : List ℕ) (now last : Configuration) → IsReached k now → replay (machine k) run now ≡ Some last → IsReached k last
-  reached_on [] now last reached runs = subst (IsReached k) (same_Some now last runs) reached
-  reached_on (t ∷ run) now last reached runs =
-      let b : Begins (machine k) t run now last = begins (machine k) t run now last runs in
-      reached_on run b.next last (stepped now b.next t reached b.steps) b.rest
+  reached_on = holds_along (machine k) (IsReached k) stepped
 
   -- somebody of the first n is enabled, or nobody is
   abbrev Someone : Configuration → ℕ → Type 0
@@ -90,7 +86,7 @@ module _ (f : Features) (c : Chart) (rules : IsChart f c) where
   enabled_there now t on = by (slice_get now.regions t) refl
     where
       work : has_work k now (standing_of now t) ≡ true
-      work = (both_true (has_work k now (standing_of now t))
+      work = (and_parts (has_work k now (standing_of now t))
           (not (is_guarded k now (region_at k t).around) && inside_is_done k now (standing_of now t)) on).0
 
       by : (o : Option Standing) → slice_get now.regions t ≡ o → t < length now.regions

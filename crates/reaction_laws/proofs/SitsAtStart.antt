@@ -50,7 +50,7 @@ woken_open k u _ (open_within tests) = by (strong_aborts (state_at k u).transiti
     by [] = open_within (closing_tests (state_at k u).transitions)
     by (t ∷ strong) = open_guarding (t ∷ strong)
 
-all_out : (zs : List Standing) → list_all is_outside zs ≡ true → (q : ℕ) → at_number zs q ≡ at.Outside
+pub all_out : (zs : List Standing) → list_all is_outside zs ≡ true → (q : ℕ) → at_number zs q ≡ at.Outside
 all_out [] h q = refl
 all_out (z ∷ zs) h zero = by z (and_parts (is_outside z) (list_all is_outside zs) h).0
   where

@@ -1,7 +1,6 @@
 -- What a chart keeps by each of its steps, of its own table alone; so its machine keeps regions apart that have their turn together.
-use Rattle.std.proofs.Common.{◌≡◌, ◌≢◌, ℕ, zero, suc, ◌<◌, ⊎_elim, true, Some, List, [], ◌∷◌, length, Contains, refl, subst, ◌∙◌}
+use Rattle.std.proofs.Common.{◌≡◌, ◌≢◌, ℕ, suc, ◌<◌, true, Some, List, [], ◌∷◌, length, Contains, refl, subst, ◌∙◌}
 use Rattle.std.proofs.Common.{arith}
-use Rattle.std.proofs.lemmas.Bool.{cases_lt}
 use Rattle.chart_machine.specs.declared.standing.Configuration.{Configuration}
 use Rattle.chart_machine.specs.declared.standing.Standing.{Standing}
 use Rattle.chart_machine.specs.declared.standing.Standing.TheVariants as at
@@ -17,11 +16,12 @@ use Rattle.abort_expansion_laws.proofs.ChartSteps.{StepMade, step_made}
 use Rattle.abort_expansion_laws.proofs.Leaving.{at_number, moved_size}
 use Rattle.abort_expansion_laws.proofs.StartingRegions.{Once}
 use Rattle.abort_expansion_laws.proofs.StateEntry.{Entry}
+use Rattle.abort_expansion_laws.proofs.NumberedRegions.{is_region}
 use Rattle.reaction_laws.specs.OneEnd.{KeepsApart}
 use Rattle.reaction_laws.proofs.ApartTogether.{Enclosed, turn, present, are_apart, forks_none}
 use Rattle.reaction_laws.proofs.EnclosedStill.{Firsts, NextOpen, all_open, next_still}
 use Rattle.reaction_laws.proofs.MovesInside.{LeadIn, MayStand, stands_within, moves_inside}
-use Rattle.reaction_laws.proofs.StandsStill.{past_number, stands_still}
+use Rattle.reaction_laws.proofs.StandsStill.{stands_still}
 use Rattle.reaction_laws.proofs.StepsSwap.{Sound, has_turn, still, second_first}
 
 module _ (k : Table) (tree : IsTree k) (holder_there : (q s : ℕ) → Contains (around k q) s → IsThere k q × IsThere k (holder k s))
@@ -45,17 +45,11 @@ module _ (k : Table) (tree : IsTree k) (holder_there : (q s : ℕ) → Contains 
     pub next : Next (standing_of c)
     pub stands : (r : ℕ) → May r (standing_of c r)
 
-  sits_there : (c : Configuration) → Sits c → (q : ℕ) → standing_of c q ≢ at.Outside → IsThere k q
-  sits_there c sits zero there = absurd (there sits.chart_out)
-  sits_there c sits (suc q) there =
-      ⊎_elim (λ lt. (omega arith, lt))
-      (λ past. absurd (there (past_number c.regions (suc q) (let size = sits.size in omega (past, size, arith))))) (cases_lt (suc q) (suc (length k.regions)))
-
-  sits_enclosed : (c : Configuration) → Sits c → Enclosed k tree holder_there c
+  pub sits_enclosed : (c : Configuration) → Sits c → Enclosed k tree holder_there c
   sits_enclosed c sits =
       record {
         chart_out = sits.chart_out;
-        there = sits_there c sits;
+        there = is_region k c sits.chart_out sits.size;
         around_open = λ q s h there.
             all_open k tree holder_there entries elsewhere state_there firsts once (standing_of c) sits.next (around k q) q s refl h there;
       }
@@ -81,7 +75,7 @@ module _ (k : Table) (tree : IsTree k) (holder_there : (q s : ℕ) → Contains 
       there_t = present k tree holder_there c (standing_of c t) (turn k tree holder_there c t (turn_of c d t steps)).works
 
       is_there : IsThere k t
-      is_there = sits_there c sits t there_t
+      is_there = is_region k c sits.chart_out sits.size t there_t
 
       out : ¬ LiesIn k 0 t
       out (itself e) = let lt = is_there.0 in omega (lt, e, arith)

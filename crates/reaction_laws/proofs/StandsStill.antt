@@ -1,8 +1,8 @@
 -- A step of a chart keeps that each region stands in a state of its own, and that its tests lead to states of its own.
 use Rattle.std.proofs.Common.{◌≡◌, ℕ, zero, suc, ◌+◌, ◌<◌, ◌≤◌, ⊎_elim, Bool, true, false, cond, List, [], ◌∷◌, ◌++◌, map, filter}
-use Rattle.std.proofs.Common.{length, slice_set, unwrap_or, Contains, refl, sym, ap, subst, arith}
+use Rattle.std.proofs.Common.{length, slice_set, Contains, refl, sym, subst, arith}
 use Rattle.std.proofs.lemmas.Bool.{cases_lt}
-use Rattle.std.proofs.lemmas.Option.{slice_get_past}
+use Rattle.std.proofs.lemmas.List.{length-set}
 use Rattle.sc_text.proofs.EachItem.{Each, each_append}
 use Rattle.core_charts.specs.declared.region.Effect.{Effect}
 use Rattle.core_charts.specs.declared.region.Transition.{Transition}
@@ -21,13 +21,11 @@ use Rattle.abort_expansion_laws.specs.CoreRows.{own, IsState}
 use Rattle.abort_expansion_laws.proofs.ChartSteps.{Makes, takes_trying, takes_entering, takes_guarding, takes_within, tries_on, enters_on, guards_on}
 use Rattle.abort_expansion_laws.proofs.ChartSteps.{waits_on, acts_on}
 use Rattle.abort_expansion_laws.proofs.FreshInside.{all_entered}
-use Rattle.abort_expansion_laws.proofs.Leaving.{at_number, set_here, set_other, set_length}
+use Rattle.abort_expansion_laws.proofs.Leaving.{at_number, set_here, set_other}
 use Rattle.abort_expansion_laws.proofs.StateEntry.{Entry, entry_ends, entry_tries, entry_guards, entry_opens}
+use Rattle.abort_expansion_laws.proofs.NumberedRegions.{past_number}
 use Rattle.reaction_laws.proofs.EnclosedStill.{Firsts}
 use Rattle.reaction_laws.proofs.MovesInside.{LeadIn, MayStand}
-
-pub past_number : (zs : List Standing) (q : ℕ) → length zs ≤ q → at_number zs q ≡ at.Outside
-past_number zs q past = ap (λ o. unwrap_or o at.Outside) (slice_get_past zs q past)
 
 module _ (k : Table) (tree : IsTree k) (holder_there : (q s : ℕ) → Contains (around k q) s → IsThere k q × IsThere k (holder k s))
     (entries : (x : ℕ) → IsState k x → Entry k x)
@@ -162,7 +160,7 @@ module _ (k : Table) (tree : IsTree k) (holder_there : (q s : ℕ) → Contains 
           (λ lt.
           subst (λ z. May z (at_number (slice_set zs m.region m.standing) z)) (sym same) (subst (May m.region) (sym (set_here zs m.region m.standing lt)) fits))
           (λ past.
-          let size = set_length zs m.region m.standing in
+          let size = length-set zs m.region m.standing in
           subst (May q) (sym (past_number (slice_set zs m.region m.standing) q (omega (size, past, same, arith)))) tt)
           (cases_lt m.region (length zs))
 

@@ -32,7 +32,7 @@ use Rattle.abort_expansion_laws.specs.StageReached.{some_work, stage_of}
 use Rattle.abort_expansion_laws.proofs.ChartSteps.{Makes, takes_trying, takes_entering, takes_guarding, takes_within, tries_on, enters_on, guards_on}
 use Rattle.abort_expansion_laws.proofs.ChartSteps.{waits_on, acts_on, StepMade, step_made}
 use Rattle.abort_expansion_laws.proofs.StageReached.{staged, one_at_most}
-use Rattle.abort_expansion_laws.proofs.TickFollowed as ticks
+use Rattle.abort_expansion_laws.proofs.TicksOfCharts as ticks
 use Rattle.reaction_laws.proofs.CappedSteps.{IsCapped}
 use Rattle.reaction_laws.proofs.ChartOrder.{AllAt}
 use Rattle.reaction_laws.proofs.IdleInside.{lines_idle, joins_idle}
@@ -44,9 +44,6 @@ use Rattle.reaction_laws.proofs.StepsInside.{IsWithin}
 module _ (c : Chart) (rules : IsChart features.Extended c) (core_rules : IsChart features.Core (expanded c)) where
   abbrev k : Table
   k = table c
-
-  abbrev core : Table
-  core = table (expanded c)
 
   abbrev i : Images
   i = ticks.i c rules core_rules

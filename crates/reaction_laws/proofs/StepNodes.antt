@@ -3,6 +3,7 @@
 use Rattle.std.proofs.Common.{◌≡◌, ◌≢◌, ℕ, ◌<◌, ◌≤◌, true, false, not, ◌&&◌, Option, Some, None, List, [], ◌∷◌, slice_get, unwrap_or}
 use Rattle.std.proofs.Common.{Contains, refl, sym, ap}
 use Rattle.std.proofs.Common.{subst, subst₂, ◌∙◌, arith}
+use Rattle.std.proofs.lemmas.Bool.{and_parts}
 use Rattle.sc_values.specs.declared.expression.Expr.{Expr}
 use Rattle.sc_values.specs.Access.{Access, Nothing, no_access, MayPrecede, Precedes, Clash}
 use Rattle.sc_values.specs.Assignment.{assignment_of}
@@ -62,9 +63,9 @@ use Rattle.chart_lowering_laws.proofs.Lowered.{chart_is_lowered}
 use Rattle.chart_lowering_laws.proofs.Showing.{region_of}
 use Rattle.compiled_charts_laws.proofs.Mirrored.{owned, node_access, access_of_assigns}
 use Rattle.compiled_charts_laws.proofs.Stands.{stand_alike}
-use Rattle.abort_expansion_laws.proofs.KnownVariables.{both_true}
 use Rattle.abort_expansion_laws.proofs.StrongTestsQuiet.{precedes_writes}
-use Rattle.reaction_laws.proofs.CappedRanks.{nothing_before, both_write}
+use Rattle.abort_expansion_laws.proofs.QuietBegins.{none_before}
+use Rattle.reaction_laws.proofs.CappedRanks.{both_write}
 use Rattle.reaction_laws.proofs.StillAtJoins.{none_waiting}
 use Rattle.reaction_laws.proofs.NoResumes.{NoneResumes, no_resumes}
 use Rattle.reaction_laws.proofs.CaughtThreads.{standing_in, GoOn, WaitsAtJoins, AtFirstEffects, goes_at, waits_at, first_effects}
@@ -72,7 +73,7 @@ use Rattle.reaction_laws.specs.StepNodes.{AtOwnNode, AtTheirNodes, Alike, ComesT
 
 -- ---- who neither reads nor writes stands in no order
 
-does_some : (a : Access) → a.writes ≢ Nothing → a ≢ no_access
+pub does_some : (a : Access) → a.writes ≢ Nothing → a ≢ no_access
 does_some a writes e = writes (ap (λ z. z.writes) e)
 
 module _ (c : Chart) (p : Scl) (low : IsLowering c p) where
@@ -102,7 +103,7 @@ module _ (c : Chart) (p : Scl) (low : IsLowering c p) where
     stands_at = ap (λ z. unwrap_or (slice_get z t) status.Absent) in_graph.statuses ∙ standing_in s.threads t
 
     work : has_work K d (standing_of d t) ≡ true
-    work = (both_true (has_work K d (standing_of d t)) (not (is_guarded K d (region_at K t).around) && inside_is_done K d (standing_of d t)) on).0
+    work = (and_parts (has_work K d (standing_of d t)) (not (is_guarded K d (region_at K t).around) && inside_is_done K d (standing_of d t)) on).0
 
     entered : standing_of d t ≢ at.Outside
     entered out = let wrong : true ≡ false = sym work ∙ ap (has_work K d) out in absurd cc
@@ -263,7 +264,7 @@ module _ (c : Chart) (p : Scl) (low : IsLowering c p) where
 
       not_before : ¬ Precedes second first
       not_before earlier =
-          let v : AtOwnNode G m t first = at_d t on (λ none. nothing_before second (subst (Precedes second) none earlier)) in
+          let v : AtOwnNode G m t first = at_d t on (λ none. none_before second (subst (Precedes second) none earlier)) in
           let w : AtOwnNode G n u second = at_e u on_too (does_some second (precedes_writes second first earlier)) in
           let less : priority q v.node < priority q w.node =
           edge_falls G q valid w.node v.node u t a w.owned v.owned (apart_turned G t u a in_graph_apart) (subst₂ Precedes (sym w.does) (sym v.does) earlier) in

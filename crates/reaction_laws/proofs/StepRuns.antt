@@ -29,10 +29,10 @@ use Rattle.abort_expansion_laws.proofs.KnownVariables.{present_there}
 use Rattle.abort_expansion_laws.proofs.MonitorsReady.{AllReady}
 use Rattle.abort_expansion_laws.proofs.Owed.{Started}
 use Rattle.abort_expansion_laws.proofs.OwnTests.{OwnTests}
-use Rattle.abort_expansion_laws.proofs.PreemptionKept.{ToldHere}
+use Rattle.abort_expansion_laws.proofs.ToldSteps.{ToldHere}
 use Rattle.abort_expansion_laws.proofs.StageReached.{one_at_least}
 use Rattle.abort_expansion_laws.proofs.StepsReady.{StepReady, steps_ready, ticks_ready}
-use Rattle.abort_expansion_laws.proofs.TickFollowed as ticks
+use Rattle.abort_expansion_laws.proofs.TicksOfCharts as ticks
 use Rattle.reaction_laws.proofs.OwnSteps.{touched, touched_climbs, has_own_step}
 
 -- ---- a part of the core's run, and what comes behind it

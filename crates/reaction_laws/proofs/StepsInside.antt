@@ -29,7 +29,7 @@ use Rattle.abort_expansion_laws.proofs.OpenedInside.{opened_elsewhere, charts_en
 use Rattle.abort_expansion_laws.proofs.OwnTests.{OwnTests, IsOwn}
 use Rattle.abort_expansion_laws.proofs.StateEntry.{Entry, entry_ends, entry_tries, entry_guards, entry_opens}
 use Rattle.abort_expansion_laws.proofs.TestTargets.{targets_there}
-use Rattle.abort_expansion_laws.proofs.TickFollowed as ticks
+use Rattle.abort_expansion_laws.proofs.TicksOfCharts as ticks
 
 -- in an opened superstate
 abbrev pub IsWithin : Standing → Type 0

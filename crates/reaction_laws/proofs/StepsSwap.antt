@@ -1,6 +1,6 @@
 -- Steps of two regions of a chart that have their turn together: neither takes the other's turn, and where the protocol allows both orders, both lead
 -- to one configuration.
-use Rattle.std.proofs.Common.{◌≡◌, ◌≢◌, ℕ, suc, ⊎_elim, Bool, true, not, ◌&&◌, ◌||◌, Some, List, [], ◌∷◌}
+use Rattle.std.proofs.Common.{◌≡◌, ◌≢◌, ℕ, suc, ⊎_elim, true, not, ◌&&◌, ◌||◌, Some, List, [], ◌∷◌}
 use Rattle.std.proofs.Common.{length, option_map, Contains, refl, sym, ap, ap₂, subst, ◌∙◌, arith}
 use Rattle.std.specs.List.{list_all}
 use Rattle.sc_values.specs.Access.{MayPrecede}
@@ -12,32 +12,27 @@ use Rattle.chart_machine.specs.declared.standing.Move.{Move}
 use Rattle.chart_machine.specs.declared.standing.Standing.{Standing}
 use Rattle.chart_machine.specs.declared.standing.Standing.TheVariants as at
 use Rattle.chart_machine.specs.declared.table.Table.{Table}
-use Rattle.chart_machine.specs.Machine.{machine}
 use Rattle.chart_machine.specs.Steps.{moved, written, after, change_of, step, access_of}
 use Rattle.chart_machine.specs.Table.{state_at}
 use Rattle.chart_machine.specs.Turns.{standing_of, guards, has_ended, has_work, is_guarded, inside, inside_is_done, is_enabled, LiesIn, itself, deeper}
 use Rattle.chart_machine_laws.specs.Tree.{IsThere, IsTree, around, holder}
-use Rattle.chart_machine_laws.proofs.LyingIn.{head_in, tail_in, lies_in_outer, swapped}
+use Rattle.chart_machine_laws.proofs.LyingIn.{head_in, tail_in, lies_in_outer}
 use Rattle.tick_laws.proofs.Views.{only_if_some}
 use Rattle.abort_expansion_laws.proofs.ChartSteps.{Makes, StepMade, step_made}
 use Rattle.abort_expansion_laws.proofs.FreshInside.{moved_alike}
 use Rattle.abort_expansion_laws.proofs.InsideAround.{inside_around}
 use Rattle.abort_expansion_laws.proofs.KnownVariables.{Stepped, stepped}
 use Rattle.abort_expansion_laws.proofs.Leaving.{at_number, moved_size}
-use Rattle.reaction_laws.specs.OneEnd.{KeepsApart}
-use Rattle.reaction_laws.proofs.ApartTogether.{Enclosed, turn, present, not_in, one_way, lies_or_not, are_apart, forks_none}
+use Rattle.abort_expansion_laws.proofs.DropsOut.{all_alike}
+use Rattle.reaction_laws.proofs.ApartTogether.{Enclosed, turn, present, not_in, one_way, lies_or_not}
 use Rattle.reaction_laws.proofs.WritesSwap.{Changes, changes, OtherChanges, changes_swap}
 
 -- what is the same at each number is the same
-all_same : (xs ys : List Standing) → length xs ≡ length ys → ((q : ℕ) → at_number xs q ≡ at_number ys q) → xs ≡ ys
+pub all_same : (xs ys : List Standing) → length xs ≡ length ys → ((q : ℕ) → at_number xs q ≡ at_number ys q) → xs ≡ ys
 all_same [] [] size each = refl
 all_same [] (y ∷ ys) size each = absurd (omega (size, arith))
 all_same (x ∷ xs) [] size each = absurd (omega (size, arith))
 all_same (x ∷ xs) (y ∷ ys) size each = ap₂ (λ z zs. z ∷ zs) (each 0) (all_same xs ys (omega (size, arith)) (λ q. each (suc q)))
-
-list_all_same : (p q : ℕ → Bool) (xs : List ℕ) → ((x : ℕ) → Contains xs x → p x ≡ q x) → list_all p xs ≡ list_all q xs
-list_all_same p q [] each = refl
-list_all_same p q (x ∷ xs) each = ap₂ (λ a b. a && b) (each x (head_in x xs)) (list_all_same p q xs (λ y h. each y (tail_in x y xs h)))
 
 module _ (k : Table) (tree : IsTree k) (holder_there : (q s : ℕ) → Contains (around k q) s → IsThere k q × IsThere k (holder k s))
     (Owns : ℕ → Standing → Type 0) (own_within : (r s : ℕ) (tests : List Transition) → Owns r (at.Within s tests) → holder k s ≡ r)
@@ -95,7 +90,7 @@ module _ (k : Table) (tree : IsTree k) (holder_there : (q s : ℕ) → Contains 
     ended_same : (q s : ℕ) → LiesIn k q u → holder k s ≡ q →
         list_all (λ r. has_ended (standing_of d r)) (state_at k s).regions ≡ list_all (λ r. has_ended (standing_of c r)) (state_at k s).regions
     ended_same q s in_u held =
-        list_all_same (λ r. has_ended (standing_of d r)) (λ r. has_ended (standing_of c r)) (state_at k s).regions
+        all_alike (λ r. has_ended (standing_of d r)) (λ r. has_ended (standing_of c r)) (state_at k s).regions
         (λ r child.
         let inner : Contains (around k r) s = subst (λ zs. Contains zs s) (sym (tree.children s r child)) (head_in s (around k (holder k s))) in
         ap has_ended (unmoved r (far r (lies_in_outer k tree.nested (around k r) r q u refl (deeper s inner held) in_u))))
@@ -123,7 +118,7 @@ module _ (k : Table) (tree : IsTree k) (holder_there : (q s : ℕ) → Contains 
     done_same (at.Guarding s tests) owns = refl
     done_same (at.Acting s effects p) owns = refl
     done_same (at.Within s tests) owns =
-        list_all_same (λ q. not (has_work k d (standing_of d q))) (λ q. not (has_work k c (standing_of c q))) (inside k s)
+        all_alike (λ q. not (has_work k d (standing_of d q))) (λ q. not (has_work k c (standing_of c q))) (inside k s)
         (λ q h. ap not (work_there q (deeper s (inside_around k s q h) (own_within u s tests owns))))
 
     -- its turn is as it was
@@ -254,16 +249,3 @@ module _ (k : Table) (tree : IsTree k) (holder_there : (q s : ℕ) → Contains 
 
     pub second_first : (z : Configuration) × (step k u c ≡ Some z) × (step k t z ≡ Some e)
     second_first = (f, to_f, to_last ∙ ap Some alike)
-
-  -- so where steps keep what is asked of configurations, the machine of the chart keeps regions apart
-  pub keeps_apart : ((c d : Configuration) (t : ℕ) → Sound c → step k t c ≡ Some d → Sound d) → KeepsApart (machine k) Sound
-  keeps_apart kept =
-      record {
-        turns = λ c d t steps. has_turn c d t steps;
-        kept = λ c d t sound steps. kept c d t sound steps;
-        still = λ c d t u sound steps ne on. still c d t u sound steps ne on;
-        apart = λ c t u sound on on_too ne. are_apart k tree holder_there c sound.enclosed t u on on_too ne;
-        waits = λ c t u v a sound on on_too met. forks_none k tree holder_there c sound.enclosed t u v a on on_too met;
-        turned = λ t u a met. swapped k tree.nested t u a met;
-        swap = λ c d e t u sound ne steps on steps_too may may_too. second_first c d e t u sound ne steps on steps_too may may_too;
-      }

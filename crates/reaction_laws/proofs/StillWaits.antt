@@ -23,7 +23,7 @@ use Rattle.abort_expansion_laws.proofs.InsideAround.{inside_around, one_in_other
 use Rattle.abort_expansion_laws.proofs.KnownVariables.{present_there}
 use Rattle.abort_expansion_laws.proofs.OwnTests.{OwnTests}
 use Rattle.abort_expansion_laws.proofs.RowsOfCharts as whole
-use Rattle.abort_expansion_laws.proofs.TickFollowed as ticks
+use Rattle.abort_expansion_laws.proofs.TicksOfCharts as ticks
 use Rattle.reaction_laws.proofs.StepsInside.{LiesElsewhere, stays, guarded_same}
 
 module _ (c : Chart) (rules : IsChart features.Extended c) (core_rules : IsChart features.Core (expanded c)) where

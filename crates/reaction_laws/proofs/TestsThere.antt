@@ -32,6 +32,7 @@ use Rattle.chart_lowering_laws.specs.Marks.{layout}
 use Rattle.compiled_charts_laws.proofs.Mirrored.{stepped}
 use Rattle.reaction_laws.specs.StepNodes.{Alike}
 use Rattle.reaction_laws.proofs.CaughtThreads.{standing_in}
+use Rattle.reaction_laws.proofs.NoResumes.{one_node}
 
 -- a test
 abbrev pub IsTest : Step → Type 0
@@ -48,9 +49,6 @@ one_step s z o h k = cc
 assigns_nothing : (x next : ℕ) (a : Assignment) → ¬ IsTest (assigns x a next)
 assigns_nothing x next (Inits e) h = h
 assigns_nothing x next (Combines f e) h = h
-
-one_node : (m n : ℕ) → status.At m ≡ status.At n → m ≡ n
-one_node m n h = cc
 
 module _ (c : Chart) (p : Scl) (low : IsLowering c p) where
   abbrev K : Table

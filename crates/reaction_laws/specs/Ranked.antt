@@ -33,6 +33,3 @@ pub record ComesToAnEnd (m : Machine) (c : m.Configuration) (left : ℕ) : Type 
   pub bounded : (run : List ℕ) (d : m.Configuration) → replay m run c ≡ Some d → length run ≤ left
   pub end : m.Configuration
   pub ends : Ends m c end
-
-abbrev pub RanksLeadToEnds : Type 1
-RanksLeadToEnds = (m : Machine) (r : Ranked m) (c : m.Configuration) (k : r.Known) → r.Holds c k → ComesToAnEnd m c (r.left k)

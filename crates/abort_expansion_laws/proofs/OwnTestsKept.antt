@@ -1,6 +1,5 @@
--- The law of the expansion of aborts, from one thing: that each step of a chart is followed by its core chart.
+-- Each region has tests of its own state alone, whatever ticks a chart has.
 use Rattle.std.proofs.Common.{ℕ, List}
-use Rattle.sc_graph.specs.Tick.{AreAccepted}
 use Rattle.core_charts.specs.declared.features.Features.TheVariants as features
 use Rattle.core_charts.specs.Chart.{Chart}
 use Rattle.core_charts.specs.Rules.{IsChart}
@@ -10,25 +9,16 @@ use Rattle.chart_machine.specs.Table.{table, state_at}
 use Rattle.abort_expansion.specs.Expansion.{expanded}
 use Rattle.abort_expansion_laws.specs.CoreRows.{IsState, IsSuper}
 use Rattle.abort_expansion_laws.specs.Stages.{Entry}
-use Rattle.abort_expansion_laws.specs.Ticks.{Keeps}
-use Rattle.abort_expansion_laws.specs.Preemption.{chart_machine, SeenAlike, HasImage}
 use Rattle.abort_expansion_laws.proofs.EnteredAlike.{AreEntered}
 use Rattle.abort_expansion_laws.proofs.OpenedInside.{charts_enter}
 use Rattle.abort_expansion_laws.proofs.OwnTests.{OwnTests, owns_initially, owns_at_start, owns_still}
 use Rattle.abort_expansion_laws.proofs.RowsOfCharts as whole
 use Rattle.abort_expansion_laws.proofs.TopRegions.{tops}
 use Rattle.abort_expansion_laws.proofs.WalkedWhole.{entered}
-use Rattle.abort_expansion_laws.proofs.PreemptionFollows.{preemption_follows}
-use Rattle.abort_expansion_laws.proofs.TestsSpared.{tests_are_spared}
-use Rattle.abort_expansion_laws.proofs.TickFollowed as ticks
-use Rattle.abort_expansion_laws.proofs.ToldSteps.{Told, told_silent}
-use Rattle.abort_expansion_laws.proofs.FlagStages.{usual}
+use Rattle.abort_expansion_laws.proofs.TicksOfCharts as ticks
+use Rattle.abort_expansion_laws.proofs.ToldSteps.{Told}
 
 module _ (c : Chart) (rules : IsChart features.Extended c) (core_rules : IsChart features.Core (expanded c)) where
-  -- what is told of the core's steps that stand for one of the chart
-  abbrev pub ToldHere : Configuration → Entry → Type 0
-  ToldHere = Told (table c) (table (expanded c)) (ticks.i c rules core_rules)
-
   pub own_tests_kept : ticks.KeptByChart c rules core_rules (OwnTests (table c))
   own_tests_kept =
       record {
@@ -45,11 +35,3 @@ module _ (c : Chart) (rules : IsChart features.Extended c) (core_rules : IsChart
           (inner : List Move) × AreEntered (table c) (table (expanded c)) (ticks.i c rules core_rules) (state_at (table c) s).regions
           (state_at (table c) s).opened inner
       opens s here super = let alike = (whole.state_fits c rules core_rules s here).opens super in (alike.inner, alike.regions)
-
-  pub preemption_kept : (image : HasImage c) → ticks.StepsFollowed c rules core_rules (usual c rules core_rules) (λ now r. Unit {0})
-      (OwnTests (table c)) ToldHere →
-      Keeps (chart_machine c) (chart_machine (expanded c)) (AreAccepted image.program) (SeenAlike c)
-  preemption_kept image followed =
-      preemption_follows c rules core_rules (AreAccepted image.program) ToldHere
-      (told_silent (table c) (table (expanded c)) (ticks.i c rules core_rules)) (tests_are_spared c rules core_rules image) (OwnTests (table c))
-      own_tests_kept followed

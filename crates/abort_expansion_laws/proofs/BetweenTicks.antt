@@ -1,6 +1,5 @@
--- The law of the expansion of aborts, from two things: that each step of a chart is followed, and what gives that no
--- strong test is overwritten.
-use Rattle.std.proofs.Common.{◌≡◌, ℕ, ◌⊎◌, inl, inr, true, List, [], ◌∷◌, map, length, refl, sym, ap, subst}
+-- What holds of a chart and its core chart between two ticks, and what gives that no strong test is overwritten within one.
+use Rattle.std.proofs.Common.{◌≡◌, ℕ, ◌⊎◌, inl, inr, true, List, map, length, refl, sym, ap, subst}
 use Rattle.std.proofs.Common.{◌∙◌, Option}
 use Rattle.std.specs.Prelude.{take}
 use Rattle.std.proofs.lemmas.List.{length-map, map-append}
@@ -20,16 +19,14 @@ use Rattle.chart_machine.specs.Table.{table, state_at}
 use Rattle.chart_machine.specs.Turns.{standing_of}
 use Rattle.chart_machine.specs.Machine.{machine, initial, start, stands_in, is_active}
 use Rattle.abort_expansion.specs.Expansion.{expanded}
-use Rattle.abort_expansion_laws.specs.Ticks.{Keeps}
-use Rattle.abort_expansion_laws.specs.Preemption.{chart_machine, SeenAlike}
-use Rattle.abort_expansion_laws.specs.Segments.{Follows, EachMay}
+use Rattle.abort_expansion_laws.specs.Preemption.{SeenAlike}
+use Rattle.abort_expansion_laws.specs.Segments.{Follows}
 use Rattle.abort_expansion_laws.specs.Stages.{Entry, Silent, EachSpared}
 use Rattle.abort_expansion_laws.proofs.FreshInside.{nobody_there}
-use Rattle.abort_expansion_laws.proofs.ListsOfTicks.{KeepsTicks, ticks_kept}
 use Rattle.abort_expansion_laws.proofs.Owed.{Started, first_tick, later_tick}
 use Rattle.abort_expansion_laws.proofs.SeenAlike.{front_of}
 use Rattle.abort_expansion_laws.proofs.RestedCharts.{rested_seen}
-use Rattle.abort_expansion_laws.proofs.TickFollowed as ticks
+use Rattle.abort_expansion_laws.proofs.TicksOfCharts as ticks
 use Rattle.abort_expansion_laws.proofs.FlagStages.{FlagStages, usual}
 
 -- ---- before the first tick
@@ -67,6 +64,15 @@ module _ (c : Chart) (rules : IsChart features.Extended c) (core_rules : IsChart
   abbrev pub RestsAlike : Configuration → Configuration → Type 0
   RestsAlike before d = ((before ≡ initial k) × (d ≡ initial core)) ⊎ ticks.HasRested c rules core_rules before d
 
+  pub started : (inputs : Inputs) (before d : Configuration) → RestsAlike before d →
+      Started k core (ticks.i c rules core_rules) (start k inputs before) (start core inputs d)
+  started inputs before d (inl (first, core_first)) = first_tick inputs (ap (start k inputs) first) (ap (start core inputs) core_first)
+  started inputs before d (inr rested) = later_tick inputs before d rested.rests refl refl
+
+  pub seen : (before d : Configuration) → RestsAlike before d → SeenAlike c before d
+  seen before d (inl (first, core_first)) = subst (λ z. SeenAlike c z d) (sym first) (subst (SeenAlike c (initial k)) (sym core_first) initial_seen)
+  seen before d (inr rested) = rested_seen c rules core_rules before d rested.rests
+
   -- what is kept of the core chart from tick to tick, and gives that no strong test is overwritten within one
   pub record SparesTests (Accepted : Inputs → Type 0) (Told : Configuration → Entry → Type 0) : Type 1 where
     pub Rests : Configuration → Type 0
@@ -77,53 +83,11 @@ module _ (c : Chart) (rules : IsChart features.Extended c) (core_rules : IsChart
         Follows (machine core) (ticks.corr_at c rules core_rules stages) Told (start core inputs d) log e →
         EachSpared (ticks.corr_at c rules core_rules stages) log
 
-  module _ (Accepted : Inputs → Type 0) (Told : Configuration → Entry → Type 0)
-      (told : (d : Configuration) (t : ℕ) (stage : Option (ℕ × ℕ)) (a : Access) → Told d (Silent t stage a))
-      (spares : SparesTests Accepted Told) (Holds : Configuration → Type 0) (kept : ticks.KeptByChart c rules core_rules Holds) where
+  module _ (Accepted : Inputs → Type 0) (Told : Configuration → Entry → Type 0) (spares : SparesTests Accepted Told) (Holds : Configuration → Type 0) where
     pub record BothRest (before d : Configuration) : Type 0 where
       pub alike : RestsAlike before d
       pub rests : spares.Rests d
       pub holds : Holds before
 
-    pub started : (inputs : Inputs) (before d : Configuration) → RestsAlike before d →
-        Started k core (ticks.i c rules core_rules) (start k inputs before) (start core inputs d)
-    started inputs before d (inl (first, core_first)) = first_tick inputs (ap (start k inputs) first) (ap (start core inputs) core_first)
-    started inputs before d (inr rested) = later_tick inputs before d rested.rests refl refl
-
-    pub seen : (before d : Configuration) → RestsAlike before d → SeenAlike c before d
-    seen before d (inl (first, core_first)) = subst (λ z. SeenAlike c z d) (sym first) (subst (SeenAlike c (initial k)) (sym core_first) initial_seen)
-    seen before d (inr rested) = rested_seen c rules core_rules before d rested.rests
-
-    pub begin_resting : BothRest (initial k) (initial core)
-    begin_resting = record { alike = inl (refl, refl); rests = spares.begins; holds = kept.initially }
-
-    -- a tick, by a run each step of which may be taken
-    pub tick_kept : (stages : FlagStages c rules core_rules) (May : Configuration → ℕ → Type 0) →
-        ticks.StepsFollowed c rules core_rules stages May Holds Told → (inputs : Inputs) (before last d : Configuration) → Accepted inputs →
-        BothRest before d → (ends : Ends (machine k) (start k inputs before) last) → EachMay (machine k) May ends.run (start k inputs before) →
-        (e : Configuration) × Ends (machine core) (start core inputs d) e × BothRest last e
-    tick_kept stages May followed inputs before last d accepted both ends each =
-        let t = ticks.tick_followed c rules core_rules stages May Told told Holds kept followed (start k inputs before) last (start core inputs d)
-        (started inputs before d both.alike) (kept.starts inputs before both.holds)
-        (λ log e follows fits. spares.spared inputs before d accepted both.rests both.alike stages log e follows) ends each in
-        (t.0, t.1, record { alike = inr t.2; rests = spares.goes_on inputs d t.0 accepted both.rests t.1; holds = t.3 })
-
-    -- where each step is followed
-    module _ (followed : ticks.StepsFollowed c rules core_rules (usual c rules core_rules) (λ now r. Unit {0}) Holds Told) where
-      all_may : (run : List ℕ) (now : Configuration) → EachMay (machine k) (λ now r. Unit {0}) run now
-      all_may [] now = tt
-      all_may (r ∷ run) now = (tt, λ next steps. all_may run next)
-
-      keeps_ticks : KeepsTicks (chart_machine c) (chart_machine (expanded c)) Accepted (SeenAlike c)
-      keeps_ticks =
-          record {
-            Rests = BothRest;
-            begins = begin_resting;
-            tick = λ inputs before last d accepted both ends.
-                tick_kept (usual c rules core_rules) (λ now r. Unit {0}) followed inputs before last d accepted both ends
-                (all_may ends.run (start k inputs before));
-            seen = λ before d both. seen before d both.alike;
-          }
-
-      pub preemption_follows : Keeps (chart_machine c) (chart_machine (expanded c)) Accepted (SeenAlike c)
-      preemption_follows = ticks_kept (chart_machine c) (chart_machine (expanded c)) Accepted (SeenAlike c) keeps_ticks
+    pub begin_resting : ticks.KeptByChart c rules core_rules Holds → BothRest (initial k) (initial core)
+    begin_resting kept = record { alike = inl (refl, refl); rests = spares.begins; holds = kept.initially }
