@@ -1,7 +1,7 @@
 -- What reading gives for each rule of effects.
-use Rattle.std.proofs.Common.{◌≡◌, ℕ, ◌-◌, true, false, Some, None, List, [], ◌∷◌, ◌++◌, length, drop, refl, sym, ◌∙◌, subst}
+use Rattle.std.proofs.Common.{◌≡◌, ℕ, ◌-◌, true, false, Some, None, List, [], ◌∷◌, ◌++◌, length, drop, refl, sym, ◌∙◌, ap, subst}
 use Rattle.grammar.specs.Grammar.{seq, either, maybe}
-use Rattle.grammar.specs.Read.{starts, read}
+use Rattle.grammar.specs.Read.{Outcome, Got, Failed, starts, next, choose, read}
 use Rattle.sc_values.specs.declared.operator.BinaryOperator.{BinaryOperator}
 use Rattle.sc_text.specs.declared.sign.Sign.TheVariants as sign
 use Rattle.sc_text.specs.declared.token.Token.{Token}
@@ -19,7 +19,7 @@ use Rattle.chart_drafts.specs.declared.draft.DraftEffect.{DraftEffect}
 use Rattle.chart_drafts.specs.ChartText.{Grows, the_word, the_sign, name, placed}
 use Rattle.chart_drafts.specs.PartsRead.{IsGoing}
 use Rattle.chart_drafts.specs.Phrase.{Gives}
-use Rattle.chart_drafts.proofs.Parts.{seq_gives, made_gives, made_stops, after_gives, after_stops_second, maybe_none, maybe_some, maybe_stops, left_read}
+use Rattle.chart_drafts.proofs.Parts.{seq_gives, made_gives, made_stops, maybe_none, left_read}
 use Rattle.chart_drafts.proofs.Parts.{right_read, gives_as}
 use Rattle.chart_drafts.proofs.RowReading.{listed_goes, listed_stops}
 use Rattle.extended_drafts.specs.declared.draft.CompoundSign.{CompoundSign}
@@ -29,6 +29,7 @@ use Rattle.extended_drafts.specs.Draft.{combination, effect_with}
 use Rattle.extended_drafts.specs.ExtendedText.{combining_signs, combiner, equals, combining, to_combination, combined}
 use Rattle.extended_drafts.specs.ExtendedText.{to_value, to_name, becoming, emitting, effect_end, effect, next_effect, some_effects, effects}
 use Rattle.extended_drafts.proofs.Shapes.{becoming_is, combined_is, next_effect_is}
+use Rattle.extended_drafts.proofs.Same.{after_read}
 
 abbrev e0 : Grows Phrase
 e0 = expression 0
@@ -127,17 +128,16 @@ effects_missing text none e n =
     subst (λ d. Gives (read (effects e0) text) d text) (sym n)
     (made_gives or_none (maybe outcomes) text None text (maybe_none outcomes (the_word word.Do) refl text e))
 
-module _ (text more : List Token) (e : starts text_tokens (the_word word.Do) text ≡ true) (d : more ≡ drop 1 text) where
-  pub effects_there : (rest : List Token) (xs : List DraftEffect) → Gives (read (some_effects e0) more) xs rest → Gives (read (effects e0) text) xs rest
-  unfolding effects
-  effects_there rest xs r =
-      made_gives or_none (maybe outcomes) text (Some xs) rest
-      (maybe_some outcomes (the_word word.Do) refl text xs rest e
-      (after_gives (the_word word.Do) (some_effects e0) text more rest xs (one_taken (the_word word.Do) text more e d) r))
+-- what is there where something may be missing is read alone
+there_alone : (o : Outcome Token (List DraftEffect)) → next (next o (λ a end. Got (Some a) end)) (λ x end. Got (or_none x) end) ≡ o
+there_alone (Got a rest) = refl
+there_alone (Failed flaw rest) = refl
 
-  pub effects_stop : (end : ℕ) (f : ReadFault) → Stops end (read (some_effects e0) more) f → Stops end (read (effects e0) text) f
-  unfolding effects
-  effects_stop end f s =
-      made_stops or_none (maybe outcomes) text end f
-      (maybe_stops outcomes (the_word word.Do) refl text end f e
-      (after_stops_second (the_word word.Do) (some_effects e0) text more end f (one_taken (the_word word.Do) text more e d) s))
+pub effects_read : (text more : List Token) → starts text_tokens (the_word word.Do) text ≡ true → more ≡ drop 1 text → read (effects e0) text
+    ≡ read (some_effects e0) more
+unfolding effects
+effects_read text more e d =
+    ap (λ c. next (choose c (next (read outcomes text) (λ a end. Got (Some a) end)) (Got None text)) (λ x end. Got (or_none x) end)) e
+    ∙ ap (λ o. next (next o (λ a end. Got (Some a) end)) (λ x end. Got (or_none x) end))
+    (after_read (the_word word.Do) (some_effects e0) text more (one_taken (the_word word.Do) text more e d))
+    ∙ there_alone (read (some_effects e0) more)

@@ -1,5 +1,5 @@
 -- What is told of targets that are entered by their history.
-use Rattle.std.proofs.Common.{◌≡◌, ℕ, ◌+◌, ◌≤◌, Option, Some, List, [], ◌∷◌, ◌++◌, drop, length, slice_get, refl, sym, ◌∙◌, ap}
+use Rattle.std.proofs.Common.{◌≡◌, ℕ, ◌+◌, ◌≤◌, Option, Some, List, [], ◌∷◌, drop, length, slice_get, refl, sym, ◌∙◌, ap}
 use Rattle.drafts.specs.declared.flaw.Flaw.{Flaw}
 use Rattle.drafts.specs.Told.{told_behind}
 use Rattle.drafts.proofs.PartsInOrder.{drop_is, drop_past}

@@ -65,35 +65,19 @@ signalled_gives text a rest w n b x y same =
     (made_gives (λ x. signal_body x.0 x.1) (seq name last_name) text (w, n) rest (seq_gives name last_name text a rest w n x y))
 
 module _ (text : List Token) where
-  is_signalled : starts text_tokens (AName ∷ []) text ≡ true → read (plain_body e0) text ≡ read signalled text
+  pub is_signalled : starts text_tokens (AName ∷ []) text ≡ true → read (plain_body e0) text ≡ read signalled text
   unfolding plain_body
   is_signalled e = left_read signalled (AName ∷ []) signalled_is.begins text (typed e0) e
 
-  is_plain_typed : starts text_tokens (AName ∷ []) text ≡ false → read (plain_body e0) text ≡ read (typed e0) text
+  pub is_plain_typed : starts text_tokens (AName ∷ []) text ≡ false → read (plain_body e0) text ≡ read (typed e0) text
   unfolding plain_body
   is_plain_typed e = right_read signalled (AName ∷ []) signalled_is.begins text (typed e0) e
 
-  pub signalled_read : (b : ItemBody) (rest : List Token) → starts text_tokens (AName ∷ []) text ≡ true → Gives (read signalled text) b rest
-      → Gives (read (plain_body e0) text) b rest
-  signalled_read b rest e g = gives_as _ _ b rest (is_signalled e) g
-
-  pub signalled_fails : (end : ℕ) (f : ReadFault) → starts text_tokens (AName ∷ []) text ≡ true → Stops end (read signalled text) f
-      → Stops end (read (plain_body e0) text) f
-  signalled_fails end f e s = stops_as end _ _ f (is_signalled e) s
-
-  pub plain_typed_read : (b : ItemBody) (rest : List Token) → starts text_tokens (AName ∷ []) text ≡ false → Gives (read (typed e0) text) b rest
-      → Gives (read (plain_body e0) text) b rest
-  plain_typed_read b rest e g = gives_as _ _ b rest (is_plain_typed e) g
-
-  pub plain_typed_fails : (end : ℕ) (f : ReadFault) → starts text_tokens (AName ∷ []) text ≡ false → Stops end (read (typed e0) text) f
-      → Stops end (read (plain_body e0) text) f
-  plain_typed_fails end f e s = stops_as end _ _ f (is_plain_typed e) s
-
-  is_bare_signal : starts text_tokens (AName ∷ []) text ≡ true → read (worded_body e0) text ≡ read bare_signal text
+  pub is_bare_signal : starts text_tokens (AName ∷ []) text ≡ true → read (worded_body e0) text ≡ read bare_signal text
   unfolding worded_body
   is_bare_signal e = left_read bare_signal (AName ∷ []) bare_signal_is.begins text (typed e0) e
 
-  is_worded_typed : starts text_tokens (AName ∷ []) text ≡ false → read (worded_body e0) text ≡ read (typed e0) text
+  pub is_worded_typed : starts text_tokens (AName ∷ []) text ≡ false → read (worded_body e0) text ≡ read (typed e0) text
   unfolding worded_body
   is_worded_typed e = right_read bare_signal (AName ∷ []) bare_signal_is.begins text (typed e0) e
 
@@ -108,14 +92,6 @@ module _ (text : List Token) where
       → Stops end (read (worded_body e0) text) f
   unfolding bare_signal
   bare_signal_fails end f e s = stops_as end _ _ f (is_bare_signal e) (made_stops (λ n. signal_body n n) last_name text end f s)
-
-  pub worded_typed_read : (b : ItemBody) (rest : List Token) → starts text_tokens (AName ∷ []) text ≡ false → Gives (read (typed e0) text) b rest
-      → Gives (read (worded_body e0) text) b rest
-  worded_typed_read b rest e g = gives_as _ _ b rest (is_worded_typed e) g
-
-  pub worded_typed_fails : (end : ℕ) (f : ReadFault) → starts text_tokens (AName ∷ []) text ≡ false → Stops end (read (typed e0) text) f
-      → Stops end (read (worded_body e0) text) f
-  worded_typed_fails end f e s = stops_as end _ _ f (is_worded_typed e) s
 
 -- ---- items
 
@@ -135,29 +111,13 @@ worded_gives text a rest w b x p q e =
     (made_gives (λ x. worded_item x.0 x.1) (seq name (worded_body e0)) text (w, b) rest (seq_gives name (worded_body e0) text a rest w b p q))
 
 module _ (text : List Token) where
-  is_plain : starts text_tokens roles text ≡ true → read (item e0) text ≡ read (plain e0) text
+  pub is_plain : starts text_tokens roles text ≡ true → read (item e0) text ≡ read (plain e0) text
   unfolding item
   is_plain e = left_read (plain e0) roles (plain_is e0 (expression_is 0)).begins text (worded e0) e
 
-  is_worded : starts text_tokens roles text ≡ false → read (item e0) text ≡ read (worded e0) text
+  pub is_worded : starts text_tokens roles text ≡ false → read (item e0) text ≡ read (worded e0) text
   unfolding item
   is_worded e = right_read (plain e0) roles (plain_is e0 (expression_is 0)).begins text (worded e0) e
-
-  pub plain_read : (x : DraftItem) (rest : List Token) → starts text_tokens roles text ≡ true → Gives (read (plain e0) text) x rest
-      → Gives (read (item e0) text) x rest
-  plain_read x rest e g = gives_as _ _ x rest (is_plain e) g
-
-  pub plain_fails : (end : ℕ) (f : ReadFault) → starts text_tokens roles text ≡ true → Stops end (read (plain e0) text) f
-      → Stops end (read (item e0) text) f
-  plain_fails end f e s = stops_as end _ _ f (is_plain e) s
-
-  pub worded_read : (x : DraftItem) (rest : List Token) → starts text_tokens roles text ≡ false → Gives (read (worded e0) text) x rest
-      → Gives (read (item e0) text) x rest
-  worded_read x rest e g = gives_as _ _ x rest (is_worded e) g
-
-  pub worded_fails : (end : ℕ) (f : ReadFault) → starts text_tokens roles text ≡ false → Stops end (read (worded e0) text) f
-      → Stops end (read (item e0) text) f
-  worded_fails end f e s = stops_as end _ _ f (is_worded e) s
 
 pub items_go : (text : List Token) (most : ℕ) (found : List DraftItem) → most ≡ length text → found ≡ []
     → IsGoing (read (many (item e0)) text) (item e0) item_first found (most - 0) text

@@ -10,5 +10,6 @@ pub mod Told
 pub mod Checking
 pub mod ShapedDrafts
 pub mod Leads
+pub mod Same
 pub mod SimplePlaces
 pub mod Histories

@@ -19,7 +19,7 @@ use Rattle.chart_drafts.specs.declared.draft.DraftRegion.{DraftRegion}
 use Rattle.chart_drafts.specs.declared.draft.DraftState.{DraftState}
 use Rattle.chart_drafts.specs.ChartText.{Grows, the_word, the_sign, name, flag, listed, braced, state_first}
 use Rattle.chart_drafts.specs.Phrase.{Gives}
-use Rattle.chart_drafts.proofs.Parts.{seq_gives, seq_stops_first, seq_stops_second, made_gives, made_stops, after_gives, after_stops_first, after_stops_second}
+use Rattle.chart_drafts.proofs.Parts.{seq_gives, seq_stops_first, seq_stops_second, made_gives, made_stops, after_stops_first}
 use Rattle.chart_drafts.proofs.Parts.{left_read, right_read, gives_as}
 use Rattle.chart_drafts.proofs.RowReading.{listed_stops}
 use Rattle.extended_drafts.specs.declared.draft.DraftItem.{DraftItem}
@@ -34,6 +34,7 @@ use Rattle.extended_drafts.specs.ExtendedText.{extended_text}
 use Rattle.extended_drafts.specs.Inside.{IsGathering}
 use Rattle.extended_drafts.proofs.Shapes.{nested_is, region_is, state_is, within_fits}
 use Rattle.extended_drafts.proofs.Gathering.{rowed_goes}
+use Rattle.extended_drafts.proofs.Same.{after_read}
 
 abbrev pub e0 : Grows Phrase
 e0 = expression 0
@@ -115,16 +116,9 @@ module _ (n : ℕ) (text : List Token) where
       → Stops end (read (one {L = text_tokens} (the_sign sign.OpenBrace)) text) f → Stops end (read (body e0 (within e0 n)) text) f
   brace_stops end f e s = stops_as end _ _ f (is_braced e) (after_stops_first (the_sign sign.OpenBrace) (acting e0 (within e0 n)) text end f s)
 
-  pub acting_stops : (a : List Token) (end : ℕ) (f : ReadFault) → starts text_tokens (the_sign sign.Semicolon) text ≡ false
-      → Takes (read (one {L = text_tokens} (the_sign sign.OpenBrace)) text) a → Stops end (read (acting e0 (within e0 n)) a) f
-      → Stops end (read (body e0 (within e0 n)) text) f
-  acting_stops a end f e t s = stops_as end _ _ f (is_braced e) (after_stops_second (the_sign sign.OpenBrace) (acting e0 (within e0 n)) text a end f t s)
-
-  pub acting_gives : (a rest : List Token) (x : List DraftEntry × StateBody) → starts text_tokens (the_sign sign.Semicolon) text ≡ false
-      → Takes (read (one {L = text_tokens} (the_sign sign.OpenBrace)) text) a → Gives (read (acting e0 (within e0 n)) a) x rest
-      → Gives (read (body e0 (within e0 n)) text) x rest
-  acting_gives a rest x e t r =
-      gives_as _ _ x rest (is_braced e) (after_gives (the_sign sign.OpenBrace) (acting e0 (within e0 n)) text a rest x t r)
+  pub acting_read : (a : List Token) → starts text_tokens (the_sign sign.Semicolon) text ≡ false
+      → Takes (read (one {L = text_tokens} (the_sign sign.OpenBrace)) text) a → read (body e0 (within e0 n)) text ≡ read (acting e0 (within e0 n)) a
+  acting_read a e t = is_braced e ∙ after_read (the_sign sign.OpenBrace) (acting e0 (within e0 n)) text a t
 
 -- ---- the regions and the transitions of a state
 

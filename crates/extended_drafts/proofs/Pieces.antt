@@ -176,29 +176,13 @@ termination_made text a b rest m t x o p q r e =
     (seq_gives (moment (the_word word.Join)) (seq (trigger e0) (outcome e0)) text a rest m (t, x) p (seq_gives (trigger e0) (outcome e0) a b rest t x q r)))
 
 module _ (text : List Token) where
-  is_termination : starts text_tokens (the_word word.Join) text ≡ true → read (transition e0) text ≡ read (termination e0) text
+  pub is_termination : starts text_tokens (the_word word.Join) text ≡ true → read (transition e0) text ≡ read (termination e0) text
   unfolding transition
   is_termination e = left_read (termination e0) (the_word word.Join) (termination_is e0 (expression_is 0)).begins text (tested e0) e
 
-  is_tested : starts text_tokens (the_word word.Join) text ≡ false → read (transition e0) text ≡ read (tested e0) text
+  pub is_tested : starts text_tokens (the_word word.Join) text ≡ false → read (transition e0) text ≡ read (tested e0) text
   unfolding transition
   is_tested e = right_read (termination e0) (the_word word.Join) (termination_is e0 (expression_is 0)).begins text (tested e0) e
-
-  pub termination_gives : (x : DraftTransition × DraftWay) (rest : List Token) → starts text_tokens (the_word word.Join) text ≡ true
-      → Gives (read (termination e0) text) x rest → Gives (read (transition e0) text) x rest
-  termination_gives x rest e r = gives_as _ _ x rest (is_termination e) r
-
-  pub termination_stops : (end : ℕ) (f : ReadFault) → starts text_tokens (the_word word.Join) text ≡ true → Stops end (read (termination e0) text) f
-      → Stops end (read (transition e0) text) f
-  termination_stops end f e s = stops_as end _ _ f (is_termination e) s
-
-  pub tested_gives : (x : DraftTransition × DraftWay) (rest : List Token) → starts text_tokens (the_word word.Join) text ≡ false
-      → Gives (read (tested e0) text) x rest → Gives (read (transition e0) text) x rest
-  tested_gives x rest e r = gives_as _ _ x rest (is_tested e) r
-
-  pub tested_stops : (end : ℕ) (f : ReadFault) → starts text_tokens (the_word word.Join) text ≡ false → Stops end (read (tested e0) text) f
-      → Stops end (read (transition e0) text) f
-  tested_stops end f e s = stops_as end _ _ f (is_tested e) s
 
   pub transitions_go : (most : ℕ) (found : List DraftTransition) (ways : List DraftWay) → most ≡ length text → found ≡ [] → ways ≡ []
       → IsGathering (read (many (transition e0)) text) (transition e0) transition_first parted (found, ways) (most - 0) text

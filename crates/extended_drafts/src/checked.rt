@@ -1,12 +1,13 @@
 //! Reading an extended chart, and telling the flaws of its draft.
 
-ghost use Rattle.std.specs.Prelude.{◌≡◌, None, IfOk, IfErr, OnOk};
+ghost use Rattle.std.specs.Prelude.{◌≡◌, None, map, IfOk, IfErr, OnOk};
 ghost use Rattle.drafts.specs.Told.{told_behind, told_of};
 ghost use Rattle.drafts.specs.First.{first_behind};
-ghost use Rattle.extended_drafts.specs.Flaws.{new_flaws, extended_flaws};
+ghost use Rattle.extended_drafts.specs.Flaws.{joined, plain_variables, item_flaws, signals, new_flaws, extended_flaws};
+ghost use Rattle.extended_drafts.specs.Inside.{scoped_flaws};
 ghost use Rattle.extended_drafts.specs.Checked.{IsSound, IsTextFault};
 
-use crate::draft::ExtendedDraft;
+use crate::draft::{DraftItem, ExtendedDraft};
 use crate::emission_flaws::signals;
 use crate::inside_flaws::regions_inside_flaws;
 use crate::item_flaws::{items_flaws, plain_variables, word_flaws};
@@ -16,20 +17,21 @@ use crate::whole::read_extended_draft;
 use chart_drafts::told_flaws;
 use drafts::{Flaw, Scope, first_told};
 use sc_text::ReadFault;
-use sqlite_items::Items;
+use sqlite_items::{Boxed, Items};
 use std::alloc::{AllocError, Global};
 
 /// The draft of a text that spells an extended chart without flaws. Err: the fault of a text that has no draft, as
 /// `read_extended_draft` tells it; else the first flaw of its draft; or memory was refused.
-#[tactic(auto, using(crate::proofs::Checking::undrafted, crate::proofs::Checking::flawed, crate::proofs::Checking::sound))]
+#[tactic(auto, using(crate::proofs::Checking::undrafted))]
 pub fn read_checked_extended(alloc: Global, text: &str) -> Result<ExtendedDraft, ReadFault>
     ensures ok { IfOk result (λ draft. IsSound text.now draft) }
     ensures fault { IfErr result (λ fault. IsTextFault text.now fault) }
 {
-    let draft = read_extended_draft(alloc, text)?;
-    match first_flaw(alloc, &draft)? {
+    // A box, since a draft would be dropped part by part at each way out.
+    let draft = Boxed::new(alloc, read_extended_draft(alloc, text)?)?;
+    match first_flaw(alloc, draft.get())? {
         Some(flaw) => Err(ReadFault::Text(flaw.broken, flaw.at)),
-        None => Ok(draft),
+        None => Ok(draft.into_inner()),
     }
 }
 
@@ -52,6 +54,7 @@ pub fn extended_told_flaws(alloc: Global, draft: &ExtendedDraft) -> Result<Items
 }
 
 // The flaws of what is new.
+#[tactic(auto, using(drafts::proofs::ToldInOrder::told_both))]
 fn new_flaws(
     alloc: Global,
     draft: &ExtendedDraft,
@@ -60,23 +63,54 @@ fn new_flaws(
     ensures { OnOk result (found.new ≡ told_behind found.old (new_flaws draft.now)) }
 {
     word_flaws(alloc, "extended", draft.word, found)?;
-    let items = draft.items.as_slice();
+    all_item_flaws(alloc, draft.items.as_slice(), found)?;
+    behind_items_flaws(alloc, draft, found)
+}
+
+// The flaws of items, over the variables among them.
+fn all_item_flaws(
+    alloc: Global,
+    items: &[DraftItem],
+    found: &mut Items<Flaw>,
+) -> Result<(), AllocError>
+    ensures { OnOk result (found.new ≡ told_behind found.old
+        (joined (map (item_flaws (plain_variables items.now)) items.now))) }
+{
     let plain = plain_variables(alloc, items)?;
     let variables = Scope::of(alloc, plain.as_slice())?;
-    items_flaws(alloc, &variables, items, found)?;
-    let emitted = signals(alloc, items)?;
+    items_flaws(alloc, &variables, items, found)
+}
+
+// The flaws of all that is new but the items.
+fn behind_items_flaws(
+    alloc: Global,
+    draft: &ExtendedDraft,
+    found: &mut Items<Flaw>,
+) -> Result<(), AllocError>
+    ensures { OnOk result (found.new ≡ told_behind found.old
+        (scoped_flaws draft.now.core.variables (signals draft.now.items) draft.now)) }
+{
+    let emitted = signals(alloc, draft.items.as_slice())?;
     let signals = Scope::of(alloc, emitted.as_slice())?;
     let scope = Scope::of(alloc, draft.core.variables.as_slice())?;
-    all_entries_flaws(
-        alloc,
-        &scope,
-        &signals,
-        draft.rows.entries.as_slice(),
-        found,
-    )?;
+    scoped_flaws(alloc, &scope, &signals, draft, found)
+}
+
+// These, over the variables and the signals of the chart.
+#[tactic(auto, using(drafts::proofs::ToldInOrder::told_both))]
+fn scoped_flaws(
+    alloc: Global,
+    scope: &Scope,
+    signals: &Scope,
+    draft: &ExtendedDraft,
+    found: &mut Items<Flaw>,
+) -> Result<(), AllocError>
+    ensures { OnOk result (found.new ≡ told_behind found.old
+        (scoped_flaws scope.now.variables.now signals.now.variables.now draft.now)) }
+{
     let regions = draft.core.regions.as_slice();
-    all_way_flaws(alloc, &scope, regions, draft.rows.ways.as_slice(), found)?;
+    all_entries_flaws(alloc, scope, signals, draft.rows.entries.as_slice(), found)?;
+    all_way_flaws(alloc, scope, regions, draft.rows.ways.as_slice(), found)?;
     variable_name_flaws(alloc, draft.core.variables.as_slice(), found)?;
-    regions_inside_flaws(alloc, &signals, regions, found)?;
-    Ok(())
+    regions_inside_flaws(alloc, signals, regions, found)
 }

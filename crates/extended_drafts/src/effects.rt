@@ -177,15 +177,14 @@ fn effect(alloc: Global, ahead: &mut Ahead, end: usize) -> Result<DraftEffect, R
     Ok(effect)
 }
 
-#[tactic(auto, using(chart_drafts::proofs::Parts::after_stops_first, chart_drafts::proofs::Parts::after_stops_second, chart_drafts::proofs::Parts::after_gives), unfolding(crate::specs::ExtendedText::next_effect))]
+#[tactic(auto, using(chart_drafts::proofs::Parts::after_stops_first), unfolding(crate::specs::ExtendedText::next_effect))]
 fn next_effect(alloc: Global, ahead: &mut Ahead, end: usize) -> Result<DraftEffect, ReadFault>
     ensures { MatchResult result
         (λ x. Gives (read (next_effect (expression 0)) ahead.old.tokens.now) x ahead.new.tokens.now)
         (λ fault. Stops end (read (next_effect (expression 0)) ahead.old.tokens.now) fault) }
 {
     skip_sign(ahead, end, Sign::Comma)?;
-    let effect = effect(alloc, ahead, end)?;
-    Ok(effect)
+    effect(alloc, ahead, end)
 }
 
 /// The effects behind the word `do`.
@@ -213,7 +212,7 @@ pub(crate) fn some_effects(
     Ok(found)
 }
 
-#[tactic(auto, using(crate::proofs::EffectParts::effects_missing, crate::proofs::EffectParts::effects_there, crate::proofs::EffectParts::effects_stop))]
+#[tactic(auto, using(crate::proofs::EffectParts::effects_missing))]
 fn effects(alloc: Global, ahead: &mut Ahead, end: usize) -> Result<Items<DraftEffect>, ReadFault>
     ensures { MatchResult result
         (λ x. Gives (read (effects (expression 0)) ahead.old.tokens.now) x ahead.new.tokens.now)
@@ -223,8 +222,7 @@ fn effects(alloc: Global, ahead: &mut Ahead, end: usize) -> Result<Items<DraftEf
         return Ok(Items::new(alloc));
     }
     ahead.tokens = behind(ahead.tokens);
-    let effects = some_effects(alloc, ahead, end)?;
-    Ok(effects)
+    some_effects(alloc, ahead, end)
 }
 
 /// What is done, and where a transition leads.

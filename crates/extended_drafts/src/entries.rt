@@ -67,7 +67,7 @@ fn entry(alloc: Global, ahead: &mut Ahead, end: usize) -> Result<DraftEntry, Rea
 }
 
 // The word `do`, and what is done.
-#[tactic(auto, using(chart_drafts::proofs::Parts::after_stops_first, chart_drafts::proofs::Parts::after_stops_second, chart_drafts::proofs::Parts::after_gives))]
+#[tactic(auto, using(chart_drafts::proofs::Parts::after_stops_first))]
 fn outcomes(alloc: Global, ahead: &mut Ahead, end: usize) -> Result<Items<DraftEffect>, ReadFault>
     ensures { MatchResult result
         (λ x. Gives (read (after (the_word Word.Do) (last_effects (expression 0))) ahead.old.tokens.now) x
@@ -76,8 +76,7 @@ fn outcomes(alloc: Global, ahead: &mut Ahead, end: usize) -> Result<Items<DraftE
         (expression 0))) ahead.old.tokens.now) fault) }
 {
     skip_word(ahead, end, Word::Do)?;
-    let effects = last_effects(alloc, ahead, end)?;
-    Ok(effects)
+    last_effects(alloc, ahead, end)
 }
 
 // What is done, and the semicolon behind it.

@@ -53,18 +53,15 @@ fn item_follows(tokens: &[Token]) -> bool
     role_follows(tokens) || name_follows(tokens)
 }
 
-#[tactic(auto, using(crate::proofs::ItemParts::plain_read, crate::proofs::ItemParts::plain_fails, crate::proofs::ItemParts::worded_read, crate::proofs::ItemParts::worded_fails))]
 fn item(alloc: Global, ahead: &mut Ahead, end: usize) -> Result<DraftItem, ReadFault>
     ensures { MatchResult result
         (λ x. Gives (read (item (expression 0)) ahead.old.tokens.now) x ahead.new.tokens.now)
         (λ fault. Stops end (read (item (expression 0)) ahead.old.tokens.now) fault) }
 {
     if role_follows(ahead.tokens) {
-        let variable = plain(alloc, ahead, end)?;
-        return Ok(variable);
+        return plain(alloc, ahead, end);
     }
-    let other = worded(alloc, ahead, end)?;
-    Ok(other)
+    worded(alloc, ahead, end)
 }
 
 // A variable, which may be a signal.
@@ -97,18 +94,15 @@ fn plain_item(role: Role, body: ItemBody) -> DraftItem
     }
 }
 
-#[tactic(auto, using(crate::proofs::ItemParts::signalled_read, crate::proofs::ItemParts::signalled_fails, crate::proofs::ItemParts::plain_typed_read, crate::proofs::ItemParts::plain_typed_fails))]
 fn plain_body(alloc: Global, ahead: &mut Ahead, end: usize) -> Result<ItemBody, ReadFault>
     ensures { MatchResult result
         (λ x. Gives (read (plain_body (expression 0)) ahead.old.tokens.now) x ahead.new.tokens.now)
         (λ fault. Stops end (read (plain_body (expression 0)) ahead.old.tokens.now) fault) }
 {
     if name_follows(ahead.tokens) {
-        let signal = signalled(ahead, end)?;
-        return Ok(signal);
+        return signalled(ahead, end);
     }
-    let body = typed(alloc, ahead, end)?;
-    Ok(body)
+    typed(alloc, ahead, end)
 }
 
 // What stands behind a word that charts don't have, or a local signal.
@@ -156,7 +150,7 @@ fn worded_item(word: Named, body: ItemBody) -> DraftItem
     }
 }
 
-#[tactic(auto, using(crate::proofs::ItemParts::bare_signal_read, crate::proofs::ItemParts::bare_signal_fails, crate::proofs::ItemParts::worded_typed_read, crate::proofs::ItemParts::worded_typed_fails))]
+#[tactic(auto, using(crate::proofs::ItemParts::bare_signal_fails))]
 fn worded_body(alloc: Global, ahead: &mut Ahead, end: usize) -> Result<ItemBody, ReadFault>
     ensures { MatchResult result
         (λ x. Gives (read (worded_body (expression 0)) ahead.old.tokens.now) x ahead.new.tokens.now)
@@ -166,8 +160,7 @@ fn worded_body(alloc: Global, ahead: &mut Ahead, end: usize) -> Result<ItemBody,
         let named = last_name(ahead, end)?;
         return Ok(signal_body(&named, &named));
     }
-    let body = typed(alloc, ahead, end)?;
-    Ok(body)
+    typed(alloc, ahead, end)
 }
 
 // A signal behind its word.
@@ -211,7 +204,7 @@ fn typed(alloc: Global, ahead: &mut Ahead, end: usize) -> Result<ItemBody, ReadF
     })
 }
 
-#[tactic(auto, using(crate::proofs::ItemParts::value_missing, crate::proofs::ItemParts::value_there, crate::proofs::ItemParts::value_stops))]
+#[tactic(auto, using(crate::proofs::ItemParts::value_stops))]
 fn item_value(
     alloc: Global,
     ahead: &mut Ahead,

@@ -137,7 +137,7 @@ fn state(
 
 // What is in a state, or the semicolon where nothing is.
 #[cycle(regions)]
-#[tactic(auto, using(crate::proofs::Nesting::simple_gives, crate::proofs::Nesting::brace_stops, crate::proofs::Nesting::acting_stops, crate::proofs::Nesting::acting_gives))]
+#[tactic(auto, using(crate::proofs::Nesting::simple_gives, crate::proofs::Nesting::brace_stops))]
 fn body(
     alloc: Global,
     depth: u8,
@@ -154,8 +154,7 @@ fn body(
         return Ok((Items::new(alloc), StateBody::new(alloc)));
     }
     skip_sign(ahead, end, Sign::OpenBrace)?;
-    let (entries, inside) = acting(alloc, depth, ahead, end)?;
-    Ok((entries, inside))
+    acting(alloc, depth, ahead, end)
 }
 
 // The actions of a state, and what is in it behind them.

@@ -79,13 +79,12 @@ fn last_lead(ahead: &mut Ahead, end: usize) -> Result<DraftLead, ReadFault>
 }
 
 /// Where a transition leads, between the arrow and the semicolon.
-#[tactic(auto, using(chart_drafts::proofs::Parts::after_stops_first, chart_drafts::proofs::Parts::after_stops_second, chart_drafts::proofs::Parts::after_gives), unfolding(crate::specs::ExtendedText::leading))]
+#[tactic(auto, using(chart_drafts::proofs::Parts::after_stops_first), unfolding(crate::specs::ExtendedText::leading))]
 pub(crate) fn leading(ahead: &mut Ahead, end: usize) -> Result<DraftLead, ReadFault>
     ensures { MatchResult result
         (λ x. Gives (read leading ahead.old.tokens.now) x ahead.new.tokens.now)
         (λ fault. Stops end (read leading ahead.old.tokens.now) fault) }
 {
     skip_sign(ahead, end, Sign::Arrow)?;
-    let lead = last_lead(ahead, end)?;
-    Ok(lead)
+    last_lead(ahead, end)
 }

@@ -158,7 +158,6 @@ fn termination(
     Ok((ends, way))
 }
 
-#[tactic(auto, using(crate::proofs::Pieces::termination_stops, crate::proofs::Pieces::termination_gives, crate::proofs::Pieces::tested_stops, crate::proofs::Pieces::tested_gives))]
 fn transition(
     alloc: Global,
     ahead: &mut Ahead,
@@ -169,11 +168,9 @@ fn transition(
         (λ fault. Stops end (read (transition (expression 0)) ahead.old.tokens.now) fault) }
 {
     if word_follows(ahead.tokens, Word::Join) {
-        let ends = termination(alloc, ahead, end)?;
-        return Ok(ends);
+        return termination(alloc, ahead, end);
     }
-    let leads = tested(alloc, ahead, end)?;
-    Ok(leads)
+    tested(alloc, ahead, end)
 }
 
 // Whether a transition is next.

@@ -25,7 +25,7 @@ use chart_modules::without_modules;
 use drafts::Named;
 use sc_text::ahead::wrong;
 use sc_text::{Language, ReadFault, Sign, Token, Word, tokens};
-use sqlite_items::Items;
+use sqlite_items::{Boxed, Items};
 use std::alloc::{AllocError, Global};
 
 /// The levels of regions that may stand inside a region of the chart.
@@ -64,11 +64,12 @@ fn whole(alloc: Global, tokens: &[Token], end: usize) -> Result<ExtendedDraft, R
         (λ fault. Stops end (read_all (extended_text 0) tokens.now) fault) }
 {
     let mut ahead = Ahead { tokens };
-    let draft = extended(alloc, &mut ahead, end)?;
+    // A box, since a draft would be dropped part by part where more follows.
+    let draft = Boxed::new(alloc, extended(alloc, &mut ahead, end)?)?;
     if !ahead.tokens.is_empty() {
         return Err(wrong(ahead.tokens, end));
     }
-    Ok(draft)
+    Ok(draft.into_inner())
 }
 
 #[tactic(auto, using(crate::proofs::Nesting::extended_gives, crate::proofs::Nesting::word_stops, crate::proofs::Nesting::chart_stops))]
@@ -78,8 +79,8 @@ fn extended(alloc: Global, ahead: &mut Ahead, end: usize) -> Result<ExtendedDraf
         (λ fault. Stops end (read (extended_text 0) ahead.old.tokens.now) fault) }
 {
     let word = name(ahead, end)?;
-    let (named, parts) = chart(alloc, ahead, end)?;
-    let draft = draft_of(alloc, word, named, parts)?;
+    let chart = chart(alloc, ahead, end)?;
+    let draft = draft_of(alloc, word, chart)?;
     Ok(draft)
 }
 
@@ -114,9 +115,9 @@ fn braced_parts(
         ahead.old.tokens.now) fault) }
 {
     skip_sign(ahead, end, Sign::OpenBrace)?;
-    let parts = parts(alloc, ahead, end)?;
+    let parts = Boxed::new(alloc, parts(alloc, ahead, end)?)?;
     skip_sign(ahead, end, Sign::CloseBrace)?;
-    Ok(parts)
+    Ok(parts.into_inner())
 }
 
 #[tactic(auto, using(chart_drafts::proofs::Parts::seq_stops_first, chart_drafts::proofs::Parts::seq_stops_second, chart_drafts::proofs::Parts::seq_gives), unfolding(crate::specs::ExtendedText::parts))]
@@ -136,15 +137,15 @@ fn parts(
     Ok((items, regions))
 }
 
-// The draft of these parts. Err: memory was refused.
+// The draft of a chart by its name and its parts. Err: memory was refused.
 fn draft_of(
     alloc: Global,
     word: Named,
-    named: Named,
-    parts: (Items<DraftItem>, (Items<DraftRegion>, DraftRows)),
+    chart: (Named, (Items<DraftItem>, (Items<DraftRegion>, DraftRows))),
 ) -> Result<ExtendedDraft, AllocError>
-    ensures { IfOk result (λ draft. draft ≡ draft_of word named parts) }
+    ensures { IfOk result (λ draft. draft ≡ draft_of word chart.0 chart.1) }
 {
+    let (named, parts) = chart;
     let (items, behind) = parts;
     let (regions, rows) = behind;
     let variables = declarations(alloc, items.as_slice())?;

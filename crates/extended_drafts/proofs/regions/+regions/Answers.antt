@@ -1,14 +1,16 @@
-use Rattle.std.proofs.Common.{rules, ◌≡◌, true, refl}
+use Rattle.std.proofs.Common.{rules, ◌≡◌, true, false, refl}
 use Rattle.grammar.specs.Read.{read, starts}
 use Rattle.sc_text.specs.declared.read_fault.ReadFault.{ReadFault}
 use Rattle.sc_text.specs.declared.word.Word.TheVariants as word
+use Rattle.sc_text.specs.declared.sign.Sign.TheVariants as sign
 use Rattle.sc_text.specs.Expression.{text_tokens, expression}
 use Rattle.sc_text.specs.Reading.{Stops}
-use Rattle.chart_drafts.specs.ChartText.{the_word, state_first}
+use Rattle.chart_drafts.specs.ChartText.{the_word, the_sign, state_first}
 use Rattle.extended_drafts.specs.Draft.{gathered}
 use Rattle.extended_drafts.specs.ExtendedText.{rowed, state, region, within}
 use Rattle.extended_drafts.proofs.Gathering.{gathering_ends, gathering_over, gathering_stops, gathering_on, gathered_more}
-use Rattle.extended_drafts.proofs.Nesting.{regions_go, states_go, no_first_region, no_first_state}
+use Rattle.extended_drafts.proofs.Nesting.{regions_go, states_go, no_first_region, no_first_state, acting_read}
+use Rattle.extended_drafts.proofs.Same.{same_reading}
 use Rattle.extended_drafts.proofs.regions.+regions.Goals as goal
 
 pub regions-loop-used-init : goal.regions-loop-used-init
@@ -92,3 +94,9 @@ states-loop-used-preserved t c =
     gathering_on gathered (state (expression 0) (within (expression 0) c.args.depth))
     state_first _ _ _ _ _ _ _ _ c.loop-used-test.true c.loop-used.invariant
     more c.in_ok-next.ensures (gathered_more _ _ _ _ _ _ c.in_ok-push-2.ensures.ok c.in_ok-append.ensures)
+
+pub body-returns : goal.body-returns
+body-returns t c =
+    let on = c.if-sign_follows.false in
+    let braced : starts text_tokens (the_sign sign.Semicolon) c.args.ahead.now.tokens.now ≡ false = search (rules, on, c.sign_follows.ensures) in
+    same_reading _ _ _ _ _ (acting_read c.args.depth c.args.ahead.now.tokens.now _ braced c.in_ok-skip_sign.ensures) c.acting.ensures
