@@ -4,3 +4,4 @@ pub mod Counts
 pub mod Clocks
 pub mod Endings
 pub mod Initial
+pub mod Inside

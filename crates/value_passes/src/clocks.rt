@@ -1,10 +1,12 @@
 //! The ticks since a state was entered.
 
-ghost use Rattle.std.specs.Prelude.{◌≡◌, IfOk, map};
+ghost use Rattle.std.specs.Prelude.{◌≡◌, [], ◌∷◌, ◌++◌, IfOk, OnOk, map};
 ghost use Rattle.value_passes.specs.Clocks.{asks_time, ask_time, clocks_in, all_regions, all_states};
 ghost use Rattle.value_passes.specs.Clocks.{noting, timed_by, timed_region, timed_state};
 ghost use Rattle.value_passes.specs.Clocks.{one_more, clock_region, with_clocks};
+ghost use Rattle.value_passes.specs.Inside.{fill_timed};
 
+use crate::bare::bare;
 use chart_elements::next;
 use core_charts::{Effect, Transition, copied_effects};
 use extended_charts::{
@@ -22,26 +24,29 @@ use std::alloc::{AllocError, Global};
 pub fn with_clocks(alloc: Global, chart: ExtendedChart) -> Result<ExtendedChart, AllocError>
     ensures { IfOk result (λ made. made ≡ with_clocks chart) }
 {
+    let mut chart = chart;
+    put_clocks(alloc, &mut chart)?;
+    Ok(chart)
+}
+
+// The chart is behind a reference, so that no `?` has to drop its parts.
+fn put_clocks(alloc: Global, chart: &mut ExtendedChart) -> Result<(), AllocError>
+    ensures { OnOk result (chart.new ≡ with_clocks chart.old) }
+{
     let now = variable(chart.variables.len())?;
     let count = clocks_in(chart.regions.as_slice())?;
     if count == 0 {
-        return Ok(chart);
+        return Ok(());
     }
     let first = next(u32::from(now))?;
-    let mut regions = all_regions(alloc, now, first, chart.regions.as_slice())?;
+    let mut regions = Items::new(alloc);
+    put_regions(alloc, now, first, chart.regions.as_slice(), &mut regions)?;
     regions.push(clock_region(alloc, now)?)?;
-    let mut variables = chart.variables;
-    variables.push(local(plain("now__1"), Kind::Int, None))?;
-    variables.append(integers(alloc, "at__", count)?)?;
-    Ok(ExtendedChart {
-        name: chart.name,
-        variables,
-        signals: chart.signals,
-        befores: chart.befores,
-        constants: chart.constants,
-        counts: chart.counts,
-        regions,
-    })
+    chart.regions = regions;
+    chart
+        .variables
+        .push(local(plain("now__1"), Kind::Int, None))?;
+    chart.variables.append(integers(alloc, "at__", count)?)
 }
 
 // Whether a trigger of these asks for the ticks since the state was entered.
@@ -93,85 +98,107 @@ fn state_clocks(state: &ExtendedState) -> Result<u32, AllocError>
     sum(own, clocks_in(state.regions.as_slice())?)
 }
 
+// Puts what is made of regions behind others.
 #[cycle(timed)]
-fn all_regions(
+fn put_regions(
     alloc: Global,
     now: VariableId,
     first: u32,
     regions: &[ExtendedRegion],
-) -> Result<Items<ExtendedRegion>, AllocError>
-    ensures { IfOk result (λ made. made ≡ all_regions now first (map timed_region regions.now)) }
+    made: &mut Items<ExtendedRegion>,
+) -> Result<(), AllocError>
+    ensures { OnOk result (made.new ≡ made.old ++ all_regions now first (map timed_region regions.now)) }
 {
-    let mut made = Items::new(alloc);
     let mut at = first;
     for region in regions {
-        made.push(timed_region(alloc, now, at, region)?)?;
+        put_region(alloc, now, at, region, made)?;
         at = sum(at, region_clocks(region)?)?;
     }
-    Ok(made)
+    Ok(())
 }
 
 #[cycle(timed)]
-fn timed_region(
+fn put_region(
     alloc: Global,
     now: VariableId,
     at: u32,
     region: &ExtendedRegion,
-) -> Result<ExtendedRegion, AllocError>
-    ensures { IfOk result (λ made. made ≡ (timed_region region.now).made now at) }
+    made: &mut Items<ExtendedRegion>,
+) -> Result<(), AllocError>
+    ensures { OnOk result (made.new ≡ made.old ++ (timed_region region.now).made now at ∷ []) }
 {
-    Ok(ExtendedRegion {
+    let mut states = Items::new(alloc);
+    put_states(alloc, now, at, region.states.as_slice(), &mut states)?;
+    made.push(ExtendedRegion {
         name: region.name,
-        states: all_states(alloc, now, at, region.states.as_slice())?,
+        states,
     })
 }
 
 #[cycle(timed)]
-fn all_states(
+fn put_states(
     alloc: Global,
     now: VariableId,
     first: u32,
     states: &[ExtendedState],
-) -> Result<Items<ExtendedState>, AllocError>
-    ensures { IfOk result (λ made. made ≡ all_states now first (map timed_state states.now)) }
+    made: &mut Items<ExtendedState>,
+) -> Result<(), AllocError>
+    ensures { OnOk result (made.new ≡ made.old ++ all_states now first (map timed_state states.now)) }
 {
-    let mut made = Items::new(alloc);
     let mut at = first;
     for state in states {
-        made.push(timed_state(alloc, now, at, state)?)?;
+        put_state(alloc, now, at, state, made)?;
         at = sum(at, state_clocks(state)?)?;
     }
-    Ok(made)
+    Ok(())
 }
 
 #[cycle(timed)]
 #[tactic(auto, using(crate::proofs::Folded::state_timed))]
-fn timed_state(
+fn put_state(
     alloc: Global,
     now: VariableId,
     at: u32,
     state: &ExtendedState,
-) -> Result<ExtendedState, AllocError>
-    ensures { IfOk result (λ made. made ≡ (timed_state state.now).made now at) }
+    made: &mut Items<ExtendedState>,
+) -> Result<(), AllocError>
+    ensures { OnOk result (made.new ≡ made.old ++ (timed_state state.now).made now at ∷ []) }
+{
+    let mut timed = bare(alloc, state);
+    fill_timed(alloc, now, at, state, &mut timed)?;
+    made.push(timed)
+}
+
+// Puts what a state holds into a bare one, which is behind a reference so that no `?` has to drop its parts.
+#[cycle(timed)]
+fn fill_timed(
+    alloc: Global,
+    now: VariableId,
+    at: u32,
+    state: &ExtendedState,
+    timed: &mut ExtendedState,
+) -> Result<(), AllocError>
+    ensures { OnOk result (timed.new ≡ fill_timed now at state.now timed.old) }
 {
     let own = state.transitions.as_slice();
     let asks = ask_time(own);
     let at_entry = variable(at as usize)?;
     let inside = sum(at, one(asks))?;
     let reading = Reading::Elapsed { now, at: at_entry };
-    let mut entry = noting(alloc, asks, now, at_entry)?;
-    entry.append(copied_effects(alloc, state.entry.as_slice())?)?;
-    Ok(ExtendedState {
-        name: state.name,
-        is_own: state.is_own,
-        is_initial: state.is_initial,
-        is_final: state.is_final,
-        entry,
-        exit: copied_effects(alloc, state.exit.as_slice())?,
-        during: Items::new(alloc),
-        regions: all_regions(alloc, now, inside, state.regions.as_slice())?,
-        transitions: timed_transitions(alloc, &reading, own)?,
-    })
+    timed.entry = noting(alloc, asks, now, at_entry)?;
+    timed
+        .entry
+        .append(copied_effects(alloc, state.entry.as_slice())?)?;
+    timed.exit = copied_effects(alloc, state.exit.as_slice())?;
+    put_regions(
+        alloc,
+        now,
+        inside,
+        state.regions.as_slice(),
+        &mut timed.regions,
+    )?;
+    timed.transitions = timed_transitions(alloc, &reading, own)?;
+    Ok(())
 }
 
 fn noting(

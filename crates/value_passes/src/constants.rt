@@ -1,11 +1,13 @@
 //! Constants: each stands for its literal.
 
-ghost use Rattle.std.specs.Prelude.{◌≡◌, [], IfOk, map};
+ghost use Rattle.std.specs.Prelude.{◌≡◌, [], ◌∷◌, ◌++◌, IfOk, OnOk, map};
 ghost use Rattle.value_passes.specs.Constants.{unvalued, named_values, valued_effect, valued_during};
 ghost use Rattle.value_passes.specs.Constants.{valued_transition};
 ghost use Rattle.extended_charts.specs.Reading.{replaced};
 ghost use Rattle.value_passes.specs.Constants.{valued_region, valued_state, valued_chart, without_constants};
+ghost use Rattle.value_passes.specs.Inside.{fill_valued, fill_chart};
 
+use crate::bare::bare;
 use core_charts::{Effect, Transition};
 use extended_charts::{
     Constant, Declared, During, ExtendedChart, ExtendedRegion, ExtendedState, Reading,
@@ -34,15 +36,38 @@ fn valued_chart(
 ) -> Result<ExtendedChart, AllocError>
     ensures { IfOk result (λ made. made ≡ valued_chart reading.now chart.now) }
 {
-    Ok(ExtendedChart {
+    let mut valued = ExtendedChart {
         name: chart.name,
-        variables: copied_declarations(alloc, chart.variables.as_slice())?,
-        signals: Items::from_slice(alloc, chart.signals.as_slice())?,
-        befores: Items::from_slice(alloc, chart.befores.as_slice())?,
+        variables: Items::new(alloc),
+        signals: Items::new(alloc),
+        befores: Items::new(alloc),
         constants: Items::new(alloc),
-        counts: valued_counts(alloc, reading, chart.counts.as_slice())?,
-        regions: valued_regions(alloc, reading, chart.regions.as_slice())?,
-    })
+        counts: Items::new(alloc),
+        regions: Items::new(alloc),
+    };
+    fill_chart(alloc, reading, chart, &mut valued)?;
+    Ok(valued)
+}
+
+// The chart that is filled is behind a reference, so that no `?` has to drop its parts.
+fn fill_chart(
+    alloc: Global,
+    reading: &Reading,
+    chart: &ExtendedChart,
+    valued: &mut ExtendedChart,
+) -> Result<(), AllocError>
+    ensures { OnOk result (valued.new ≡ fill_chart reading.now chart.now valued.old) }
+{
+    valued.variables = copied_declarations(alloc, chart.variables.as_slice())?;
+    valued.signals = Items::from_slice(alloc, chart.signals.as_slice())?;
+    valued.befores = Items::from_slice(alloc, chart.befores.as_slice())?;
+    valued.counts = valued_counts(alloc, reading, chart.counts.as_slice())?;
+    put_regions(
+        alloc,
+        reading,
+        chart.regions.as_slice(),
+        &mut valued.regions,
+    )
 }
 
 // The value of each number of an expression that has one.
@@ -174,67 +199,87 @@ fn valued_transition(
     })
 }
 
+// Puts what is made of regions behind others.
 #[cycle(inside)]
-fn valued_regions(
+fn put_regions(
     alloc: Global,
     reading: &Reading,
     regions: &[ExtendedRegion],
-) -> Result<Items<ExtendedRegion>, AllocError>
-    ensures { IfOk result (λ made. made ≡ map (valued_region reading.now) regions.now) }
+    made: &mut Items<ExtendedRegion>,
+) -> Result<(), AllocError>
+    ensures { OnOk result (made.new ≡ made.old ++ map (valued_region reading.now) regions.now) }
 {
-    let mut made = Items::new(alloc);
     for region in regions {
-        made.push(valued_region(alloc, reading, region)?)?;
+        put_region(alloc, reading, region, made)?;
     }
-    Ok(made)
+    Ok(())
 }
 
 #[cycle(inside)]
-fn valued_region(
+fn put_region(
     alloc: Global,
     reading: &Reading,
     region: &ExtendedRegion,
-) -> Result<ExtendedRegion, AllocError>
-    ensures { IfOk result (λ made. made ≡ valued_region reading.now region.now) }
+    made: &mut Items<ExtendedRegion>,
+) -> Result<(), AllocError>
+    ensures { OnOk result (made.new ≡ made.old ++ valued_region reading.now region.now ∷ []) }
 {
-    Ok(ExtendedRegion {
+    let mut states = Items::new(alloc);
+    put_states(alloc, reading, region.states.as_slice(), &mut states)?;
+    made.push(ExtendedRegion {
         name: region.name,
-        states: valued_states(alloc, reading, region.states.as_slice())?,
+        states,
     })
 }
 
 #[cycle(inside)]
-fn valued_states(
+fn put_states(
     alloc: Global,
     reading: &Reading,
     states: &[ExtendedState],
-) -> Result<Items<ExtendedState>, AllocError>
-    ensures { IfOk result (λ made. made ≡ map (valued_state reading.now) states.now) }
+    made: &mut Items<ExtendedState>,
+) -> Result<(), AllocError>
+    ensures { OnOk result (made.new ≡ made.old ++ map (valued_state reading.now) states.now) }
 {
-    let mut made = Items::new(alloc);
     for state in states {
-        made.push(valued_state(alloc, reading, state)?)?;
+        put_state(alloc, reading, state, made)?;
     }
-    Ok(made)
+    Ok(())
 }
 
 #[cycle(inside)]
-fn valued_state(
+fn put_state(
     alloc: Global,
     reading: &Reading,
     state: &ExtendedState,
-) -> Result<ExtendedState, AllocError>
-    ensures { IfOk result (λ made. made ≡ valued_state reading.now state.now) }
+    made: &mut Items<ExtendedState>,
+) -> Result<(), AllocError>
+    ensures { OnOk result (made.new ≡ made.old ++ valued_state reading.now state.now ∷ []) }
 {
-    Ok(ExtendedState {
-        name: state.name,
-        is_own: state.is_own,
-        is_initial: state.is_initial,
-        is_final: state.is_final,
-        entry: valued_effects(alloc, reading, state.entry.as_slice())?,
-        exit: valued_effects(alloc, reading, state.exit.as_slice())?,
-        during: valued_durings(alloc, reading, state.during.as_slice())?,
-        regions: valued_regions(alloc, reading, state.regions.as_slice())?,
-        transitions: valued_transitions(alloc, reading, state.transitions.as_slice())?,
-    })
+    let mut valued = bare(alloc, state);
+    fill_valued(alloc, reading, state, &mut valued)?;
+    made.push(valued)
+}
+
+// Puts what a state holds into a bare one, which is behind a reference so that no `?` has to drop its parts.
+#[cycle(inside)]
+fn fill_valued(
+    alloc: Global,
+    reading: &Reading,
+    state: &ExtendedState,
+    valued: &mut ExtendedState,
+) -> Result<(), AllocError>
+    ensures { OnOk result (valued.new ≡ fill_valued reading.now state.now valued.old) }
+{
+    valued.entry = valued_effects(alloc, reading, state.entry.as_slice())?;
+    valued.exit = valued_effects(alloc, reading, state.exit.as_slice())?;
+    valued.during = valued_durings(alloc, reading, state.during.as_slice())?;
+    put_regions(
+        alloc,
+        reading,
+        state.regions.as_slice(),
+        &mut valued.regions,
+    )?;
+    valued.transitions = valued_transitions(alloc, reading, state.transitions.as_slice())?;
+    Ok(())
 }

@@ -1,18 +1,20 @@
 //! Counts: in how many ticks a condition was true since a state was entered.
 
-ghost use Rattle.std.specs.Prelude.{◌≡◌, IfOk, map};
+ghost use Rattle.std.specs.Prelude.{◌≡◌, [], ◌∷◌, ◌++◌, IfOk, OnOk, map};
 ghost use Rattle.value_passes.specs.Counts.{total_of, entered_of, next_count, own_variables, count_variables};
 ghost use Rattle.value_passes.specs.Counts.{asked_in, asked_by, telling, tellings};
 ghost use Rattle.value_passes.specs.Counts.{counted_region, counted_state, beginnings, none_yet, counting_ways};
 ghost use Rattle.value_passes.specs.Counts.{counting, all_counting, count_states, count_region, with_counts};
+ghost use Rattle.value_passes.specs.Inside.{fill_counted, anew, counted_ways};
 
+use crate::bare::bare;
 use crate::clocks::{one_more, timed_transitions};
 use chart_elements::next;
-use core_charts::{Effect, Transition, copied_effects};
+use core_charts::{Effect, Transition, TransitionKind, copied_effects};
 use extended_charts::{
-    Declared, ExtendedChart, ExtendedRegion, ExtendedState, Reading, all_passing, alone, always,
-    copy, count, count_variable, emission, has_some, is_count, local, made_state, passing, reset,
-    sum, variable, ways_on,
+    Declared, ExtendedChart, ExtendedRegion, ExtendedState, Reading, all_passing, alone, copy,
+    count, count_variable, emission, has_some, is_count, local, made_state, passing, reset, sum,
+    variable, ways_on,
 };
 use sc_graph::VariableId;
 use sc_text::{numbered, plain};
@@ -25,27 +27,29 @@ use std::alloc::{AllocError, Global};
 pub fn with_counts(alloc: Global, chart: ExtendedChart) -> Result<ExtendedChart, AllocError>
     ensures { IfOk result (λ made. made ≡ with_counts chart) }
 {
+    let mut chart = chart;
+    put_counts(alloc, &mut chart)?;
+    Ok(chart)
+}
+
+// The chart is behind a reference, so that no `?` has to drop its parts.
+fn put_counts(alloc: Global, chart: &mut ExtendedChart) -> Result<(), AllocError>
+    ensures { OnOk result (chart.new ≡ with_counts chart.old) }
+{
     if !has_some(chart.counts.as_slice()) {
-        return Ok(chart);
+        return Ok(());
     }
     let first = variable(chart.variables.len())?;
-    let conditions = chart.counts.as_slice();
-    let counts = variable(conditions.len())?;
-    let region = count_region(alloc, first, conditions)?;
-    let made = count_variables(alloc, conditions)?;
-    let mut regions = counted_regions(alloc, first, counts, chart.regions.as_slice())?;
-    regions.push(region)?;
-    let mut variables = chart.variables;
-    variables.append(made)?;
-    Ok(ExtendedChart {
-        name: chart.name,
-        variables,
-        signals: chart.signals,
-        befores: chart.befores,
-        constants: chart.constants,
-        counts: Items::new(alloc),
-        regions,
-    })
+    let counts = variable(chart.counts.len())?;
+    let mut regions = Items::new(alloc);
+    put_regions(alloc, first, counts, chart.regions.as_slice(), &mut regions)?;
+    regions.push(count_region(alloc, first, chart.counts.as_slice())?)?;
+    chart.regions = regions;
+    chart
+        .variables
+        .append(count_variables(alloc, chart.counts.as_slice())?)?;
+    chart.counts = Items::new(alloc);
+    Ok(())
 }
 
 fn total_of(count: VariableId) -> Result<VariableId, AllocError>
@@ -148,78 +152,100 @@ fn tellings(
     Ok(made)
 }
 
+// Puts what is made of regions behind others.
 #[cycle(counted)]
-fn counted_regions(
+fn put_regions(
     alloc: Global,
     first: VariableId,
     counts: u16,
     regions: &[ExtendedRegion],
-) -> Result<Items<ExtendedRegion>, AllocError>
-    ensures { IfOk result (λ made. made ≡ map (counted_region first counts) regions.now) }
+    made: &mut Items<ExtendedRegion>,
+) -> Result<(), AllocError>
+    ensures { OnOk result (made.new ≡ made.old ++ map (counted_region first counts) regions.now) }
 {
-    let mut made = Items::new(alloc);
     for region in regions {
-        made.push(counted_region(alloc, first, counts, region)?)?;
+        put_region(alloc, first, counts, region, made)?;
     }
-    Ok(made)
+    Ok(())
 }
 
 #[cycle(counted)]
-fn counted_region(
+fn put_region(
     alloc: Global,
     first: VariableId,
     counts: u16,
     region: &ExtendedRegion,
-) -> Result<ExtendedRegion, AllocError>
-    ensures { IfOk result (λ made. made ≡ counted_region first counts region.now) }
+    made: &mut Items<ExtendedRegion>,
+) -> Result<(), AllocError>
+    ensures { OnOk result (made.new ≡ made.old ++ counted_region first counts region.now ∷ []) }
 {
-    Ok(ExtendedRegion {
+    let mut states = Items::new(alloc);
+    put_states(alloc, first, counts, region.states.as_slice(), &mut states)?;
+    made.push(ExtendedRegion {
         name: region.name,
-        states: counted_states(alloc, first, counts, region.states.as_slice())?,
+        states,
     })
 }
 
 #[cycle(counted)]
-fn counted_states(
+fn put_states(
     alloc: Global,
     first: VariableId,
     counts: u16,
     states: &[ExtendedState],
-) -> Result<Items<ExtendedState>, AllocError>
-    ensures { IfOk result (λ made. made ≡ map (counted_state first counts) states.now) }
+    made: &mut Items<ExtendedState>,
+) -> Result<(), AllocError>
+    ensures { OnOk result (made.new ≡ made.old ++ map (counted_state first counts) states.now) }
 {
-    let mut made = Items::new(alloc);
     for state in states {
-        made.push(counted_state(alloc, first, counts, state)?)?;
+        put_state(alloc, first, counts, state, made)?;
     }
-    Ok(made)
+    Ok(())
 }
 
 #[cycle(counted)]
 #[tactic(auto, using(crate::proofs::CountedStates::state_counted))]
-fn counted_state(
+fn put_state(
     alloc: Global,
     first: VariableId,
     counts: u16,
     state: &ExtendedState,
-) -> Result<ExtendedState, AllocError>
-    ensures { IfOk result (λ made. made ≡ counted_state first counts state.now) }
+    made: &mut Items<ExtendedState>,
+) -> Result<(), AllocError>
+    ensures { OnOk result (made.new ≡ made.old ++ counted_state first counts state.now ∷ []) }
+{
+    let mut counted = bare(alloc, state);
+    fill_counted(alloc, first, counts, state, &mut counted)?;
+    made.push(counted)
+}
+
+// Puts what a state holds into a bare one, which is behind a reference so that no `?` has to drop its parts.
+#[cycle(counted)]
+fn fill_counted(
+    alloc: Global,
+    first: VariableId,
+    counts: u16,
+    state: &ExtendedState,
+    counted: &mut ExtendedState,
+) -> Result<(), AllocError>
+    ensures { OnOk result (counted.new ≡ fill_counted first counts state.now counted.old) }
 {
     let own = state.transitions.as_slice();
-    let mut entry = tellings(alloc, first, counts, own)?;
-    entry.append(copied_effects(alloc, state.entry.as_slice())?)?;
     let reading = Reading::Counted { first, counts };
-    Ok(ExtendedState {
-        name: state.name,
-        is_own: state.is_own,
-        is_initial: state.is_initial,
-        is_final: state.is_final,
-        entry,
-        exit: copied_effects(alloc, state.exit.as_slice())?,
-        during: Items::new(alloc),
-        regions: counted_regions(alloc, first, counts, state.regions.as_slice())?,
-        transitions: timed_transitions(alloc, &reading, own)?,
-    })
+    counted.entry = tellings(alloc, first, counts, own)?;
+    counted
+        .entry
+        .append(copied_effects(alloc, state.entry.as_slice())?)?;
+    counted.exit = copied_effects(alloc, state.exit.as_slice())?;
+    put_regions(
+        alloc,
+        first,
+        counts,
+        state.regions.as_slice(),
+        &mut counted.regions,
+    )?;
+    counted.transitions = timed_transitions(alloc, &reading, own)?;
+    Ok(())
 }
 
 // What is done as a tick begins.
@@ -249,7 +275,35 @@ fn none_yet(total: VariableId) -> Effect
     }
 }
 
-// Where the state was entered none is counted, and else this tick, where the condition is true.
+// The way on where the state was entered: none is counted.
+fn anew(alloc: Global, count: VariableId, target: u32) -> Result<Transition, AllocError>
+    ensures { IfOk result (λ made. made ≡ anew count target) }
+{
+    let entered = entered_of(count)?;
+    let effects = alone(alloc, none_yet(total_of(count)?))?;
+    Ok(Transition {
+        kind: TransitionKind::Go,
+        immediate: true,
+        trigger: Some(Expr::Load(entered)),
+        effects,
+        target,
+    })
+}
+
+// The ways on where it was not: this tick is counted, where the condition is true.
+fn counted_ways(
+    alloc: Global,
+    count: VariableId,
+    condition: &Expr,
+    target: u32,
+) -> Result<Items<Transition>, AllocError>
+    ensures { IfOk result (λ made. made ≡ counted_ways count condition.now target) }
+{
+    let counted = alone(alloc, one_more(alloc, total_of(count)?)?)?;
+    let trigger = Some(condition.copied(alloc)?);
+    ways_on(alloc, &trigger, counted.as_slice(), target)
+}
+
 fn counting_ways(
     alloc: Global,
     count: VariableId,
@@ -258,13 +312,8 @@ fn counting_ways(
 ) -> Result<Items<Transition>, AllocError>
     ensures { IfOk result (λ made. made ≡ counting_ways count condition.now target) }
 {
-    let total = total_of(count)?;
-    let mut anew = always(true, alone(alloc, none_yet(total))?, target);
-    anew.trigger = Some(Expr::Load(entered_of(count)?));
-    let counted = alone(alloc, one_more(alloc, total)?)?;
-    let trigger = Some(condition.copied(alloc)?);
-    let mut made = alone(alloc, anew)?;
-    made.append(ways_on(alloc, &trigger, counted.as_slice(), target)?)?;
+    let mut made = alone(alloc, anew(alloc, count, target)?)?;
+    made.append(counted_ways(alloc, count, condition, target)?)?;
     Ok(made)
 }
 

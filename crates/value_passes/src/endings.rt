@@ -1,11 +1,14 @@
 //! During actions of superstates that are left by `join`: they end when what is inside has ended.
 
-ghost use Rattle.std.specs.Prelude.{◌≡◌, IfOk, map};
+ghost use Rattle.std.specs.Prelude.{◌≡◌, [], ◌∷◌, ◌++◌, IfOk, OnOk, map};
 ghost use Rattle.value_passes.specs.Endings.{is_ending, telling, body, body_region, tested, first_states};
 ghost use Rattle.value_passes.specs.Endings.{ending_states, ending_region, endings_in, all_regions, all_states};
 ghost use Rattle.value_passes.specs.Endings.{beginning, left_durings, inside, left_transitions, all_at_once};
 ghost use Rattle.value_passes.specs.Endings.{ending_in_region, ending_in_state, endings_told, with_endings};
+ghost use Rattle.extended_charts.specs.Holds.{ended};
+ghost use Rattle.value_passes.specs.Inside.{fill_ending};
 
+use crate::bare::bare;
 use crate::beginnings::{all_at_once, is_joined};
 use chart_elements::next;
 use core_charts::{Effect, Transition, TransitionKind, copied_effects, copied_transitions};
@@ -25,23 +28,24 @@ use std::alloc::{AllocError, Global};
 pub fn with_endings(alloc: Global, chart: ExtendedChart) -> Result<ExtendedChart, AllocError>
     ensures { IfOk result (λ made. made ≡ with_endings chart) }
 {
+    let mut chart = chart;
+    put_endings(alloc, &mut chart)?;
+    Ok(chart)
+}
+
+// The chart is behind a reference, so that no `?` has to drop its parts.
+fn put_endings(alloc: Global, chart: &mut ExtendedChart) -> Result<(), AllocError>
+    ensures { OnOk result (chart.new ≡ with_endings chart.old) }
+{
     let first = u32::from(variable(chart.variables.len())?);
     let count = endings_in(chart.regions.as_slice())?;
     if count == 0 {
-        return Ok(chart);
+        return Ok(());
     }
-    let regions = all_regions(alloc, first, chart.regions.as_slice())?;
-    let mut variables = chart.variables;
-    variables.append(endings_told(alloc, count)?)?;
-    Ok(ExtendedChart {
-        name: chart.name,
-        variables,
-        signals: chart.signals,
-        befores: chart.befores,
-        constants: chart.constants,
-        counts: chart.counts,
-        regions,
-    })
+    let mut regions = Items::new(alloc);
+    put_regions(alloc, first, chart.regions.as_slice(), &mut regions)?;
+    chart.regions = regions;
+    chart.variables.append(endings_told(alloc, count)?)
 }
 
 // As many variables that tell whether something has ended.
@@ -133,6 +137,21 @@ fn first_states(
     Ok(made)
 }
 
+// The state that tests whether what is inside has ended, and the end behind it.
+fn last_states(
+    alloc: Global,
+    done: VariableId,
+    place: u32,
+    end: u32,
+    wait: u32,
+) -> Result<Items<ExtendedState>, AllocError>
+    ensures { IfOk result (λ made. made ≡ tested done place end wait ∷ ended ∷ []) }
+{
+    let mut made = alone(alloc, tested(alloc, done, place, end, wait)?)?;
+    made.push(ended(alloc))?;
+    Ok(made)
+}
+
 fn ending_states(
     alloc: Global,
     done: VariableId,
@@ -149,9 +168,7 @@ fn ending_states(
     let mut made = first_states(alloc, done, end, first, at_once)?;
     made.push(passing(alloc, false, wait, Items::new(alloc), again)?)?;
     made.append(steps(alloc, again, all)?)?;
-    let mut behind = alone(alloc, tested(alloc, done, last, end, wait)?)?;
-    behind.push(ended(alloc))?;
-    made.append(behind)?;
+    made.append(last_states(alloc, done, last, end, wait)?)?;
     Ok(made)
 }
 
@@ -268,80 +285,97 @@ fn state_endings(state: &ExtendedState) -> Result<u32, AllocError>
     sum(own, endings_in(state.regions.as_slice())?)
 }
 
+// Puts what is made of regions behind others.
 #[cycle(ending)]
-fn all_regions(
+fn put_regions(
     alloc: Global,
     first: u32,
     regions: &[ExtendedRegion],
-) -> Result<Items<ExtendedRegion>, AllocError>
-    ensures { IfOk result (λ made. made ≡ all_regions first (map ending_in_region regions.now)) }
+    made: &mut Items<ExtendedRegion>,
+) -> Result<(), AllocError>
+    ensures { OnOk result (made.new ≡ made.old ++ all_regions first (map ending_in_region regions.now)) }
 {
-    let mut made = Items::new(alloc);
     let mut x = first;
     for region in regions {
-        made.push(ending_in_region(alloc, x, region)?)?;
+        put_region(alloc, x, region, made)?;
         x = sum(x, region_endings(region)?)?;
     }
-    Ok(made)
+    Ok(())
 }
 
 #[cycle(ending)]
-fn ending_in_region(
+fn put_region(
     alloc: Global,
     x: u32,
     region: &ExtendedRegion,
-) -> Result<ExtendedRegion, AllocError>
-    ensures { IfOk result (λ made. made ≡ (ending_in_region region.now).made x) }
+    made: &mut Items<ExtendedRegion>,
+) -> Result<(), AllocError>
+    ensures { OnOk result (made.new ≡ made.old ++ (ending_in_region region.now).made x ∷ []) }
 {
-    Ok(ExtendedRegion {
+    let mut states = Items::new(alloc);
+    put_states(alloc, x, region.states.as_slice(), &mut states)?;
+    made.push(ExtendedRegion {
         name: region.name,
-        states: all_states(alloc, x, region.states.as_slice())?,
+        states,
     })
 }
 
 #[cycle(ending)]
-fn all_states(
+fn put_states(
     alloc: Global,
     first: u32,
     states: &[ExtendedState],
-) -> Result<Items<ExtendedState>, AllocError>
-    ensures { IfOk result (λ made. made ≡ all_states first (map ending_in_state states.now)) }
+    made: &mut Items<ExtendedState>,
+) -> Result<(), AllocError>
+    ensures { OnOk result (made.new ≡ made.old ++ all_states first (map ending_in_state states.now)) }
 {
-    let mut made = Items::new(alloc);
     let mut x = first;
     for state in states {
-        made.push(ending_in_state(alloc, x, state)?)?;
+        put_state(alloc, x, state, made)?;
         x = sum(x, state_endings(state)?)?;
     }
-    Ok(made)
+    Ok(())
 }
 
 #[cycle(ending)]
 #[tactic(auto, using(crate::proofs::EndingStates::state_ends))]
-fn ending_in_state(
+fn put_state(
     alloc: Global,
     x: u32,
     state: &ExtendedState,
-) -> Result<ExtendedState, AllocError>
-    ensures { IfOk result (λ made. made ≡ (ending_in_state state.now).made x) }
+    made: &mut Items<ExtendedState>,
+) -> Result<(), AllocError>
+    ensures { OnOk result (made.new ≡ made.old ++ (ending_in_state state.now).made x ∷ []) }
+{
+    let mut changed = bare(alloc, state);
+    fill_ending(alloc, x, state, &mut changed)?;
+    made.push(changed)
+}
+
+// Puts what a state holds into a bare one, which is behind a reference so that no `?` has to drop its parts.
+#[cycle(ending)]
+fn fill_ending(
+    alloc: Global,
+    x: u32,
+    state: &ExtendedState,
+    changed: &mut ExtendedState,
+) -> Result<(), AllocError>
+    ensures { OnOk result (changed.new ≡ fill_ending x state.now changed.old) }
 {
     let durings = state.during.as_slice();
     let own = state.transitions.as_slice();
     let ends = is_ending(durings, own);
     let done = variable(x as usize)?;
     let deeper = sum(x, one(ends))?;
-    let regions = all_regions(alloc, deeper, state.regions.as_slice())?;
-    let mut entry = beginning(alloc, ends, done)?;
-    entry.append(copied_effects(alloc, state.entry.as_slice())?)?;
-    Ok(ExtendedState {
-        name: state.name,
-        is_own: state.is_own,
-        is_initial: state.is_initial,
-        is_final: state.is_final,
-        entry,
-        exit: copied_effects(alloc, state.exit.as_slice())?,
-        during: left_durings(alloc, ends, durings)?,
-        regions: inside(alloc, ends, done, durings, own, regions)?,
-        transitions: left_transitions(alloc, ends, own)?,
-    })
+    let mut regions = Items::new(alloc);
+    put_regions(alloc, deeper, state.regions.as_slice(), &mut regions)?;
+    changed.regions = inside(alloc, ends, done, durings, own, regions)?;
+    changed.entry = beginning(alloc, ends, done)?;
+    changed
+        .entry
+        .append(copied_effects(alloc, state.entry.as_slice())?)?;
+    changed.exit = copied_effects(alloc, state.exit.as_slice())?;
+    changed.during = left_durings(alloc, ends, durings)?;
+    changed.transitions = left_transitions(alloc, ends, own)?;
+    Ok(())
 }

@@ -1,6 +1,6 @@
 //! Initial values: where a variable has one other than `false` and 0, states set them before all regions.
 
-ghost use Rattle.std.specs.Prelude.{◌≡◌, IfOk};
+ghost use Rattle.std.specs.Prelude.{◌≡◌, IfOk, OnOk};
 ghost use Rattle.value_passes.specs.Initial.{is_default, setting, settings, framed, with_settings};
 
 use core_charts::Effect;
@@ -13,23 +13,26 @@ use sc_text::plain;
 use sc_values::Value;
 use sqlite_items::Items;
 use std::alloc::{AllocError, Global};
+use std::mem;
 
 /// The chart that sets the initial values of its variables. Err: memory was refused, or there are more than 65535
 /// variables.
 pub fn with_settings(alloc: Global, chart: ExtendedChart) -> Result<ExtendedChart, AllocError>
     ensures { IfOk result (λ made. made ≡ with_settings chart) }
 {
+    let mut chart = chart;
+    put_settings(alloc, &mut chart)?;
+    Ok(chart)
+}
+
+// The chart is behind a reference, so that no `?` has to drop its parts.
+fn put_settings(alloc: Global, chart: &mut ExtendedChart) -> Result<(), AllocError>
+    ensures { OnOk result (chart.new ≡ with_settings chart.old) }
+{
     let settings = settings(alloc, chart.variables.as_slice())?;
-    let regions = framed(alloc, settings.as_slice(), chart.regions)?;
-    Ok(ExtendedChart {
-        name: chart.name,
-        variables: chart.variables,
-        signals: chart.signals,
-        befores: chart.befores,
-        constants: chart.constants,
-        counts: chart.counts,
-        regions,
-    })
+    let regions = mem::replace(&mut chart.regions, Items::new(alloc));
+    chart.regions = framed(alloc, settings.as_slice(), regions)?;
+    Ok(())
 }
 
 // The assignments of the initial values, of those that a variable does not hold anyway.

@@ -3,6 +3,7 @@
 //! state with during actions has ended.
 #![tactic(auto)]
 
+mod bare;
 mod beginnings;
 mod clocks;
 mod constants;

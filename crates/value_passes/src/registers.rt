@@ -1,6 +1,6 @@
 //! What variables were at the end of the tick before.
 
-ghost use Rattle.std.specs.Prelude.{◌≡◌, IfOk, slice_get};
+ghost use Rattle.std.specs.Prelude.{◌≡◌, IfOk, OnOk, slice_get};
 ghost use Rattle.value_passes.specs.Registers.{kind_of, initial_of, before_variables, registers};
 ghost use Rattle.value_passes.specs.Registers.{storing, handing, ring, register_region, with_registers};
 
@@ -21,26 +21,27 @@ use std::alloc::{AllocError, Global};
 pub fn with_registers(alloc: Global, chart: ExtendedChart) -> Result<ExtendedChart, AllocError>
     ensures { IfOk result (λ made. made ≡ with_registers chart) }
 {
+    let mut chart = chart;
+    put_registers(alloc, &mut chart)?;
+    Ok(chart)
+}
+
+// The chart is behind a reference, so that no `?` has to drop its parts.
+fn put_registers(alloc: Global, chart: &mut ExtendedChart) -> Result<(), AllocError>
+    ensures { OnOk result (chart.new ≡ with_registers chart.old) }
+{
     if !has_some(chart.befores.as_slice()) {
-        return Ok(chart);
+        return Ok(());
     }
-    let region = register_region(alloc, chart.variables.len(), chart.befores.as_slice())?;
+    let befores = chart.befores.as_slice();
     let declared = chart.variables.as_slice();
-    let mut made = before_variables(alloc, declared, chart.befores.as_slice())?;
-    made.append(registers(alloc, declared, chart.befores.as_slice())?)?;
-    let mut variables = chart.variables;
-    variables.append(made)?;
-    let mut regions = chart.regions;
-    regions.push(region)?;
-    Ok(ExtendedChart {
-        name: chart.name,
-        variables,
-        signals: chart.signals,
-        befores: Items::new(alloc),
-        constants: chart.constants,
-        counts: chart.counts,
-        regions,
-    })
+    let region = register_region(alloc, declared.len(), befores)?;
+    chart.regions.push(region)?;
+    let mut made = before_variables(alloc, declared, befores)?;
+    made.append(registers(alloc, declared, befores)?)?;
+    chart.variables.append(made)?;
+    chart.befores = Items::new(alloc);
+    Ok(())
 }
 
 fn kind_of(variables: &[Declared], x: VariableId) -> Kind

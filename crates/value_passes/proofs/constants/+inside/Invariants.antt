@@ -2,10 +2,12 @@ use Rattle.std.proofs.Common.{◌≡◌, ◌++◌, map, drop}
 use Rattle.value_passes.specs.Constants.{valued_region, valued_state}
 use Rattle.value_passes.proofs.constants.+inside.Given as goal
 
-abbrev pub invariant-valued_regions-loop-region : goal.invariant-valued_regions-loop-region
-invariant-valued_regions-loop-region l =
-    l.made ++ map (valued_region l.reading) (drop l.region-index l.regions) ≡ map (valued_region l.reading) l.regions
+abbrev pub invariant-put_regions-loop-region : goal.invariant-put_regions-loop-region
+invariant-put_regions-loop-region l =
+    l.made ++ map (valued_region l.reading) (drop l.region-index l.regions)
+    ≡ l.fn.made ++ map (valued_region l.reading) l.regions
 
-abbrev pub invariant-valued_states-loop-state : goal.invariant-valued_states-loop-state
-invariant-valued_states-loop-state l =
-    l.made ++ map (valued_state l.reading) (drop l.state-index l.states) ≡ map (valued_state l.reading) l.states
+abbrev pub invariant-put_states-loop-state : goal.invariant-put_states-loop-state
+invariant-put_states-loop-state l =
+    l.made ++ map (valued_state l.reading) (drop l.state-index l.states)
+    ≡ l.fn.made ++ map (valued_state l.reading) l.states
