@@ -5,10 +5,9 @@ ghost use Rattle.compiler.specs.FaultText.{fault_text};
 ghost use Rattle.diagnostics.specs.Reports.{Tells};
 
 use crate::nodes::Shown;
-use crate::program_report::{Report, label_report, node_report, nowhere, reported};
+use crate::program_report::{Report, put_label, put_shown_nodes, reported};
 use compiler::CompileFault;
 use extended_nodes::{AuthorSources, author_label, author_sources};
-use sc_values::Name;
 use scl_graph::GraphFault;
 use std::alloc::{AllocError, Global};
 
@@ -23,35 +22,44 @@ pub fn author_fault_told(
 ) -> Result<String, AllocError>
     ensures { IfOk result (λ report. Tells name.now (fault_text fault.now) (string_bytes report)) }
 {
-    let shown = shown_in(alloc, text, fault)?;
-    reported(alloc, name, &shown, fault)
+    let mut report = Report::nowhere(alloc);
+    put_shown(alloc, &mut report, text, fault)?;
+    reported(alloc, name, &report, fault)
 }
 
-// What of a fault is shown in the text.
-fn shown_in(alloc: Global, text: &str, fault: &CompileFault) -> Result<Report, AllocError> {
+// Shows a fault in the text.
+fn put_shown(
+    alloc: Global,
+    report: &mut Report,
+    text: &str,
+    fault: &CompileFault,
+) -> Result<(), AllocError> {
     match fault {
-        CompileFault::Graph(GraphFault::EmptyLoop(label)) => shown_label(alloc, text, *label),
-        CompileFault::Expansion(_) | CompileFault::Graph(_) => Ok(nowhere(alloc)),
+        CompileFault::Graph(GraphFault::EmptyLoop(label)) => {
+            match author_label(alloc, text, *label)? {
+                Some(found) => put_label(report, text, *label, found),
+                None => Ok(()),
+            }
+        }
+        CompileFault::Expansion(_) | CompileFault::Graph(_) => Ok(()),
         CompileFault::Conflict(_) | CompileFault::Tables(_) | CompileFault::Rule(_) => {
-            shown_nodes(alloc, text, fault)
+            match author_sources(alloc, text)? {
+                Some(sources) => put_nodes(alloc, report, text, sources, fault),
+                None => Ok(()),
+            }
         }
     }
 }
 
-// A label, at its place.
-fn shown_label(alloc: Global, text: &str, label: Name) -> Result<Report, AllocError> {
-    match author_label(alloc, text, label)? {
-        Some(found) => label_report(alloc, text, label, found),
-        None => Ok(nowhere(alloc)),
-    }
-}
-
-// The nodes of a fault, at their places.
-fn shown_nodes(alloc: Global, text: &str, fault: &CompileFault) -> Result<Report, AllocError> {
-    let Some(sources) = author_sources(alloc, text)? else {
-        return Ok(nowhere(alloc));
-    };
+// Shows the nodes of a fault, at their places.
+fn put_nodes(
+    alloc: Global,
+    report: &mut Report,
+    text: &str,
+    sources: AuthorSources,
+    fault: &CompileFault,
+) -> Result<(), AllocError> {
     let AuthorSources { graph, nodes } = sources;
     let shown = Shown::in_author(alloc, text, graph.get(), nodes)?;
-    node_report(alloc, &shown, fault)
+    put_shown_nodes(report, &shown, fault)
 }

@@ -4,7 +4,6 @@ use program_edges::{children_of, next_nodes};
 use sc_graph::{Links, NodeId, Program, Step, ThreadId, VariableId};
 use sc_values::Name;
 use sqlite_items::at;
-use std::alloc::{AllocError, Global};
 
 /// The variable that a step writes, and whether it updates it.
 pub(crate) fn written(step: &Step) -> Option<(VariableId, bool)> {
@@ -50,48 +49,42 @@ fn flow_words(program: &Program, links: &Links, from: NodeId, to: NodeId) -> Opt
     }
 }
 
-// What is done to a variable at two nodes, of which the first has to come before the second.
-fn uses(
-    is_update: bool,
-    variable: VariableId,
-    second: &Step,
-) -> Option<(&'static str, &'static str)> {
-    let done = if is_update { "updated" } else { "initialized" };
-    if !is_update && second.updates(variable) {
-        Some((done, "updated"))
+// What is done to a variable, which is `@`, at two nodes, of which the first has to come before the second.
+fn uses(is_update: bool, variable: VariableId, second: &Step) -> Option<&'static str> {
+    if is_update {
+        if second.reads(variable) {
+            Some("`@` is updated here and read there")
+        } else {
+            None
+        }
+    } else if second.updates(variable) {
+        Some("`@` is initialized here and updated there")
     } else if second.reads(variable) {
-        Some((done, "read"))
+        Some("`@` is initialized here and read there")
     } else {
         None
     }
 }
 
-/// Why a node has to come before another, in words: how control flows, or what both do to one variable. None: nothing
-/// is known that orders them. Err: memory was refused.
+// What is done to the variable because of which a node has to come before another.
+fn protocol(program: &Program, from: NodeId, to: NodeId) -> Option<&'static str> {
+    let (variable, is_update) = written(program.step(from)?)?;
+    match name_of(program, variable) {
+        Some(_) => uses(is_update, variable, program.step(to)?),
+        None => None,
+    }
+}
+
+/// Why a node has to come before another, in words: how control flows, or what both do to the variable that the first
+/// one writes, for which `@` stands. None: nothing is known that orders them.
 pub(crate) fn reason(
-    alloc: Global,
     program: &Program,
     links: &Links,
     from: NodeId,
     to: NodeId,
-) -> Result<Option<String>, AllocError> {
-    if let Some(words) = flow_words(program, links, from, to) {
-        return Ok(Some(String::from_str(alloc, words)?));
+) -> Option<&'static str> {
+    match flow_words(program, links, from, to) {
+        Some(words) => Some(words),
+        None => protocol(program, from, to),
     }
-    let Some((name, first, second)) = protocol(program, from, to) else {
-        return Ok(None);
-    };
-    let words = format!(in alloc; "`{name}` is {first} here and {second} there")?;
-    Ok(Some(words))
-}
-
-// The variable because of which a node has to come before another, and what is done to it at each.
-fn protocol(
-    program: &Program,
-    from: NodeId,
-    to: NodeId,
-) -> Option<(Name, &'static str, &'static str)> {
-    let (variable, is_update) = written(program.step(from)?)?;
-    let (first, second) = uses(is_update, variable, program.step(to)?)?;
-    Some((name_of(program, variable)?, first, second))
 }

@@ -1,6 +1,7 @@
 //! What could stand where a text goes wrong, in words.
 
 use crate::could::Could;
+use crate::told::put_filled;
 use sc_text::{Sign, Word};
 use std::alloc::{AllocError, Global};
 
@@ -39,9 +40,8 @@ fn is_told_of_sign(could: &Could, sign: Sign) -> bool {
     }
 }
 
-// What could stand there by its kind.
-fn called(alloc: Global, could: &Could) -> Result<Vec<Thing>, AllocError> {
-    let mut things = Vec::new(alloc);
+// Adds what could stand there by its kind.
+fn add_called(could: &Could, things: &mut Vec<Thing>) -> Result<(), AllocError> {
     if could.begins_expression() {
         things.push(Thing::Called("an expression"))?;
     } else {
@@ -55,7 +55,7 @@ fn called(alloc: Global, could: &Could) -> Result<Vec<Thing>, AllocError> {
     if could.goes_on_expression() {
         things.push(Thing::Called("an operator"))?;
     }
-    Ok(things)
+    Ok(())
 }
 
 // Adds the words of extended charts that could stand there.
@@ -107,23 +107,43 @@ fn joint(place: usize, count: usize) -> &'static str {
     }
 }
 
-/// What could stand there: "a name", "`go`, `strong` or `}`". Err: memory was refused.
-pub(crate) fn expected(alloc: Global, could: &Could) -> Result<String, AllocError> {
-    let mut things = called(alloc, could)?;
-    add_own_words(could, &mut things)?;
-    add_words(could, &mut things)?;
-    add_signs(could, &mut things)?;
-    let mut text = String::new(alloc);
+// Adds what could stand there.
+fn add_things(could: &Could, things: &mut Vec<Thing>) -> Result<(), AllocError> {
+    add_called(could, things)?;
+    add_own_words(could, things)?;
+    add_words(could, things)?;
+    add_signs(could, things)
+}
+
+// Adds a thing.
+fn put_thing(text: &mut String, thing: Thing) -> Result<(), AllocError> {
+    match thing {
+        Thing::Called(name) => text.push_str(name),
+        Thing::Spelled(piece) => put_filled(text, "`@`", piece),
+    }
+}
+
+// Adds that this was found where these things could stand.
+fn put_found(text: &mut String, found: &str, things: &[Thing]) -> Result<(), AllocError> {
+    if things.is_empty() {
+        return put_filled(text, "found @ behind the end of the program", found);
+    }
+    put_filled(text, "found @, expected ", found)?;
     for (place, thing) in things.iter().enumerate() {
         text.push_str(joint(place, things.len()))?;
-        match thing {
-            Thing::Called(name) => text.push_str(name)?,
-            Thing::Spelled(piece) => {
-                text.push('`')?;
-                text.push_str(piece)?;
-                text.push('`')?;
-            }
-        }
+        put_thing(text, *thing)?;
     }
-    Ok(text)
+    Ok(())
+}
+
+/// Adds what was found, and what could stand there: "a name", "`go`, `strong` or `}`". Err: memory was refused.
+pub(crate) fn put_expected(
+    alloc: Global,
+    text: &mut String,
+    found: &str,
+    could: &Could,
+) -> Result<(), AllocError> {
+    let mut things = Vec::new(alloc);
+    add_things(could, &mut things)?;
+    put_found(text, found, things.as_slice())
 }

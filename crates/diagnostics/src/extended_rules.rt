@@ -1,6 +1,6 @@
 //! The rules that extended charts alone have, where one is broken, in words.
 
-use crate::words::Words;
+use crate::told::Told;
 use sc_text::{Language, ReadFault, Sign, Token, TokenKind, Word, tokens};
 use std::alloc::{AllocError, Global};
 
@@ -86,102 +86,96 @@ fn declared_in(alloc: Global, text: &str, name: &str) -> Result<Option<Declared>
     }
 }
 
-// The words for a declaration that has a value, or lacks it.
-fn declared_words(
-    alloc: Global,
-    declared: Option<Declared>,
-    name: &str,
-) -> Result<Words, AllocError> {
-    let (cause, cure) = match declared {
-        Some(Declared::Constant) => (
-            format!(in alloc; "the constant `{name}` has no value")?,
-            "write `= 3` behind it, or `= true`",
-        ),
-        Some(Declared::Before) => (
-            format!(in alloc; "it is not said of which variable `{name}` is what it was")?,
-            "write `= x` behind it",
-        ),
-        _ => (
-            format!(in alloc; "the input `{name}` has a value")?,
-            "an input is what the line of a tick says: take the value away",
-        ),
-    };
-    let cure = String::from_str(alloc, cure)?;
-    Ok(Words { cause, cure })
+const NO_VALUE: Told = Told {
+    cause: "the constant `@` has no value",
+    cure: "write `= 3` behind it, or `= true`",
+};
+
+const NO_VARIABLE: Told = Told {
+    cause: "it is not said of which variable `@` is what it was",
+    cure: "write `= x` behind it",
+};
+
+const INPUT_VALUE: Told = Told {
+    cause: "the input `@` has a value",
+    cure: "an input is what the line of a tick says: take the value away",
+};
+
+// What is wrong with a declaration that has a value, or lacks it.
+fn told_of_declared(declared: Option<Declared>) -> Told {
+    match declared {
+        Some(Declared::Constant) => NO_VALUE,
+        Some(Declared::Before) => NO_VARIABLE,
+        _ => INPUT_VALUE,
+    }
 }
 
-// The words for a name that is given a value by an effect.
-fn assigned_words(
-    alloc: Global,
-    declared: Option<Declared>,
-    name: &str,
-) -> Result<Words, AllocError> {
-    let (cause, cure) = match declared {
-        Some(Declared::Constant) => (
-            format!(in alloc; "the constant `{name}` is assigned")?,
-            "assign an output or a local variable",
-        ),
-        Some(Declared::Before) => (
-            format!(in alloc; "`{name}` is what a variable was, and is assigned")?,
-            "assign an output or a local variable",
-        ),
-        Some(Declared::Signal) => (
-            format!(in alloc; "the signal `{name}` is assigned")?,
-            "a signal is emitted, by `emit` and its name, and is false in each tick until then",
-        ),
-        _ => (
-            format!(in alloc; "the input `{name}` is assigned")?,
-            "assign an output or a local variable",
-        ),
-    };
-    let cure = String::from_str(alloc, cure)?;
-    Ok(Words { cause, cure })
+const CONSTANT_ASSIGNED: Told = Told {
+    cause: "the constant `@` is assigned",
+    cure: "assign an output or a local variable",
+};
+
+const BEFORE_ASSIGNED: Told = Told {
+    cause: "`@` is what a variable was, and is assigned",
+    cure: "assign an output or a local variable",
+};
+
+const SIGNAL_ASSIGNED: Told = Told {
+    cause: "the signal `@` is assigned",
+    cure: "a signal is emitted, by `emit` and its name, and is false in each tick until then",
+};
+
+/// An input that is given a value by an effect.
+pub(crate) const INPUT_ASSIGNED: Told = Told {
+    cause: "the input `@` is assigned",
+    cure: "assign an output or a local variable",
+};
+
+// What is wrong with a name that is given a value by an effect.
+fn told_of_assigned(declared: Option<Declared>) -> Told {
+    match declared {
+        Some(Declared::Constant) => CONSTANT_ASSIGNED,
+        Some(Declared::Before) => BEFORE_ASSIGNED,
+        Some(Declared::Signal) => SIGNAL_ASSIGNED,
+        _ => INPUT_ASSIGNED,
+    }
 }
 
-// The words for a name that is emitted.
-fn emitted_words(alloc: Global, name: &str) -> Result<Words, AllocError> {
-    let cause = format!(in alloc; "`{name}` is no signal, and is emitted")?;
-    let cure = String::from_str(alloc, "declare it by `signal`, or assign it")?;
-    Ok(Words { cause, cure })
-}
+const EMITTED: Told = Told {
+    cause: "`@` is no signal, and is emitted",
+    cure: "declare it by `signal`, or assign it",
+};
 
-// The words for a state without regions that is entered by its history.
-fn history_words(alloc: Global, name: &str) -> Result<Words, AllocError> {
-    let cause = format!(in alloc; "state `{name}` has no regions, and is entered by its history")?;
-    let cure = String::from_str(
-        alloc,
-        "a history is that of the regions of a superstate: take `shallow history` away",
-    )?;
-    Ok(Words { cause, cure })
-}
+// A state without regions that is entered by its history.
+const HISTORY: Told = Told {
+    cause: "state `@` has no regions, and is entered by its history",
+    cure: "a history is that of the regions of a superstate: take `shallow history` away",
+};
 
-// The words for a during action of a final state.
-fn during_words(alloc: Global) -> Result<Words, AllocError> {
-    Words::of(
-        alloc,
-        "this state is final: it has no `during`",
-        "a final state ends its region: put the action into a state before it",
-    )
-}
+// A during action of a final state.
+const DURING: Told = Told {
+    cause: "this state is final: it has no `during`",
+    cure: "a final state ends its region: put the action into a state before it",
+};
 
-/// The words for a name at which a rule is broken in an extended chart, behind this token, where it is no region and no
-/// state. Err: memory was refused.
-pub(crate) fn extended_name_words(
+/// What is wrong with a name at which a rule is broken in an extended chart, behind this token, where it is no region
+/// and no state. Err: memory was refused.
+pub(crate) fn told_of_extended(
     alloc: Global,
     text: &str,
     name: &str,
     before: Option<TokenKind>,
-) -> Result<Words, AllocError> {
+) -> Result<Told, AllocError> {
     match &before {
         Some(TokenKind::Word(Word::Bool | Word::Int)) => {
-            declared_words(alloc, declared_in(alloc, text, name)?, name)
+            Ok(told_of_declared(declared_in(alloc, text, name)?))
         }
         Some(TokenKind::Word(Word::Do) | TokenKind::Sign(Sign::Comma)) => {
-            assigned_words(alloc, declared_in(alloc, text, name)?, name)
+            Ok(told_of_assigned(declared_in(alloc, text, name)?))
         }
-        Some(kind) if is_name(kind, "history") => history_words(alloc, name),
-        Some(TokenKind::Name(_)) => emitted_words(alloc, name),
-        _ => during_words(alloc),
+        Some(kind) if is_name(kind, "history") => Ok(HISTORY),
+        Some(TokenKind::Name(_)) => Ok(EMITTED),
+        _ => Ok(DURING),
     }
 }
 
@@ -195,87 +189,69 @@ fn are_items(before: &[Token]) -> bool {
     true
 }
 
-// The words for a value behind `=` before all regions.
-fn value_words(alloc: Global, before: &[Token]) -> Result<Words, AllocError> {
-    let is_before = match before {
-        [.., first, _, _, _] => is_name(&first.kind, "pre"),
-        _ => false,
-    };
-    if is_before {
-        return Words::of(
-            alloc,
-            "this is not the name of one variable of the kind that is declared",
-            "write `pre int was = x;`: it names one variable, and no expression, constant or other `pre`",
-        );
+const NO_ONE_VARIABLE: Told = Told {
+    cause: "this is not the name of one variable of the kind that is declared",
+    cure: "write `pre int was = x;`: it names one variable, and no expression, constant or other `pre`",
+};
+
+const NO_LITERAL: Told = Told {
+    cause: "this is no literal of the kind that is declared",
+    cure: "write a number for an `int`, and `true` or `false` for a `bool`: constants and expressions have no place here",
+};
+
+// What is wrong with a value behind `=` before all regions.
+fn told_of_value(before: &[Token]) -> Told {
+    match before {
+        [.., first, _, _, _] if is_name(&first.kind, "pre") => NO_ONE_VARIABLE,
+        _ => NO_LITERAL,
     }
-    Words::of(
-        alloc,
-        "this is no literal of the kind that is declared",
-        "write a number for an `int`, and `true` or `false` for a `bool`: constants and expressions have no place here",
-    )
 }
 
-// The words for an expression of another kind behind these tokens. None: it is no other than in charts.
-fn kind_words_behind(
-    alloc: Global,
-    name: &str,
-    before: &[Token],
-) -> Result<Option<Words>, AllocError> {
-    let Some(last) = before.last() else {
-        return Ok(None);
-    };
+const NUMBER_EMITTED: Told = Told {
+    cause: "`@` is a number, and is emitted",
+    cure: "declare it by `signal`, or assign it",
+};
+
+const NO_NUMBER: Told = Told {
+    cause: "this wait is no number, or an operator in it has an operand of the wrong kind",
+    cure: "a wait is a number of ticks: `after 3`, or a constant",
+};
+
+// What is wrong with an expression of another kind behind these tokens. None: it is no other than in charts.
+fn told_of_kind(before: &[Token]) -> Option<Told> {
+    let last = before.last()?;
     if is_name(&last.kind, "emit") {
-        let cause = format!(in alloc; "`{name}` is a number, and is emitted")?;
-        let cure = String::from_str(alloc, "declare it by `signal`, or assign it")?;
-        return Ok(Some(Words { cause, cure }));
+        Some(NUMBER_EMITTED)
+    } else if is_name(&last.kind, "after") {
+        Some(NO_NUMBER)
+    } else if matches!(last.kind, TokenKind::Sign(Sign::Becomes)) && are_items(before) {
+        Some(told_of_value(before))
+    } else {
+        None
     }
-    if is_name(&last.kind, "after") {
-        return Ok(Some(Words::of(
-            alloc,
-            "this wait is no number, or an operator in it has an operand of the wrong kind",
-            "a wait is a number of ticks: `after 3`, or a constant",
-        )?));
-    }
-    if matches!(last.kind, TokenKind::Sign(Sign::Becomes)) && are_items(before) {
-        return Ok(Some(value_words(alloc, before)?));
-    }
-    Ok(None)
 }
 
-/// The words for an expression of another kind behind the front of an extended chart. None: it is no other than in
-/// charts. Err: memory was refused.
-pub(crate) fn extended_kind_words(
+/// What is wrong with an expression of another kind behind the front of an extended chart. None: it is no other than
+/// in charts. Err: memory was refused.
+pub(crate) fn told_of_extended_kind(
     alloc: Global,
     front: &str,
-    name: &str,
-) -> Result<Option<Words>, AllocError> {
+) -> Result<Option<Told>, AllocError> {
     match tokens(alloc, Language::Chart, front) {
-        Ok(tokens) => kind_words_behind(alloc, name, tokens.as_slice()),
+        Ok(tokens) => Ok(told_of_kind(tokens.as_slice())),
         Err(ReadFault::Text(_, _)) => Ok(None),
         Err(ReadFault::Memory) => Err(AllocError),
     }
 }
 
-// Whether two underscores stand side by side in a name.
-fn has_double_underscore(name: &[u8]) -> bool {
+/// Whether two underscores stand side by side in a name: only reductions make such names.
+pub(crate) fn has_double_underscore(name: &str) -> bool {
     let mut is_behind_one = false;
-    for byte in name {
+    for byte in name.as_bytes() {
         if *byte == b'_' && is_behind_one {
             return true;
         }
         is_behind_one = *byte == b'_';
     }
     false
-}
-
-/// The words for a name that only reductions make. None: it is none. Err: memory was refused.
-pub(crate) fn made_name_words(alloc: Global, name: &str) -> Result<Option<Words>, AllocError> {
-    if !has_double_underscore(name.as_bytes()) {
-        return Ok(None);
-    }
-    let cause = format!(in alloc;
-        "`{name}` has two underscores side by side: in an extended chart such names are reserved"
-    )?;
-    let cure = String::from_str(alloc, "leave one of them away")?;
-    Ok(Some(Words { cause, cure }))
 }

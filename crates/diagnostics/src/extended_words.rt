@@ -1,66 +1,85 @@
 //! The words that extended charts alone have, where they stand wrong.
 
 use crate::could::Could;
-use crate::found::{has_name_at, stands_at};
+use crate::found::{name_in, stands_at};
 use crate::fronts::front_of;
 use crate::near_names::difference;
+use crate::told::Told;
 use sc_text::{Sign, TokenKind};
 
-/// What is wrong at a place, and what helps.
-#[derive(Clone, Copy)]
-pub(crate) struct Misused {
-    pub(crate) cause: &'static str,
-    pub(crate) cure: &'static str,
-}
-
-const CONSTANT: Misused = Misused {
+const CONSTANT: Told = Told {
     cause: "no kind stands behind this `const`",
     cure: "write `const int N = 3;`",
 };
 
-const BEFORE: Misused = Misused {
+const BEFORE: Told = Told {
     cause: "no kind stands behind this `pre`",
     cure: "write `pre int was = x;`",
 };
 
-const SIGNAL: Misused = Misused {
+const SIGNAL: Told = Told {
     cause: "a kind stands behind this `signal`",
     cure: "write `signal s;`: a signal is a truth value",
 };
 
-const ENTRY: Misused = Misused {
+const ENTRY: Told = Told {
     cause: "this action has a trigger",
     cure: "`entry` and `exit` actions are always made: choose by transitions",
 };
 
-const IMMEDIATE: Misused = Misused {
+const IMMEDIATE: Told = Told {
     cause: "this action stands behind `immediate`",
     cure: "only `during` has `immediate`: `entry` and `exit` actions are made as the state is entered and left",
 };
 
-const NO_KIND: Misused = Misused {
+const NO_KIND: Told = Told {
     cause: "`bool`, `int` or `signal` is missing before the name",
     cure: "write `output bool x;`, or `output signal s;`",
 };
 
-const TARGETS: Misused = Misused {
+const TARGETS: Told = Told {
     cause: "more than one name stands behind this arrow, and no `shallow history` before the last",
     cure: "write `-> S;`, or `-> shallow history S;`",
 };
 
-const APART: Misused = Misused {
+// A word that could stand there, and what is wrong with what follows it.
+#[derive(Clone, Copy)]
+struct Misuse {
+    word: &'static str,
+    told: Told,
+}
+
+const MISUSES: [Misuse; 5] = [
+    Misuse {
+        word: "const",
+        told: CONSTANT,
+    },
+    Misuse {
+        word: "pre",
+        told: BEFORE,
+    },
+    Misuse {
+        word: "signal",
+        told: SIGNAL,
+    },
+    Misuse {
+        word: "entry",
+        told: ENTRY,
+    },
+    Misuse {
+        word: "exit",
+        told: ENTRY,
+    },
+];
+
+const APART: Told = Told {
     cause: "this `=` stands apart from the operator before it",
     cure: "write `+=`, `-=` or `*=`",
 };
 
 /// What is wrong at this byte of a text behind this token, where it is the use of a word of extended charts, or of an
 /// operator before `=`.
-pub(crate) fn misuse_at(
-    text: &str,
-    at: usize,
-    before: &TokenKind,
-    could: &Could,
-) -> Option<Misused> {
+pub(crate) fn misuse_at(text: &str, at: usize, before: &TokenKind, could: &Could) -> Option<Told> {
     if is_apart(text, at) && could.has_sign(Sign::Becomes) {
         return Some(APART);
     }
@@ -71,13 +90,12 @@ pub(crate) fn misuse_at(
             NO_KIND
         });
     }
-    for word in could.own_words() {
-        if has_name_at(text, at, word) {
-            return misused_word(word);
-        }
+    let name = name_in(text, at);
+    if could.has_own_word(name) {
+        return misused_word(name);
     }
-    if could.has_own_word("during") {
-        return misused_immediate(text, at);
+    if could.has_own_word("during") && (name == "entry" || name == "exit") {
+        return Some(IMMEDIATE);
     }
     None
 }
@@ -113,23 +131,14 @@ fn is_other_name(token: &TokenKind) -> bool {
     }
 }
 
-// What is wrong with an action that cannot stand there, though another one could.
-fn misused_immediate(text: &str, at: usize) -> Option<Misused> {
-    if has_name_at(text, at, "entry") || has_name_at(text, at, "exit") {
-        Some(IMMEDIATE)
-    } else {
-        None
+// What is wrong where this word stands, although it could.
+fn misused_word(word: &str) -> Option<Told> {
+    for misuse in &MISUSES {
+        if word == misuse.word {
+            return Some(misuse.told);
+        }
     }
-}
-
-fn misused_word(word: &str) -> Option<Misused> {
-    match word {
-        "const" => Some(CONSTANT),
-        "pre" => Some(BEFORE),
-        "signal" => Some(SIGNAL),
-        "entry" | "exit" => Some(ENTRY),
-        _ => None,
-    }
+    None
 }
 
 /// The word of extended charts that could stand there and is spelled nearly so.

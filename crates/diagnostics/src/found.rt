@@ -1,6 +1,7 @@
 //! What stands at a place of a text.
 
-use node_sources::name_at;
+use crate::told::filled;
+use sc_values::NAME_LIMIT;
 use std::alloc::{AllocError, Global};
 
 /// Whether this piece stands at a byte of a text.
@@ -11,9 +12,14 @@ pub(crate) fn stands_at(text: &str, at: usize, piece: &str) -> bool {
     }
 }
 
-/// Whether this name stands at a byte of a text, whole.
-pub(crate) fn has_name_at(text: &str, at: usize, name: &str) -> bool {
-    stands_at(text, at, name) && !goes_on_name(text, at.saturating_add(name.len()))
+/// Which of these pieces stands at a byte of a text, the first of several.
+pub(crate) fn one_at(text: &str, at: usize, pieces: &[&'static str]) -> Option<&'static str> {
+    for piece in pieces {
+        if stands_at(text, at, piece) {
+            return Some(*piece);
+        }
+    }
+    None
 }
 
 // Whether a name goes on at a byte of a text.
@@ -24,24 +30,40 @@ fn goes_on_name(text: &str, at: usize) -> bool {
     }
 }
 
+/// The name, or the word, that begins at a byte of a text. Empty: none does.
+pub(crate) fn name_in(text: &str, at: usize) -> &str {
+    let mut end = at;
+    for _ in 0..NAME_LIMIT {
+        if !goes_on_name(text, end) {
+            break;
+        }
+        end = end.saturating_add(1);
+    }
+    text.get(at..end).unwrap_or("")
+}
+
 // The signs of two characters.
 const LONG_SIGNS: [&str; 5] = ["->", "==", "!=", "<=", ">="];
 
-// The sign of two characters that stands there.
-fn long_sign(text: &str, at: usize) -> Option<&'static str> {
-    for sign in LONG_SIGNS {
-        if stands_at(text, at, sign) {
-            return Some(sign);
+// The character that stands there. Empty: it cannot be shown.
+fn shown_byte(text: &str, at: usize) -> &str {
+    match text.as_bytes().get(at) {
+        Some(byte) if byte.is_ascii_graphic() => {
+            text.get(at..at.saturating_add(1)).unwrap_or("")
         }
+        _ => "",
     }
-    None
 }
 
-// The character that stands there, where it can be shown.
-fn shown_byte(text: &str, at: usize) -> Option<char> {
-    match text.as_bytes().get(at) {
-        Some(byte) if byte.is_ascii_graphic() => Some(*byte as char),
-        _ => None,
+// The word, number or sign that begins there. Empty: none does.
+fn piece_at(text: &str, at: usize) -> &str {
+    let name = name_in(text, at);
+    if !name.is_empty() {
+        return name;
+    }
+    match one_at(text, at, &LONG_SIGNS) {
+        Some(sign) => sign,
+        None => shown_byte(text, at),
     }
 }
 
@@ -50,15 +72,10 @@ pub(crate) fn found(alloc: Global, text: &str, at: usize) -> Result<String, Allo
     if at >= text.len() {
         return String::from_str(alloc, "the end of the text");
     }
-    let word = name_at(alloc, text, at)?;
-    if !word.is_empty() {
-        return format!(in alloc; "`{word}`");
-    }
-    if let Some(sign) = long_sign(text, at) {
-        return format!(in alloc; "`{sign}`");
-    }
-    match shown_byte(text, at) {
-        Some(letter) => format!(in alloc; "`{letter}`"),
-        None => String::from_str(alloc, "a character that it does not use"),
+    let piece = piece_at(text, at);
+    if piece.is_empty() {
+        String::from_str(alloc, "a character that it does not use")
+    } else {
+        filled(alloc, "`@`", piece)
     }
 }

@@ -1,7 +1,7 @@
 //! What stands before a place of a text.
 
 use sc_text::{Language, TokenKind, tokens};
-use std::alloc::{AllocError, Global};
+use std::alloc::Global;
 use std::str;
 
 /// The text before a byte. Empty: no character begins at that byte.
@@ -12,14 +12,10 @@ pub(crate) fn front_of(text: &str, at: usize) -> &str {
     }
 }
 
-/// The last token of a text. None: it has none, or is no list of tokens. Err: memory was refused.
-pub(crate) fn last_token(
-    alloc: Global,
-    language: Language,
-    front: &str,
-) -> Result<Option<TokenKind>, AllocError> {
+/// The last token of a text. None: it has none, or is no list of tokens; or memory was refused.
+pub(crate) fn last_token(alloc: Global, language: Language, front: &str) -> Option<TokenKind> {
     match tokens(alloc, language, front) {
-        Ok(tokens) => Ok(tokens.as_slice().last().map(|token| token.kind)),
-        Err(_) => Ok(None),
+        Ok(tokens) => tokens.as_slice().last().map(|token| token.kind),
+        Err(_) => None,
     }
 }

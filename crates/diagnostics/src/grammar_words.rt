@@ -1,16 +1,16 @@
 //! A place where a text cannot go on, in words.
 
 use crate::could::Could;
-use crate::expected::expected;
+use crate::expected::put_expected;
 use crate::extended_words::{misuse_at, near_own_word};
-use crate::found::{found, stands_at};
+use crate::found::{found, name_in, one_at, stands_at};
 use crate::fronts::{front_of, last_token};
-use crate::line_columns::line_column_of;
+use crate::line_columns::{LineColumn, line_column_of};
 use crate::near_names::difference;
 use crate::spellings::{for_sign, for_word};
+use crate::told::{Told, put_filled};
 use crate::unclosed::last_open;
 use crate::words::Words;
-use node_sources::name_at;
 use sc_text::{Sign, TokenKind, Word};
 use std::alloc::{AllocError, Global};
 use text_continuations::Grammar;
@@ -24,18 +24,49 @@ const TRANSITIONS: &str =
 const BEGINNINGS: &str =
     "a text begins with `chart`, with `extended chart` or with `scl`, and a name";
 
-// What helps where the text ends too early.
-fn cure_at_end(alloc: Global, grammar: Grammar, text: &str) -> Result<String, AllocError> {
-    match last_open(alloc, grammar.tokens(), text)? {
-        Some(at) => {
-            let line_column = line_column_of(text, at);
+// Where no token stands before.
+const FIRST: Told = Told {
+    cause: "found @, expected `chart`, `extended chart` or `scl`",
+    cure: "a text begins with `chart`, with `extended chart` or with `scl`, and a name; the words of the language are in small letters",
+};
+
+// Where more stands before than is read.
+const FAR: Told = Told {
+    cause: "the text cannot go on with @",
+    cure: "look at what stands before it",
+};
+
+// What helps.
+#[derive(Clone, Copy)]
+enum Cure {
+    Said(&'static str),
+    // `@` stands for this word of the language.
+    OfWord(&'static str, &'static str),
+    // To close what is opened there.
+    Closing(LineColumn),
+}
+
+// Adds what helps.
+fn put_cure(text: &mut String, cure: Cure) -> Result<(), AllocError> {
+    match cure {
+        Cure::Said(words) => text.push_str(words),
+        Cure::OfWord(words, word) => put_filled(text, words, word),
+        Cure::Closing(line_column) => {
             let line = line_column.line;
             let column = line_column.column;
-            format!(in alloc;
+            write!(
+                text,
                 "line {line} opens a brace or parenthesis, in column {column}, that is not closed"
             )
         }
-        None => String::from_str(alloc, BEGINNINGS),
+    }
+}
+
+// What helps where the text ends too early.
+fn cure_at_end(alloc: Global, grammar: Grammar, text: &str) -> Cure {
+    match last_open(alloc, grammar.tokens(), text) {
+        Some(at) => Cure::Closing(line_column_of(text, at)),
+        None => Cure::Said(BEGINNINGS),
     }
 }
 
@@ -51,6 +82,11 @@ impl<'a> Stop<'a> {
     // Whether this piece stands there.
     fn has(&self, piece: &str) -> bool {
         stands_at(self.text, self.at, piece)
+    }
+
+    // Whether one of these pieces does.
+    fn has_one(&self, pieces: &[&'static str]) -> bool {
+        one_at(self.text, self.at, pieces).is_some()
     }
 }
 
@@ -92,21 +128,14 @@ fn cure_of_own_sign(stop: Stop<'_>, could: &Could) -> Option<&'static str> {
     None
 }
 
-const COMPARISONS: [&str; 6] = ["==", "!=", "<=", ">=", "<", ">"];
-
 // Whether two values are compared by what stands there.
 fn is_comparison(stop: Stop<'_>) -> bool {
-    for sign in COMPARISONS {
-        if stop.has(sign) {
-            return true;
-        }
-    }
-    false
+    stop.has_one(&["==", "!=", "<=", ">=", "<", ">"])
 }
 
 // Whether a variable is combined with a value by what stands there, as extended charts do.
 fn is_combination(stop: Stop<'_>) -> bool {
-    stop.grammar == Grammar::ExtendedChart && (stop.has("+=") || stop.has("-=") || stop.has("*="))
+    stop.grammar == Grammar::ExtendedChart && stop.has_one(&["+=", "-=", "*="])
 }
 
 // What helps where a sign stands that other languages have, or that has its place elsewhere.
@@ -144,34 +173,30 @@ fn is_foreign(grammar: Grammar, word: Word) -> bool {
 }
 
 // What helps where a reserved word stands.
-fn cure_of_reserved(
-    alloc: Global,
-    word: Word,
-    before: Before,
-    could: &Could,
-) -> Result<String, AllocError> {
-    let text = word.text();
+fn cure_of_reserved(word: Word, before: Before, could: &Could) -> Option<Cure> {
     if before == Before::State && (word == Word::Initial || word == Word::Final) {
-        return format!(in alloc; "write `{text} state`");
+        return Some(Cure::OfWord("write `@ state`", word.text()));
     }
     if (word == Word::Bool || word == Word::Int) && could.has_word(Word::Input) {
-        return String::from_str(
-            alloc,
+        return Some(Cure::Said(
             "a variable is declared by `input`, `output` or `local` before its kind",
-        );
+        ));
     }
     if could.has_word(Word::Go)
         && (word == Word::If || word == Word::Do || word == Word::Immediate)
     {
-        return String::from_str(alloc, TRANSITIONS);
+        return Some(Cure::Said(TRANSITIONS));
     }
     if word == Word::Do && could.has_name() && before == Before::Comma {
-        return String::from_str(alloc, "`do` stands once, before the first effect");
+        return Some(Cure::Said("`do` stands once, before the first effect"));
     }
     if could.has_name() && !could.begins_expression() {
-        return format!(in alloc; "`{text}` is a word of the language: take another name");
+        return Some(Cure::OfWord(
+            "`@` is a word of the language: take another name",
+            word.text(),
+        ));
     }
-    Ok(String::new(alloc))
+    None
 }
 
 // The word that could stand there and is spelled nearly so.
@@ -186,33 +211,31 @@ fn near_word(could: &Could, name: &str) -> Option<&'static str> {
 }
 
 // What helps where a name stands.
-fn cure_of_name(
-    alloc: Global,
-    grammar: Grammar,
-    name: &str,
-    could: &Could,
-) -> Result<String, AllocError> {
+fn cure_of_name(grammar: Grammar, name: &str, could: &Could) -> Option<Cure> {
     if let Some(written) = for_word(grammar, name) {
-        return String::from_str(alloc, written);
+        return Some(Cure::Said(written));
     }
-    if let Some(text) = near_word(could, name) {
-        return format!(in alloc;
-            "did you mean `{text}`? The words of the language are in small letters"
-        );
+    match near_word(could, name) {
+        Some(text) => Some(Cure::OfWord(
+            "did you mean `@`? The words of the language are in small letters",
+            text,
+        )),
+        None => cure_of_own_name(could),
     }
-    String::from_str(alloc, cure_of_own_name(could))
 }
 
 // What helps where a name stands that is no word.
-fn cure_of_own_name(could: &Could) -> &'static str {
+fn cure_of_own_name(could: &Could) -> Option<Cure> {
     if could.has_own_word("emit") {
-        "a signal is emitted by `emit s`, and a variable is given a value by `x = ..`"
+        Some(Cure::Said(
+            "a signal is emitted by `emit s`, and a variable is given a value by `x = ..`",
+        ))
     } else if could.has_own_word("shallow") {
-        "a state is entered by its history by `-> shallow history S`"
+        Some(Cure::Said("a state is entered by its history by `-> shallow history S`"))
     } else if could.has_word(Word::If) && !could.has_name() {
-        "a condition stands behind `if`"
+        Some(Cure::Said("a condition stands behind `if`"))
     } else {
-        ""
+        None
     }
 }
 
@@ -228,88 +251,69 @@ fn cure_at_least(could: &Could) -> &'static str {
 }
 
 // What helps where a word or a name stands, or nothing of either.
-fn cure_of_word(
-    alloc: Global,
-    grammar: Grammar,
-    before: &TokenKind,
-    name: &str,
-    could: &Could,
-) -> Result<String, AllocError> {
+fn cure_of_word(grammar: Grammar, before: &TokenKind, name: &str, could: &Could) -> Option<Cure> {
     match Word::of(name.as_bytes()) {
-        Some(word) if is_foreign(grammar, word) => cure_of_name(alloc, grammar, name, could),
-        Some(word) => cure_of_reserved(alloc, word, before_of(before), could),
-        None if name.is_empty() => Ok(String::new(alloc)),
-        None => cure_of_name(alloc, grammar, name, could),
+        Some(word) if !is_foreign(grammar, word) => {
+            cure_of_reserved(word, before_of(before), could)
+        }
+        None if name.is_empty() => None,
+        _ => cure_of_name(grammar, name, could),
     }
 }
 
 // What helps where a text stops behind this token, and something else could stand.
-fn cure(
-    alloc: Global,
-    stop: Stop<'_>,
-    before: &TokenKind,
-    could: &Could,
-) -> Result<String, AllocError> {
+fn cure_of(alloc: Global, stop: Stop<'_>, before: &TokenKind, could: &Could) -> Cure {
     if stop.at >= stop.text.len() {
         return cure_at_end(alloc, stop.grammar, stop.text);
     }
     if let Some(written) = cure_of_sign(stop, could) {
-        return String::from_str(alloc, written);
+        return Cure::Said(written);
     }
-    let name = name_at(alloc, stop.text, stop.at)?;
-    let told = cure_of_word(alloc, stop.grammar, before, name.as_str(), could)?;
-    if !told.is_empty() {
-        return Ok(told);
+    match cure_of_word(stop.grammar, before, name_in(stop.text, stop.at), could) {
+        Some(cure) => cure,
+        None if could.has_sign(Sign::CloseParenthesis) => {
+            cure_at_end(alloc, stop.grammar, front_of(stop.text, stop.at))
+        }
+        None => Cure::Said(cure_at_least(could)),
     }
-    if could.has_sign(Sign::CloseParenthesis) {
-        return cure_at_end(alloc, stop.grammar, front_of(stop.text, stop.at));
-    }
-    String::from_str(alloc, cure_at_least(could))
 }
 
-// The words for what stands first in a text.
-fn first_words(alloc: Global, found: &str) -> Result<Words, AllocError> {
-    let cause = format!(in alloc; "found {found}, expected `chart`, `extended chart` or `scl`")?;
-    let cure = format!(in alloc; "{BEGINNINGS}; the words of the language are in small letters")?;
-    Ok(Words { cause, cure })
-}
-
-// The words for what stands where something else could.
-fn stopped_words(
+// Adds the words for what stands where something else could.
+fn put_stopped(
     alloc: Global,
+    words: &mut Words,
     stop: Stop<'_>,
     found: &str,
     before: &TokenKind,
     could: &Could,
-) -> Result<Words, AllocError> {
-    let expected = expected(alloc, could)?;
-    let cause = if expected.is_empty() {
-        format!(in alloc; "found {found} behind the end of the program")?
-    } else {
-        format!(in alloc; "found {found}, expected {expected}")?
+) -> Result<(), AllocError> {
+    put_expected(alloc, &mut words.cause, found, could)?;
+    put_cure(&mut words.cure, cure_of(alloc, stop, before, could))
+}
+
+// The words for a byte of a text where it cannot go on, and this was found.
+fn words_of_found(alloc: Global, text: &str, at: usize, found: &str) -> Result<Words, AllocError> {
+    if at > LONGEST {
+        return Words::told(alloc, FAR, found);
+    }
+    let grammar = Grammar::of(text);
+    let front = front_of(text, at);
+    let Some(before) = last_token(alloc, grammar.tokens(), front) else {
+        return Words::told(alloc, FIRST, found);
     };
-    let cure = cure(alloc, stop, before, could)?;
-    Ok(Words { cause, cure })
+    let could = Could::of(alloc, grammar, front, &before)?;
+    if let Some(misused) = misuse_at(text, at, &before, &could) {
+        return Words::told(alloc, misused, "");
+    }
+    let stop = Stop { grammar, text, at };
+    let mut words = Words::none(alloc);
+    put_stopped(alloc, &mut words, stop, found, &before, &could)?;
+    Ok(words)
 }
 
 /// The words for a byte of a text where it cannot go on: what was found, what could stand there, and what helps. Err:
 /// memory was refused.
 pub(crate) fn grammar_words(alloc: Global, text: &str, at: usize) -> Result<Words, AllocError> {
     let found = found(alloc, text, at)?;
-    if at > LONGEST {
-        let cause = format!(in alloc; "the text cannot go on with {found}")?;
-        let cure = String::from_str(alloc, "look at what stands before it")?;
-        return Ok(Words { cause, cure });
-    }
-    let grammar = Grammar::of(text);
-    let front = front_of(text, at);
-    let Some(before) = last_token(alloc, grammar.tokens(), front)? else {
-        return first_words(alloc, found.as_str());
-    };
-    let could = Could::of(alloc, grammar, front, &before)?;
-    if let Some(misused) = misuse_at(text, at, &before, &could) {
-        return Words::of(alloc, misused.cause, misused.cure);
-    }
-    let stop = Stop { grammar, text, at };
-    stopped_words(alloc, stop, found.as_str(), &before, &could)
+    words_of_found(alloc, text, at, found.as_str())
 }

@@ -21,6 +21,7 @@ mod program_words;
 mod report;
 mod rule_words;
 mod spellings;
+mod told;
 mod unclosed;
 mod unknown_words;
 mod walks;

@@ -1,8 +1,9 @@
 //! A limit that is passed, in words.
 
+use crate::found::name_in;
 use crate::fronts::{front_of, last_token};
+use crate::told::Told;
 use crate::words::Words;
-use node_sources::name_at;
 use sc_text::{ReadFault, TokenKind, Word, tokens};
 use std::alloc::{AllocError, Global};
 use text_continuations::Grammar;
@@ -40,17 +41,18 @@ fn limit_of_name(before: Option<TokenKind>) -> &'static str {
     }
 }
 
+// What passes a limit at a byte of a text, all of which is tokens.
+fn limit_of_token(alloc: Global, text: &str, at: usize) -> &'static str {
+    match Word::of(name_in(text, at).as_bytes()) {
+        Some(word) => limit_of_word(word),
+        None => limit_of_name(last_token(alloc, Grammar::of(text).tokens(), front_of(text, at))),
+    }
+}
+
 // What passes a limit at a byte of a text.
 fn limit_at(alloc: Global, text: &str, at: usize) -> Result<&'static str, AllocError> {
-    let language = Grammar::of(text).tokens();
-    match tokens(alloc, language, text) {
-        Ok(_) => {
-            let name = name_at(alloc, text, at)?;
-            match Word::of(name.as_bytes()) {
-                Some(word) => Ok(limit_of_word(word)),
-                None => Ok(limit_of_name(last_token(alloc, language, front_of(text, at))?)),
-            }
-        }
+    match tokens(alloc, Grammar::of(text).tokens(), text) {
+        Ok(_) => Ok(limit_of_token(alloc, text, at)),
         Err(ReadFault::Text(..)) => Ok(long_token(text.as_bytes().get(at).copied())),
         Err(ReadFault::Memory) => Err(AllocError),
     }
@@ -58,9 +60,9 @@ fn limit_at(alloc: Global, text: &str, at: usize) -> Result<&'static str, AllocE
 
 /// The words for a byte of a text at which a limit is passed. Err: memory was refused.
 pub(crate) fn limit_words(alloc: Global, text: &str, at: usize) -> Result<Words, AllocError> {
-    Words::of(
-        alloc,
-        limit_at(alloc, text, at)?,
-        "split it: a local variable for a part of an expression, a thread for some of the branches",
-    )
+    let told = Told {
+        cause: limit_at(alloc, text, at)?,
+        cure: "split it: a local variable for a part of an expression, a thread for some of the branches",
+    };
+    Words::told(alloc, told, "")
 }

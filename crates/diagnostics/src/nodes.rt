@@ -1,11 +1,13 @@
 //! A node of a program as it is shown: its place in the source text, what it does, and the line of the text.
 
 use crate::edges::{name_of, written};
+use crate::found::name_in;
 use crate::line_columns::LineColumn;
-use crate::lines::{margin, marked_line};
+use crate::lines::{put_margin, put_marked_line};
+use crate::told::put_filled;
 use compiler::LinkedProgram;
 use extended_nodes::AuthorNode;
-use node_sources::{Origin, Part, Positions, name_at};
+use node_sources::{Origin, Part, Positions};
 use sc_graph::{Links, NodeId, Program, Step};
 use sc_values::Name;
 use sqlite_items::Items;
@@ -79,14 +81,6 @@ impl<'a> Shown<'a> {
         }
     }
 
-    // Whether a node is made.
-    fn is_made(&self, node: NodeId) -> bool {
-        match self.node(node) {
-            Some(found) => found.is_made,
-            None => false,
-        }
-    }
-
     /// The place of an origin.
     pub(crate) fn line_column(&self, origin: Origin) -> LineColumn {
         let position = self.positions.position(origin.at);
@@ -112,16 +106,8 @@ fn what_it_does(step: Option<&Step>) -> &'static str {
     }
 }
 
-// The name of the variable that a node writes, with a space before it.
-fn written_text(alloc: Global, program: &Program, node: NodeId) -> Result<String, AllocError> {
-    match written_name(program, node) {
-        Some(name) => format!(in alloc; " `{name}`"),
-        None => Ok(String::new(alloc)),
-    }
-}
-
-// The name of the variable that a node writes.
-fn written_name(program: &Program, node: NodeId) -> Option<Name> {
+/// The name of the variable that a node writes.
+pub(crate) fn written_name(program: &Program, node: NodeId) -> Option<Name> {
     let (variable, _) = written(program.step(node)?)?;
     name_of(program, variable)
 }
@@ -140,70 +126,68 @@ fn part_text(part: Part) -> &'static str {
     }
 }
 
-/// The state and the region of a chart to which an origin belongs, with what the part is. Err: memory was refused.
-pub(crate) fn around_text(alloc: Global, text: &str, origin: Origin) -> Result<String, AllocError> {
-    let part = part_text(origin.part);
-    let Some(region) = origin.region else {
-        return String::from_str(alloc, part);
-    };
-    let region = name_at(alloc, text, region)?;
-    let state = state_text(alloc, text, origin.state)?;
-    format!(in alloc; "{part}{state} region {region}")
+/// Adds the state and the region of a chart to which this belongs, what part of them it is, and whether it is made, and
+/// stands at the place of that for which it is; then ends the line. Err: memory was refused.
+pub(crate) fn put_around(
+    text: &mut String,
+    source: &str,
+    found: AuthorNode,
+) -> Result<(), AllocError> {
+    let origin = found.origin;
+    text.push_str(part_text(origin.part))?;
+    if let Some(region) = origin.region {
+        if let Some(state) = origin.state {
+            put_filled(text, " state @ in", name_in(source, state))?;
+        }
+        put_filled(text, " region @", name_in(source, region))?;
+    }
+    text.push_str(if found.is_made { " (made)\n" } else { "\n" })
 }
 
-// The state, where there is one, with what stands before its region.
-fn state_text(alloc: Global, text: &str, state: Option<usize>) -> Result<String, AllocError> {
-    match state {
-        Some(place) => {
-            let state = name_at(alloc, text, place)?;
-            format!(in alloc; " state {state} in")
-        }
-        None => Ok(String::new(alloc)),
+// Adds what a node does.
+fn put_step(text: &mut String, program: &Program, node: NodeId) -> Result<(), AllocError> {
+    text.push_str(what_it_does(program.step(node)))?;
+    match written_name(program, node) {
+        Some(name) => put_filled(text, " `@`", name.as_str()),
+        None => Ok(()),
     }
 }
 
-/// What is said of what is made, and stands at the place of that for which it is.
-pub(crate) fn made_text(is_made: bool) -> &'static str {
-    if is_made { " (made)" } else { "" }
-}
-
-/// A node: its number and place, what it does, and, where it is one of the first, its line with a mark. Err: memory was
-/// refused.
-pub(crate) fn node_text(
-    alloc: Global,
+/// Adds a node: its number and place, what it does, and, where it is one of the first, its line with a mark. Err:
+/// memory was refused.
+pub(crate) fn put_node(
+    text: &mut String,
     shown: &Shown<'_>,
     node: NodeId,
     number: usize,
-) -> Result<String, AllocError> {
-    let does = what_it_does(shown.program.step(node));
-    let what = written_text(alloc, shown.program, node)?;
-    let Some(origin) = shown.origin(node) else {
-        return format!(in alloc; "node {node} {does}{what}\n");
+) -> Result<(), AllocError> {
+    let Some(found) = shown.node(node) else {
+        write!(text, "node {node} ")?;
+        put_step(text, shown.program, node)?;
+        return text.push('\n');
     };
-    let line_column = shown.line_column(origin);
+    let line_column = shown.line_column(found.origin);
     let line = line_column.line;
     let column = line_column.column;
-    let around = around_text(alloc, shown.text, origin)?;
-    let made = made_text(shown.is_made(node));
-    let marked = if number < SHOWN {
-        marked_line(alloc, shown.text, origin.at, line_column)?
-    } else {
-        String::new(alloc)
-    };
-    format!(in alloc; "node {node} at {line}:{column} {does}{what}{around}{made}\n{marked}")
+    write!(text, "node {node} at {line}:{column} ")?;
+    put_step(text, shown.program, node)?;
+    put_around(text, shown.text, found)?;
+    if number < SHOWN {
+        put_marked_line(text, shown.text, found.origin.at, line_column)?;
+    }
+    Ok(())
 }
 
-/// What is said below the line of a node. Err: memory was refused.
-pub(crate) fn note_text(
-    alloc: Global,
+/// Adds what stands before a note below the line of a node. Err: memory was refused.
+pub(crate) fn put_note_margin(
+    text: &mut String,
     shown: &Shown<'_>,
     node: NodeId,
-    words: &str,
-) -> Result<String, AllocError> {
+) -> Result<(), AllocError> {
     let line = match shown.origin(node) {
         Some(origin) => shown.line_column(origin).line,
         None => 0,
     };
-    let margin = margin(alloc, line)?;
-    format!(in alloc; "{margin} = {words}\n")
+    put_margin(text, line)?;
+    text.push_str(" = ")
 }

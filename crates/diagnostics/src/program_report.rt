@@ -6,15 +6,16 @@ ghost use Rattle.diagnostics.specs.Reports.{Tells};
 ghost use Rattle.scl_graph.specs.Answers.{IsGraph};
 
 use crate::line_columns::line_column_of;
-use crate::lines::marked_line;
-use crate::nodes::{Shown, around_text, made_text};
+use crate::lines::put_marked_line;
+use crate::nodes::{Shown, put_around};
 use crate::program_words::in_words;
-use crate::report::{help, line_column_text};
-use crate::walks::{conflict_text, first_node, place_text, walk_text};
+use crate::report::put_help;
+use crate::told::{Told, put_filled};
+use crate::walks::{first_node, put_conflict, put_place, put_walk};
 use compiler::{CompileFault, LinkedProgram, graph_of_scl};
 use conflict_edges::ConflictFault;
 use extended_nodes::AuthorNode;
-use node_sources::{Origin, label_origin, origins_in};
+use node_sources::{label_origin, origins_in};
 use priority_weights::TablesFault;
 use sc_graph::NodeId;
 use sc_values::Name;
@@ -54,8 +55,9 @@ pub fn program_fault_told(
 ) -> Result<String, AllocError>
     ensures { IfOk result (λ report. Tells name.now (fault_text fault.now) (string_bytes report)) }
 {
-    let shown = shown_in(alloc, source, fault)?;
-    reported(alloc, name, &shown, fault)
+    let mut report = Report::nowhere(alloc);
+    put_shown(alloc, &mut report, source, fault)?;
+    reported(alloc, name, &report, fault)
 }
 
 /// The report of a fault, of which this is shown. Err: memory was refused.
@@ -69,10 +71,16 @@ pub(crate) fn reported(
 {
     let told = in_words(fault);
     let cause = told.cause;
-    let help = help(alloc, told.cure)?;
     let place = shown.place.as_str();
-    let body = shown.body.as_str();
-    format!(in alloc; "{name}{place}: {fault}: {cause}\n{body}{help}")
+    let mut rest = String::new(alloc);
+    put_rest(&mut rest, shown, told)?;
+    format!(in alloc; "{name}{place}: {fault}: {cause}\n{rest}")
+}
+
+// Adds the lines behind the first of a report.
+fn put_rest(text: &mut String, shown: &Report, told: Told) -> Result<(), AllocError> {
+    text.push_str(shown.body.as_str())?;
+    put_help(text, told.cure)
 }
 
 /// What a report says of places: that of the whole, and the lines behind its first.
@@ -82,156 +90,145 @@ pub(crate) struct Report {
     body: String,
 }
 
-/// A report without places.
-pub(crate) fn nowhere(alloc: Global) -> Report {
-    Report {
-        place: String::new(alloc),
-        body: String::new(alloc),
-    }
-}
-
-// What of a fault is shown, where its text was read.
-fn shown_in(
-    alloc: Global,
-    source: Option<&ReadSource<'_>>,
-    fault: &CompileFault,
-) -> Result<Report, AllocError> {
-    match source {
-        Some(source) => shown_fault(alloc, source, fault),
-        None => Ok(nowhere(alloc)),
-    }
-}
-
-// What of a fault is shown in its text.
-fn shown_fault(
-    alloc: Global,
-    source: &ReadSource<'_>,
-    fault: &CompileFault,
-) -> Result<Report, AllocError> {
-    match fault {
-        CompileFault::Graph(GraphFault::EmptyLoop(label)) => shown_label(alloc, source, *label),
-        CompileFault::Expansion(_) | CompileFault::Graph(_) => Ok(nowhere(alloc)),
-        CompileFault::Conflict(_) | CompileFault::Tables(_) | CompileFault::Rule(_) => {
-            shown_nodes(alloc, source, fault)
+impl Report {
+    /// A report without places.
+    pub(crate) fn nowhere(alloc: Global) -> Report {
+        Report {
+            place: String::new(alloc),
+            body: String::new(alloc),
         }
     }
 }
 
-// The place of an origin, with what stands before it.
-fn place_of(alloc: Global, text: &str, origin: Option<Origin>) -> Result<String, AllocError> {
-    match origin {
-        Some(origin) => line_column_text(alloc, line_column_of(text, origin.at)),
-        None => Ok(String::new(alloc)),
+// Shows a fault, where its text was read.
+fn put_shown(
+    alloc: Global,
+    report: &mut Report,
+    source: Option<&ReadSource<'_>>,
+    fault: &CompileFault,
+) -> Result<(), AllocError> {
+    match source {
+        Some(source) => put_fault(alloc, report, source, fault),
+        None => Ok(()),
     }
 }
 
-// A label, at its place.
-fn shown_label(alloc: Global, source: &ReadSource<'_>, label: Name) -> Result<Report, AllocError> {
-    let Some(origin) = label_origin(alloc, source, label)? else {
-        return Ok(nowhere(alloc));
-    };
-    label_report(alloc, source.text(), label, AuthorNode::own(origin))
+// Shows a fault in its text.
+fn put_fault(
+    alloc: Global,
+    report: &mut Report,
+    source: &ReadSource<'_>,
+    fault: &CompileFault,
+) -> Result<(), AllocError> {
+    match fault {
+        CompileFault::Graph(GraphFault::EmptyLoop(label)) => {
+            match label_origin(alloc, source, *label)? {
+                Some(origin) => put_label(report, source.text(), *label, AuthorNode::own(origin)),
+                None => Ok(()),
+            }
+        }
+        CompileFault::Expansion(_) | CompileFault::Graph(_) => Ok(()),
+        CompileFault::Conflict(_) | CompileFault::Tables(_) | CompileFault::Rule(_) => {
+            put_nodes(alloc, report, source, fault)
+        }
+    }
 }
 
-/// A label, at the place of what it comes from. Err: memory was refused.
-pub(crate) fn label_report(
-    alloc: Global,
+// Adds the place of a byte of a text, with what stands before it.
+fn put_place_of(text: &mut String, source: &str, at: usize) -> Result<(), AllocError> {
+    let line_column = line_column_of(source, at);
+    let line = line_column.line;
+    let column = line_column.column;
+    write!(text, ":{line}:{column}")
+}
+
+/// Shows a label, at the place of what it comes from. Err: memory was refused.
+pub(crate) fn put_label(
+    report: &mut Report,
     text: &str,
     label: Name,
     found: AuthorNode,
-) -> Result<Report, AllocError> {
-    let place = place_of(alloc, text, Some(found.origin))?;
-    let body = label_text(alloc, text, label, found)?;
-    Ok(Report { place, body })
+) -> Result<(), AllocError> {
+    let at = found.origin.at;
+    put_place_of(&mut report.place, text, at)?;
+    put_filled(&mut report.body, "label @", label.as_str())?;
+    put_around(&mut report.body, text, found)?;
+    put_marked_line(&mut report.body, text, at, line_column_of(text, at))
 }
 
-// A label with its line.
-fn label_text(
-    alloc: Global,
-    text: &str,
-    label: Name,
-    found: AuthorNode,
-) -> Result<String, AllocError> {
-    let origin = found.origin;
-    let around = around_text(alloc, text, origin)?;
-    let made = made_text(found.is_made);
-    let marked = marked_line(alloc, text, origin.at, line_column_of(text, origin.at))?;
-    format!(in alloc; "label {label}{around}{made}\n{marked}")
-}
-
-/// The nodes of a fault, which are shown so. Err: memory was refused.
-pub(crate) fn node_report(
-    alloc: Global,
+/// Shows the nodes of a fault. Err: memory was refused.
+pub(crate) fn put_shown_nodes(
+    report: &mut Report,
     shown: &Shown<'_>,
     fault: &CompileFault,
-) -> Result<Report, AllocError> {
-    let body = nodes_of(alloc, shown, fault)?;
-    let place = first_place(alloc, shown, fault)?;
-    Ok(Report { place, body })
+) -> Result<(), AllocError> {
+    put_nodes_of(&mut report.body, shown, fault)?;
+    let Some(first) = first_of(shown, fault) else {
+        return Ok(());
+    };
+    match shown.origin(first) {
+        Some(origin) => put_place_of(&mut report.place, shown.text, origin.at),
+        None => Ok(()),
+    }
 }
 
-// The nodes of a fault, by the graph that was made of the text.
-fn shown_nodes(
+// Shows the nodes of a fault, by the graph that was made of the text.
+fn put_nodes(
     alloc: Global,
+    report: &mut Report,
     source: &ReadSource<'_>,
     fault: &CompileFault,
-) -> Result<Report, AllocError> {
+) -> Result<(), AllocError> {
     match source.graph() {
-        Some(graph) => nodes_in(alloc, source, graph, fault),
-        None => made_nodes(alloc, source, fault),
+        Some(graph) => put_nodes_in(alloc, report, source, graph, fault),
+        None => put_made_nodes(alloc, report, source, fault),
     }
 }
 
-// The nodes of a fault of a text of which no graph was made.
-fn made_nodes(
+// Shows the nodes of a fault of a text of which no graph was made.
+fn put_made_nodes(
     alloc: Global,
+    report: &mut Report,
     source: &ReadSource<'_>,
     fault: &CompileFault,
-) -> Result<Report, AllocError> {
+) -> Result<(), AllocError> {
     match graph_of_scl(alloc, source.scl()) {
-        Ok(graph) => nodes_in(alloc, source, &graph, fault),
+        Ok(graph) => put_nodes_in(alloc, report, source, &graph, fault),
         Err(GraphFault::Memory) => Err(AllocError),
-        Err(_) => Ok(nowhere(alloc)),
+        Err(_) => Ok(()),
     }
 }
 
-// The nodes of a fault, in the graph of its text.
-fn nodes_in(
+// Shows the nodes of a fault, in the graph of its text.
+fn put_nodes_in(
     alloc: Global,
+    report: &mut Report,
     source: &ReadSource<'_>,
     graph: &LinkedProgram,
     fault: &CompileFault,
-) -> Result<Report, AllocError>
+) -> Result<(), AllocError>
     requires { IsGraph source.now.scl graph.now }
 {
     let origins = origins_in(alloc, source, graph.program())?;
     let shown = Shown::of(alloc, source.text(), graph, origins.as_slice())?;
-    node_report(alloc, &shown, fault)
+    put_shown_nodes(report, &shown, fault)
 }
 
-// The lines of the nodes of a fault.
-fn nodes_of(alloc: Global, shown: &Shown<'_>, fault: &CompileFault) -> Result<String, AllocError> {
-    match fault {
-        CompileFault::Conflict(ConflictFault::WriteWrite(first, second)) => {
-            conflict_text(alloc, shown, *first, *second)
-        }
-        CompileFault::Tables(TablesFault::InstantLoop(walk) | TablesFault::Cyclic(walk)) => {
-            walk_text(alloc, shown, walk.as_slice())
-        }
-        CompileFault::Rule(Refusal::Broken(broken)) => place_text(alloc, shown, broken.place),
-        _ => Ok(String::new(alloc)),
-    }
-}
-
-// The place of the first node of a fault.
-fn first_place(
-    alloc: Global,
+// Adds the lines of the nodes of a fault.
+fn put_nodes_of(
+    text: &mut String,
     shown: &Shown<'_>,
     fault: &CompileFault,
-) -> Result<String, AllocError> {
-    match first_of(shown, fault) {
-        Some(node) => place_of(alloc, shown.text, shown.origin(node)),
-        None => Ok(String::new(alloc)),
+) -> Result<(), AllocError> {
+    match fault {
+        CompileFault::Conflict(ConflictFault::WriteWrite(first, second)) => {
+            put_conflict(text, shown, *first, *second)
+        }
+        CompileFault::Tables(TablesFault::InstantLoop(walk) | TablesFault::Cyclic(walk)) => {
+            put_walk(text, shown, walk.as_slice())
+        }
+        CompileFault::Rule(Refusal::Broken(broken)) => put_place(text, shown, broken.place),
+        _ => Ok(()),
     }
 }
 

@@ -1,20 +1,12 @@
 //! The faults of programs in words.
 
+use crate::told::Told;
 use abort_expansion::ExpandFault;
 use compiler::CompileFault;
 use conflict_edges::ConflictFault;
 use priority_weights::TablesFault;
 use scl_graph::GraphFault;
 use verifier::{Refusal, Rule};
-
-/// A fault in words.
-#[derive(Clone, Copy)]
-pub(crate) struct Told {
-    /// What is wrong.
-    pub(crate) cause: &'static str,
-    /// What helps. Empty: nothing is known to.
-    pub(crate) cure: &'static str,
-}
 
 const MEMORY: Told = Told {
     cause: "memory was refused",

@@ -7,8 +7,9 @@ ghost use Rattle.diagnostics.specs.Reports.{Tells, TellsAt, TellsPlace, text_fau
 ghost use Rattle.diagnostics.specs.LinesColumns.{place_shown};
 
 use crate::line_columns::{LineColumn, line_column_of};
-use crate::lines::marked_line;
-use crate::words::words_of;
+use crate::lines::put_marked_line;
+use crate::told::put_filled;
+use crate::words::{Words, words_of};
 use sc_text::{FaultKind, ReadFault};
 use std::alloc::{AllocError, Global};
 
@@ -22,13 +23,41 @@ pub fn line_column_text(alloc: Global, line_column: LineColumn) -> Result<String
     format!(in alloc; ":{line}:{column}")
 }
 
-/// The line of what helps, where something does. Err: memory was refused.
-pub(crate) fn help(alloc: Global, cure: &str) -> Result<String, AllocError> {
+/// Adds the line of what helps, where something does. Err: memory was refused.
+pub(crate) fn put_help(text: &mut String, cure: &str) -> Result<(), AllocError> {
     if cure.is_empty() {
-        Ok(String::new(alloc))
+        Ok(())
     } else {
-        format!(in alloc; "help: {cure}\n")
+        put_filled(text, "help: @\n", cure)
     }
+}
+
+// Adds what is wrong, the line of the text with a mark under the place, and what helps.
+fn put_words(
+    said: &mut String,
+    words: &Words,
+    text: &str,
+    at: usize,
+    line_column: LineColumn,
+) -> Result<(), AllocError> {
+    said.push_str(words.cause.as_str())?;
+    said.push('\n')?;
+    put_marked_line(said, text, at, line_column)?;
+    put_help(said, words.cure.as_str())
+}
+
+// What stands behind the number of a fault of a reader.
+fn said(
+    alloc: Global,
+    text: &str,
+    broken: FaultKind,
+    at: usize,
+    line_column: LineColumn,
+) -> Result<String, AllocError> {
+    let words = words_of(alloc, text, broken, at)?;
+    let mut said = String::new(alloc);
+    put_words(&mut said, &words, text, at, line_column)?;
+    Ok(said)
 }
 
 /// A fault of a reader for people: the name of the file with line and column, the number of the fault and what is
@@ -47,13 +76,10 @@ pub fn explained(
         TellsAt name.now (place_shown text.now at) (codes "E0" ++ decimal (broken_number broken)) (string_bytes report)) }
 {
     let line_column = line_column_of(text, at);
-    let place = line_column_text(alloc, line_column)?;
     let number = broken.number();
-    let words = words_of(alloc, text, broken, at)?;
-    let cause = words.cause;
-    let marked = marked_line(alloc, text, at, line_column)?;
-    let help = help(alloc, words.cure.as_str())?;
-    format!(in alloc; "{name}{place}: E0{number}: {cause}\n{marked}{help}")
+    let said = said(alloc, text, broken, at, line_column)?;
+    let place = line_column_text(alloc, line_column)?;
+    format!(in alloc; "{name}{place}: E0{number}: {said}")
 }
 
 /// A fault for people of which no place is known: the name of the file, the fault, and what is said of it. Err: memory

@@ -1,9 +1,10 @@
 //! A rule of the language that is broken, and a name that stands twice, in words.
 
-use crate::extended_rules::extended_name_words;
+use crate::extended_rules::{INPUT_ASSIGNED, told_of_extended};
+use crate::found::name_in;
 use crate::fronts::{front_of, last_token};
+use crate::told::Told;
 use crate::words::Words;
-use node_sources::name_at;
 use sc_text::{Sign, Token, TokenKind, Word, tokens};
 use std::alloc::{AllocError, Global};
 use text_continuations::Grammar;
@@ -46,99 +47,90 @@ fn has_initial(alloc: Global, text: &str, at: usize) -> bool {
     }
 }
 
-// The words for a region of this name that has no one initial state.
-fn region_words(alloc: Global, text: &str, at: usize, name: &str) -> Result<Words, AllocError> {
-    let cause = if has_initial(alloc, text, at) {
-        format!(in alloc; "region `{name}` has more than one initial state")?
-    } else {
-        format!(in alloc; "region `{name}` has no initial state")?
-    };
-    let cure = String::from_str(
-        alloc,
-        "put `initial` before the one state with which it begins",
-    )?;
-    Ok(Words { cause, cure })
-}
+const MORE_INITIAL: Told = Told {
+    cause: "region `@` has more than one initial state",
+    cure: "put `initial` before the one state with which it begins",
+};
 
-// The words for a transition that begins with this word and cannot stand there.
-fn transition_words(alloc: Global, word: Word) -> Result<Words, AllocError> {
+const NO_INITIAL: Told = Told {
+    cause: "region `@` has no initial state",
+    cure: "put `initial` before the one state with which it begins",
+};
+
+const FINAL: Told = Told {
+    cause: "state `@` is final, and has regions or transitions",
+    cure: "leave them out, or `final`: where a final state is entered its region ends",
+};
+
+const GO: Told = Told {
+    cause: "`go` leaves a simple state, and this one has regions",
+    cure: "a superstate is left by `strong` or `weak`, or, when all its regions have ended, by `join`",
+};
+
+const JOIN: Told = Told {
+    cause: "this `join` stands at a state without regions, or is its second one",
+    cure: "a simple state is left by `go`, and a superstate by one `join` at most: put what it chooses into a state behind it",
+};
+
+const ABORT: Told = Told {
+    cause: "`strong` and `weak` leave a superstate, and this state has no regions",
+    cure: "a simple state is left by `go`",
+};
+
+// What is wrong with a transition that begins with this word and cannot stand there.
+fn told_of_transition(word: Word) -> Told {
     match word {
-        Word::Go => Words::of(
-            alloc,
-            "`go` leaves a simple state, and this one has regions",
-            "a superstate is left by `strong` or `weak`, or, when all its regions have ended, by `join`",
-        ),
-        Word::Join => Words::of(
-            alloc,
-            "this `join` stands at a state without regions, or is its second one",
-            "a simple state is left by `go`, and a superstate by one `join` at most: put what it chooses into a state behind it",
-        ),
-        _ => Words::of(
-            alloc,
-            "`strong` and `weak` leave a superstate, and this state has no regions",
-            "a simple state is left by `go`",
-        ),
+        Word::Go => GO,
+        Word::Join => JOIN,
+        _ => ABORT,
     }
 }
 
-// The words for a name at which a rule is broken, behind this token.
-fn name_words(
-    alloc: Global,
-    text: &str,
-    at: usize,
-    name: &str,
-    before: Option<TokenKind>,
-) -> Result<Words, AllocError> {
-    match before {
-        Some(TokenKind::Word(Word::Region)) => region_words(alloc, text, at, name),
-        Some(TokenKind::Word(Word::State)) => {
-            let cause = format!(in alloc;
-                "state `{name}` is final, and has regions or transitions"
-            )?;
-            let cure = String::from_str(
-                alloc,
-                "leave them out, or `final`: where a final state is entered its region ends",
-            )?;
-            Ok(Words { cause, cure })
-        }
-        _ if Grammar::of(text) == Grammar::ExtendedChart => {
-            extended_name_words(alloc, text, name, before)
-        }
-        _ => {
-            let cause = format!(in alloc; "the input `{name}` is assigned")?;
-            let cure = String::from_str(alloc, "assign an output or a local variable")?;
-            Ok(Words { cause, cure })
-        }
+// What is wrong with a name at which a rule is broken.
+fn told_of_name(alloc: Global, text: &str, at: usize, name: &str) -> Result<Told, AllocError> {
+    let grammar = Grammar::of(text);
+    match last_token(alloc, grammar.tokens(), front_of(text, at)) {
+        Some(TokenKind::Word(Word::Region)) => Ok(if has_initial(alloc, text, at) {
+            MORE_INITIAL
+        } else {
+            NO_INITIAL
+        }),
+        Some(TokenKind::Word(Word::State)) => Ok(FINAL),
+        before if grammar == Grammar::ExtendedChart => told_of_extended(alloc, text, name, before),
+        _ => Ok(INPUT_ASSIGNED),
     }
 }
 
 /// The words for a byte of a text at which a rule is broken. Err: memory was refused.
 pub(crate) fn rule_words(alloc: Global, text: &str, at: usize) -> Result<Words, AllocError> {
-    let name = name_at(alloc, text, at)?;
-    match Word::of(name.as_bytes()) {
-        Some(word) => transition_words(alloc, word),
-        None => {
-            let before = last_token(alloc, Grammar::of(text).tokens(), front_of(text, at))?;
-            name_words(alloc, text, at, name.as_str(), before)
-        }
-    }
+    let name = name_in(text, at);
+    let told = match Word::of(name.as_bytes()) {
+        Some(word) => told_of_transition(word),
+        None => told_of_name(alloc, text, at, name)?,
+    };
+    Words::told(alloc, told, name)
 }
 
-// What a name is of that stands behind this token.
-fn named(before: Option<TokenKind>) -> &'static str {
+// That a second name like it is given to what a name is of that stands behind this token.
+fn repeated(before: Option<TokenKind>) -> &'static str {
     match before {
-        Some(TokenKind::Word(Word::Region)) => "region of one superstate, or of the chart,",
-        Some(TokenKind::Word(Word::State)) => "state of one region",
-        Some(TokenKind::Word(Word::Bool | Word::Int) | TokenKind::Name(_)) => "variable",
-        _ => "label",
+        Some(TokenKind::Word(Word::Region)) => {
+            "a second region of one superstate, or of the chart, is named `@`"
+        }
+        Some(TokenKind::Word(Word::State)) => "a second state of one region is named `@`",
+        Some(TokenKind::Word(Word::Bool | Word::Int) | TokenKind::Name(_)) => {
+            "a second variable is named `@`"
+        }
+        _ => "a second label is named `@`",
     }
 }
 
 /// The words for a name at a byte of a text that stands twice. Err: memory was refused.
 pub(crate) fn repeated_words(alloc: Global, text: &str, at: usize) -> Result<Words, AllocError> {
-    let name = name_at(alloc, text, at)?;
-    let named = named(last_token(alloc, Grammar::of(text).tokens(), front_of(text, at))?);
-    let cause = format!(in alloc; "a second {named} is named `{name}`")?;
-    let cure = String::from_str(alloc, "rename one of them")?;
-    Ok(Words { cause, cure })
+    let before = last_token(alloc, Grammar::of(text).tokens(), front_of(text, at));
+    let told = Told {
+        cause: repeated(before),
+        cure: "rename one of them",
+    };
+    Words::told(alloc, told, name_in(text, at))
 }

@@ -232,7 +232,7 @@ const SCL_WORDS: [Spelling; 2] = [
 
 /// What to write for a piece of another language that stands at a byte of a text.
 pub(crate) fn for_sign(text: &str, at: usize) -> Option<&'static str> {
-    for spelling in SIGNS {
+    for spelling in &SIGNS {
         if stands_at(text, at, spelling.piece) {
             return Some(spelling.written);
         }

@@ -1,32 +1,33 @@
 //! What was opened in a text and not closed.
 
 use sc_text::{Language, Sign, Token, TokenKind, tokens};
-use std::alloc::{AllocError, Global};
+use std::alloc::Global;
 
-// The places of what is open behind these tokens, the last one last.
-fn open_behind(alloc: Global, tokens: &[Token]) -> Result<Vec<usize>, AllocError> {
-    let mut open = Vec::new(alloc);
-    for token in tokens {
+// The place of the last of these tokens that opens what none of them closes.
+fn open_in(tokens: &[Token]) -> Option<usize> {
+    let mut closed: usize = 0;
+    for token in tokens.iter().rev() {
         match token.kind {
-            TokenKind::Sign(Sign::OpenBrace | Sign::OpenParenthesis) => open.push(token.at)?,
             TokenKind::Sign(Sign::CloseBrace | Sign::CloseParenthesis) => {
-                let _ = open.pop();
+                closed = closed.saturating_add(1);
+            }
+            TokenKind::Sign(Sign::OpenBrace | Sign::OpenParenthesis) => {
+                if closed == 0 {
+                    return Some(token.at);
+                }
+                closed = closed.saturating_sub(1);
             }
             _ => {}
         }
     }
-    Ok(open)
+    None
 }
 
-/// The byte of the last `{` or `(` that these bytes of a text open and do not close. None: there is none. Err: memory
-/// was refused.
-pub(crate) fn last_open(
-    alloc: Global,
-    language: Language,
-    front: &str,
-) -> Result<Option<usize>, AllocError> {
+/// The byte of the last `{` or `(` that these bytes of a text open and do not close. None: there is none, or they are
+/// no list of tokens; or memory was refused.
+pub(crate) fn last_open(alloc: Global, language: Language, front: &str) -> Option<usize> {
     match tokens(alloc, language, front) {
-        Ok(tokens) => Ok(open_behind(alloc, tokens.as_slice())?.last().copied()),
-        Err(_) => Ok(None),
+        Ok(tokens) => open_in(tokens.as_slice()),
+        Err(_) => None,
     }
 }

@@ -1,25 +1,29 @@
 //! The nodes of a fault, in its order, and why each has to come before the next.
 
-use crate::edges::{name_of, reason, written};
-use crate::nodes::{Shown, node_text, note_text};
+use crate::edges::{name_of, reason};
+use crate::nodes::{Shown, put_node, put_note_margin, written_name};
+use crate::told::put_filled;
 use sc_graph::{NodeId, Place};
 use sqlite_items::at;
-use std::alloc::{AllocError, Global};
+use std::alloc::AllocError;
 
-// The note of why a node has to come before another.
-fn before_text(
-    alloc: Global,
+// Adds the note of why a node has to come before another.
+fn put_before(
+    text: &mut String,
     shown: &Shown<'_>,
     from: NodeId,
     to: NodeId,
-) -> Result<String, AllocError> {
-    match reason(alloc, shown.program, shown.links, from, to)? {
-        Some(words) => {
-            let note = format!(in alloc; "before node {to}: {words}")?;
-            note_text(alloc, shown, from, note.as_str())
-        }
-        None => Ok(String::new(alloc)),
+) -> Result<(), AllocError> {
+    let Some(words) = reason(shown.program, shown.links, from, to) else {
+        return Ok(());
+    };
+    put_note_margin(text, shown, from)?;
+    write!(text, "before node {to}: ")?;
+    match written_name(shown.program, from) {
+        Some(name) => put_filled(text, words, name.as_str())?,
+        None => text.push_str(words)?,
     }
+    text.push('\n')
 }
 
 // The node of a walk that comes behind the one of this number; the first one behind the last.
@@ -33,81 +37,64 @@ fn next_of(walk: &[NodeId], number: usize) -> Option<NodeId> {
     }
 }
 
-// A node of a walk, and why it has to come before the next one.
-fn step_line(
-    alloc: Global,
+// Adds a node of a walk, and why it has to come before the next one.
+fn put_step(
+    text: &mut String,
     shown: &Shown<'_>,
     walk: &[NodeId],
     number: usize,
     node: NodeId,
-) -> Result<String, AllocError> {
-    let line = node_text(alloc, shown, node, number)?;
-    let note = match next_of(walk, number) {
-        Some(next) => before_text(alloc, shown, node, next)?,
-        None => String::new(alloc),
-    };
-    format!(in alloc; "{line}{note}")
+) -> Result<(), AllocError> {
+    put_node(text, shown, node, number)?;
+    match next_of(walk, number) {
+        Some(next) => put_before(text, shown, node, next),
+        None => Ok(()),
+    }
 }
 
-/// The nodes of a closed walk, each of which has to come before the next, and the last before the first. Err: memory
-/// was refused.
-pub(crate) fn walk_text(
-    alloc: Global,
+/// Adds the nodes of a closed walk, each of which has to come before the next, and the last before the first. Err:
+/// memory was refused.
+pub(crate) fn put_walk(
+    text: &mut String,
     shown: &Shown<'_>,
     walk: &[NodeId],
-) -> Result<String, AllocError> {
-    let mut text = String::new(alloc);
+) -> Result<(), AllocError> {
     for (number, node) in walk.iter().enumerate() {
-        let part = step_line(alloc, shown, walk, number, *node)?;
-        text.push_str(part.as_str())?;
+        put_step(text, shown, walk, number, *node)?;
     }
-    Ok(text)
+    Ok(())
 }
 
-// What two nodes both do.
-fn both_text(alloc: Global, shown: &Shown<'_>, first: NodeId) -> Result<String, AllocError> {
-    let name = match shown.program.step(first) {
-        Some(step) => match written(step) {
-            Some((variable, _)) => name_of(shown.program, variable),
-            None => None,
-        },
-        None => None,
-    };
-    match name {
-        Some(name) => format!(in alloc; "both write `{name}`, and neither comes before the other"),
-        None => String::from_str(alloc, "neither comes before the other"),
-    }
-}
-
-/// Two nodes that are in conflict. Err: memory was refused.
-pub(crate) fn conflict_text(
-    alloc: Global,
+/// Adds two nodes that are in conflict. Err: memory was refused.
+pub(crate) fn put_conflict(
+    text: &mut String,
     shown: &Shown<'_>,
     first: NodeId,
     second: NodeId,
-) -> Result<String, AllocError> {
-    let one = node_text(alloc, shown, first, 0)?;
-    let other = node_text(alloc, shown, second, 0)?;
-    let words = both_text(alloc, shown, first)?;
-    let note = note_text(alloc, shown, second, words.as_str())?;
-    format!(in alloc; "{one}{other}{note}")
+) -> Result<(), AllocError> {
+    put_node(text, shown, first, 0)?;
+    put_node(text, shown, second, 0)?;
+    put_note_margin(text, shown, second)?;
+    if let Some(name) = written_name(shown.program, first) {
+        put_filled(text, "both write `@`, and ", name.as_str())?;
+    }
+    text.push_str("neither comes before the other\n")
 }
 
-// A node, and why it has to come before another.
-fn pair_text(
-    alloc: Global,
+// Adds a node, and why it has to come before another.
+fn put_pair(
+    text: &mut String,
     shown: &Shown<'_>,
     first: NodeId,
     second: NodeId,
-) -> Result<String, AllocError> {
-    let one = node_text(alloc, shown, first, 0)?;
-    let note = before_text(alloc, shown, first, second)?;
-    let other = node_text(alloc, shown, second, 0)?;
-    format!(in alloc; "{one}{note}{other}")
+) -> Result<(), AllocError> {
+    put_node(text, shown, first, 0)?;
+    put_before(text, shown, first, second)?;
+    put_node(text, shown, second, 0)
 }
 
-// The node at which a place is shown: of a thread that where it begins.
-fn node_at(shown: &Shown<'_>, place: Place) -> Option<NodeId> {
+/// The first node of a place: of a thread that where it begins.
+pub(crate) fn first_node(shown: &Shown<'_>, place: Place) -> Option<NodeId> {
     match place {
         Place::Image | Place::Variable(_) => None,
         Place::Thread(thread) => shown.program.entry(thread),
@@ -115,28 +102,23 @@ fn node_at(shown: &Shown<'_>, place: Place) -> Option<NodeId> {
     }
 }
 
-/// The nodes of a place at which a rule is broken. Err: memory was refused.
-pub(crate) fn place_text(
-    alloc: Global,
+/// Adds the nodes of a place at which a rule is broken. Err: memory was refused.
+pub(crate) fn put_place(
+    text: &mut String,
     shown: &Shown<'_>,
     place: Place,
-) -> Result<String, AllocError> {
+) -> Result<(), AllocError> {
     if let Place::Pair(first, second) = place {
-        return pair_text(alloc, shown, first, second);
+        return put_pair(text, shown, first, second);
     }
     if let Place::Variable(variable) = place {
         return match name_of(shown.program, variable) {
-            Some(name) => format!(in alloc; "variable `{name}`\n"),
-            None => Ok(String::new(alloc)),
+            Some(name) => put_filled(text, "variable `@`\n", name.as_str()),
+            None => Ok(()),
         };
     }
-    match node_at(shown, place) {
-        Some(node) => node_text(alloc, shown, node, 0),
-        None => Ok(String::new(alloc)),
+    match first_node(shown, place) {
+        Some(node) => put_node(text, shown, node, 0),
+        None => Ok(()),
     }
-}
-
-/// The first node of a place.
-pub(crate) fn first_node(shown: &Shown<'_>, place: Place) -> Option<NodeId> {
-    node_at(shown, place)
 }

@@ -1,15 +1,15 @@
 //! The faults of readers in words.
 
-use crate::extended_rules::{extended_kind_words, made_name_words};
-use crate::found::{found, stands_at};
+use crate::extended_rules::{has_double_underscore, told_of_extended_kind};
+use crate::found::{found, name_in, stands_at};
 use crate::fronts::front_of;
 use crate::grammar_words::grammar_words;
 use crate::limit_words::limit_words;
 use crate::rule_words::{repeated_words, rule_words};
 use crate::spellings::for_sign;
+use crate::told::{Told, filled};
 use crate::unknown_words::unknown_words;
 use block_comments::without_comments;
-use node_sources::name_at;
 use sc_text::FaultKind;
 use std::alloc::{AllocError, Global};
 use text_continuations::Grammar;
@@ -22,88 +22,85 @@ pub(crate) struct Words {
 }
 
 impl Words {
-    /// These words. Err: memory was refused.
-    pub(crate) fn of(alloc: Global, cause: &str, cure: &str) -> Result<Words, AllocError> {
-        let cause = String::from_str(alloc, cause)?;
-        let cure = String::from_str(alloc, cure)?;
+    /// No words.
+    pub(crate) fn none(alloc: Global) -> Words {
+        Words {
+            cause: String::new(alloc),
+            cure: String::new(alloc),
+        }
+    }
+
+    /// What is said of this piece of a text. Err: memory was refused.
+    pub(crate) fn told(alloc: Global, told: Told, piece: &str) -> Result<Words, AllocError> {
+        let cause = filled(alloc, told.cause, piece)?;
+        let cure = String::from_str(alloc, told.cure)?;
         Ok(Words { cause, cure })
     }
 }
 
-// What is wrong where no token stands.
-fn token_cause(alloc: Global, text: &str, at: usize) -> Result<String, AllocError> {
-    match text.as_bytes().get(at) {
-        Some(b'_') => {
-            String::from_str(
-                alloc,
-                "in a chart no name begins with `_`: such names are reserved",
-            )
-        }
-        Some(byte) if byte.is_ascii_digit() => {
-            let number = name_at(alloc, text, at)?;
-            format!(in alloc; "`{number}` begins with 0 and goes on")
-        }
-        _ => {
-            let found = found(alloc, text, at)?;
-            format!(in alloc; "{found} is nothing of the language")
-        }
-    }
-}
+const MADE_NAME: Told = Told {
+    cause: "@ has two underscores side by side: in an extended chart such names are reserved",
+    cure: "leave one of them away",
+};
 
-// What helps where no token stands.
-fn token_cure(text: &str, at: usize) -> &'static str {
-    match text.as_bytes().get(at) {
-        Some(b'_') => "let it begin with a letter",
-        Some(byte) if byte.is_ascii_digit() => "leave the 0 away: numbers are to the base of ten",
-        _ => for_sign(text, at).unwrap_or("write it otherwise; outside comments all is ASCII"),
-    }
-}
+const COMMENT: Told = Told {
+    cause: "the comment that begins here is not closed",
+    cure: "write `*/` where it ends",
+};
 
-// The words for a name in an extended chart that only reductions make. None: none stands there.
-fn made_words(alloc: Global, text: &str, at: usize) -> Result<Option<Words>, AllocError> {
-    if Grammar::of(text) != Grammar::ExtendedChart {
-        return Ok(None);
-    }
-    let name = name_at(alloc, text, at)?;
-    made_name_words(alloc, name.as_str())
-}
+const UNDERSCORE: Told = Told {
+    cause: "in a chart no name begins with `_`: such names are reserved",
+    cure: "let it begin with a letter",
+};
 
-// The words for a place where no token stands. A block comment stands there only if it is not closed.
-fn token_words(alloc: Global, text: &str, at: usize) -> Result<Words, AllocError> {
-    if let Some(words) = made_words(alloc, text, at)? {
-        return Ok(words);
+const BEGINS_WITH_ZERO: Told = Told {
+    cause: "@ begins with 0 and goes on",
+    cure: "leave the 0 away: numbers are to the base of ten",
+};
+
+// What is wrong where no token stands. A block comment stands there only if it is not closed.
+fn told_of_token(text: &str, at: usize) -> Told {
+    if Grammar::of(text) == Grammar::ExtendedChart && has_double_underscore(name_in(text, at)) {
+        return MADE_NAME;
     }
     if stands_at(text, at, "/*") {
-        return Words::of(
-            alloc,
-            "the comment that begins here is not closed",
-            "write `*/` where it ends",
-        );
+        return COMMENT;
     }
-    let cause = token_cause(alloc, text, at)?;
-    let cure = String::from_str(alloc, token_cure(text, at))?;
-    Ok(Words { cause, cure })
+    match text.as_bytes().get(at) {
+        Some(b'_') => UNDERSCORE,
+        Some(b'0'..=b'9') => BEGINS_WITH_ZERO,
+        _ => Told {
+            cause: "@ is nothing of the language",
+            cure: for_sign(text, at).unwrap_or("write it otherwise; outside comments all is ASCII"),
+        },
+    }
 }
 
-// The words for an expression of another kind that is new in extended charts. None: it is none of these.
-fn new_kind_words(alloc: Global, text: &str, at: usize) -> Result<Option<Words>, AllocError> {
+// The words for a place where no token stands.
+fn token_words(alloc: Global, text: &str, at: usize) -> Result<Words, AllocError> {
+    let found = found(alloc, text, at)?;
+    Words::told(alloc, told_of_token(text, at), found.as_str())
+}
+
+const KIND: Told = Told {
+    cause: "the expression that begins here has another kind than its place wants, or an operator has an operand of the wrong one",
+    cure: "truth values and numbers do not mix: write `x != 0` for a test of a number",
+};
+
+// What is wrong with an expression of another kind.
+fn told_of_kind(alloc: Global, text: &str, at: usize) -> Result<Told, AllocError> {
     if Grammar::of(text) != Grammar::ExtendedChart {
-        return Ok(None);
+        return Ok(KIND);
     }
-    let name = name_at(alloc, text, at)?;
-    extended_kind_words(alloc, front_of(text, at), name.as_str())
+    match told_of_extended_kind(alloc, front_of(text, at))? {
+        Some(told) => Ok(told),
+        None => Ok(KIND),
+    }
 }
 
 // The words for an expression of another kind.
 fn kind_words(alloc: Global, text: &str, at: usize) -> Result<Words, AllocError> {
-    match new_kind_words(alloc, text, at)? {
-        Some(words) => Ok(words),
-        None => Words::of(
-            alloc,
-            "the expression that begins here has another kind than its place wants, or an operator has an operand of the wrong one",
-            "truth values and numbers do not mix: write `x != 0` for a test of a number",
-        ),
-    }
+    Words::told(alloc, told_of_kind(alloc, text, at)?, name_in(text, at))
 }
 
 // The fault of a text at a byte in words, by what stands before and at that byte. What stands there is no block comment
