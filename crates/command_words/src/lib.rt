@@ -4,9 +4,9 @@
 mod arguments;
 mod parts;
 mod run_rules;
-mod run_verb;
 mod said;
 mod verbs;
+mod words;
 mod workers;
 
 pub use arguments::{Asking, Request, Unread, Wanted, read_words};

@@ -1,60 +1,79 @@
-//! What the verbs are made of, as the library of command lines knows them. A command stands in a box, from which it is
-//! dropped by one call.
+//! What the verbs are made of, as it is written down, and as the library of command lines knows it.
 
+use crate::words::{Form, Word};
 use clap::{Arg, ArgAction, Command};
-use sqlite_items::Boxed;
 use std::alloc::{AllocError, Global};
 
-/// The operand of a command that is the name of a file.
-pub(crate) fn file_name<'a>(
-    alloc: Global,
-    name: &'a str,
-    shown: &'a str,
-    about: &'a str,
-) -> Arg<'a> {
-    Arg::new(alloc, name)
-        .value_name(shown)
-        .help(about)
-        .required(true)
-        .action(ArgAction::Set)
+/// A verb.
+#[derive(Clone, Copy)]
+pub(crate) struct Verb {
+    pub(crate) name: &'static str,
+    pub(crate) about: &'static str,
+    /// What stands at the end of its help.
+    pub(crate) help: &'static str,
+    pub(crate) words: &'static [Word],
 }
 
-/// The operand that is a source text.
-pub(crate) fn source_name<'a>(alloc: Global) -> Arg<'a> {
-    file_name(
-        alloc,
-        "file",
-        "FILE",
-        "The file of the chart or SCL text, or - for standard input",
-    )
+impl Form {
+    fn is_operand(self) -> bool {
+        match self {
+            Form::Operand | Form::Operands => true,
+            Form::Flag | Form::Valued | Form::OneOf(_, _) => false,
+        }
+    }
+
+    fn action(self) -> ArgAction {
+        match self {
+            Form::Operand | Form::Valued | Form::OneOf(_, _) => ArgAction::Set,
+            Form::Operands => ArgAction::Append,
+            Form::Flag => ArgAction::SetTrue,
+        }
+    }
 }
 
-/// The operand that is an image.
-pub(crate) fn image_name<'a>(alloc: Global) -> Arg<'a> {
-    file_name(alloc, "image", "IMAGE", "The file of the image")
+// The argument, with what cannot be given beside it, and what has to be.
+fn beside<'a>(arg: Arg<'a>, bars: &[&'a str], needs: &[&'a str]) -> Result<Arg<'a>, AllocError> {
+    arg.conflicts_with_all(bars)?.requires_all(needs)
 }
 
-/// A command over one file. Err: memory was refused.
-pub(crate) fn over_one<'a>(
-    alloc: Global,
-    verb: &'a str,
-    about: &'a str,
-    example: &'a str,
-    operand: Arg<'a>,
-) -> Result<Boxed<Command<'a>>, AllocError> {
-    let command = Command::new(alloc, verb)
-        .about(about)
-        .after_help(example)
-        .arg(operand)?;
-    Boxed::new(alloc, command)
+// The argument, but for what its form alone has.
+fn begun(alloc: Global, word: Word) -> Result<Arg<'static>, AllocError> {
+    let form = word.form();
+    let arg = Arg::new(alloc, word.name())
+        .value_names(word.shown())
+        .help(word.about())
+        .required(form.is_operand())
+        .action(form.action());
+    beside(arg, word.bars(), word.needs())
 }
 
-/// The command with one more thing that can be asked of it. Err: memory was refused.
-pub(crate) fn with<'a>(
-    alloc: Global,
-    command: Boxed<Command<'a>>,
-    option: Arg<'a>,
-) -> Result<Boxed<Command<'a>>, AllocError> {
-    let command = command.into_inner().arg(option)?;
-    Boxed::new(alloc, command)
+fn arg_of(alloc: Global, word: Word) -> Result<Arg<'static>, AllocError> {
+    let arg = begun(alloc, word)?;
+    Ok(match word.form() {
+        Form::Operand => arg,
+        Form::Operands => arg.num_args(1..),
+        Form::Flag | Form::Valued => arg.long(word.name()),
+        Form::OneOf(values, usual) => arg
+            .long(word.name())
+            .value_parser(values)
+            .hide_possible_values(true)
+            .default_value(usual),
+    })
+}
+
+fn args_of(alloc: Global, words: &[Word]) -> Result<Vec<Arg<'static>>, AllocError> {
+    let mut args = Vec::new(alloc);
+    for word in words {
+        args.push(arg_of(alloc, *word)?)?;
+    }
+    Ok(args)
+}
+
+/// The command of a verb. Err: memory was refused.
+pub(crate) fn command_of<'a>(alloc: Global, verb: &Verb) -> Result<Command<'a>, AllocError> {
+    let args = args_of(alloc, verb.words)?;
+    Command::new(alloc, verb.name)
+        .about(verb.about)
+        .after_help(verb.help)
+        .args(args)
 }

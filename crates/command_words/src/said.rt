@@ -4,6 +4,7 @@ ghost use Rattle.std.specs.Prelude.{◌≡◌, map, option_map, string_bytes};
 ghost use Rattle.command_words.specs.Said.{chart_in, names_seen, said_seen, source_in, step, workers_in, workers_named};
 ghost use Rattle.command_words.specs.Said.{by_file, ended, opened, read_on, said_by, start, valued, with_name};
 ghost use Rattle.command_words.specs.Said.{explained, in_json, is_option, named, warned};
+ghost use Rattle.command_words.specs.Inside.Flags.{flagged};
 ghost use Rattle.command_words.specs.Said.{by_rule, from_in, ruled, rules_seen, save_in};
 ghost use Rattle.command_words.specs.Said.{with_chart, with_source, with_workers};
 
@@ -294,6 +295,21 @@ impl<'a> Said<'a> {
         said
     }
 
+    // With a flag, an option that says its value in the same word, or a name.
+    fn flagged(self, word: &'a str) -> Option<Said<'a>>
+        ensures { option_map said_seen result ≡ flagged (said_seen self.entry) word.now }
+    {
+        match word {
+            "--strict" => self.ruled(self.rules.strictly()),
+            "--skip-bad-lines" => self.ruled(self.rules.skipping()),
+            "--explain" => self.explained(),
+            "--json" => self.in_json(),
+            "--warn" => self.warned(),
+            word if is_option(word) => self.valued(word),
+            word => self.named(word),
+        }
+    }
+
     // With a word that may be an option.
     fn opened(self, word: &'a str) -> Option<Said<'a>>
         ensures { option_map said_seen result ≡ opened (said_seen self.entry) word.now }
@@ -305,13 +321,7 @@ impl<'a> Said<'a> {
             "--chart" => Some(self.awaits(Next::Chart)),
             "--from" => Some(self.awaits(Next::From)),
             "--save" => Some(self.awaits(Next::Save)),
-            "--strict" => self.ruled(self.rules.strictly()),
-            "--skip-bad-lines" => self.ruled(self.rules.skipping()),
-            "--explain" => self.explained(),
-            "--json" => self.in_json(),
-            "--warn" => self.warned(),
-            word if is_option(word) => self.valued(word),
-            word => self.named(word),
+            word => self.flagged(word),
         }
     }
 
