@@ -4,6 +4,7 @@ ghost use Rattle.std.specs.Prelude.{◌≡◌, IfErr, IfOk, IsTrue, OnErr, OnOk,
 ghost use Rattle.sc_graph.specs.Tick.{AreAccepted, Rests, initial};
 ghost use Rattle.tick_core.specs.Parked.{IsSpaceOf};
 ghost use Rattle.embedded_machine.specs.Cells.{inputs_in};
+ghost use Rattle.embedded_machine.specs.Inside.{count_inputs};
 ghost use Rattle.embedded_machine.specs.Refusals.{Lacks, give_inputs};
 ghost use Rattle.embedded_machine.specs.declared.fault.MachineFault.TheVariants as fault;
 ghost use Rattle.embedded_machine.specs.Ticks.{IsFirst, Reacts, Ticked};
@@ -55,15 +56,7 @@ impl Machine {
     pub fn of(alloc: Global, opened: Opened) -> Result<Machine, AllocError>
         ensures { IfOk result (IsFirst opened) }
     {
-        let program = opened.verified().image().program();
-        let control = Control::initial(alloc, program)?;
-        let inputs = room_for_inputs(alloc, program.variables())?;
-        let space = TickSpace::of(alloc, opened.verified())?.park();
-        let carried = Carried {
-            control,
-            inputs,
-            space,
-        };
+        let carried = carried_first(alloc, opened.verified())?;
         Ok(Machine { opened, carried })
     }
 
@@ -114,6 +107,24 @@ impl Machine {
     {
         self.carried.control = control;
     }
+}
+
+// What the first tick of an image takes over.
+fn carried_first(alloc: Global, verified: &Verified) -> Result<Carried, AllocError>
+    ensures control { IfOk result (λ c. c.control ≡ initial verified.now.program) }
+    ensures rests { IfOk result (λ c. Rests verified.now.program c.control) }
+    ensures inputs { IfOk result (λ c. length c.inputs ≡ count_inputs verified.now.program.variables) }
+    ensures space { IfOk result (λ c. IsSpaceOf verified.now c.space) }
+{
+    let program = verified.image().program();
+    let control = Control::initial(alloc, program)?;
+    let inputs = room_for_inputs(alloc, program.variables())?;
+    let space = TickSpace::of(alloc, verified)?.park();
+    Ok(Carried {
+        control,
+        inputs,
+        space,
+    })
 }
 
 // A whole tick under the inputs, and how many steps it took.
