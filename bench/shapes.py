@@ -59,6 +59,20 @@ def rows(threads, steps):
          ("goto", f"L{i}")] for i in range(threads)])]
 
 
+def within(regions, beside):
+    """Three threads that each add an input to an output of their own, each within so many regions, in each of which so many
+    threads stand beside that have ended after the first ticks."""
+    variables = [Variable("E", "input", "bool"), Variable("d", "input", "int")]
+    variables += [Variable(f"n{i}", "output", "int") for i in range(3)]
+
+    def level(i, left):
+        if left:
+            return [("fork", [level(i, left - 1), *[[["pause"]] for _ in range(beside)]])]
+        return [("label", f"L{i}"), ["pause"],
+                ("if", load(0), [("set", 2 + i, ("add", load(2 + i), load(1)))], []), ("goto", f"L{i}")]
+    return variables, [("fork", [level(i, regions) for i in range(3)])]
+
+
 def named(count):
     """Inputs of long names, and one step a tick that looks at none of them."""
     variables = [Variable("i" * 60 + f"{i:04}", "input", "bool") for i in range(count)]
@@ -84,6 +98,8 @@ PROGRAMS = {
     "16 inputs of 64 letters": (named(16), 20000),
     "128 inputs of 64 letters": (named(128), 1000),
     "one step a line": (named(0), 200000),
+    "3 counters, each within 5 regions": (within(5, 0), 50000),
+    "the same beside 930 threads that ended": (within(5, 62), 50000),
 }
 
 
