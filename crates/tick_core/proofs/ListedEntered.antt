@@ -15,7 +15,7 @@ use Rattle.sc_graph.specs.Valid.{IsValid}
 use Rattle.tick_laws.proofs.Lists.{same_or_not, get_contains, get_set_same, get_set_other}
 use Rattle.tick_core.specs.Inside.Sorting.{OwnRows, StandSorted, row_at, step_priority, sorted_one}
 use Rattle.tick_core.specs.Inside.Astir.{IsAstir, AstirListed}
-use Rattle.tick_core.specs.Inside.Waking.{EntersRow, EnteredThose}
+use Rattle.tick_core.specs.Inside.Waking.{EntersRow, EnteredThose, NobodyElse}
 use Rattle.tick_core.proofs.Covered.{astir_of}
 use Rattle.tick_core.proofs.OwnRoom.{kept_there}
 
@@ -52,6 +52,25 @@ enters_row p q c t rows valid ok own below =
 pub passes_row : (p : Program) (q : Tables) (c : Control) (t : ℕ) (rows : Rows) → OwnRows p q rows → ¬ (t < length p.threads) → EntersRow p q c t rows rows
 passes_row p q c t rows own past =
     record { own_rows = own; own = λ less. absurd (past less); others = λ u right. right; rest = λ u prior stands. inl stands }
+
+-- so is who cannot step and, where everybody in a row can, stands in none
+pub passes_idle : (p : Program) (q : Tables) (c : Control) (t : ℕ) (rows : Rows) → OwnRows p q rows → NobodyElse p q c rows → t < length p.threads
+    → step_priority p q c t ≡ None → EntersRow p q c t rows rows
+passes_idle p q c t rows own right below idle =
+    record {
+      own_rows = own;
+      own = λ less. nowhere (get_or rows.classes t None) refl;
+      others = λ u stands. stands;
+      rest = λ u prior stands. inl stands;
+    }
+  where
+    there : slice_get rows.classes t ≡ Some (get_or rows.classes t None)
+    there = slice_get-get_or rows.classes t None (omega (arith, below, own.long))
+
+    nowhere : (o : Option ℕ) → get_or rows.classes t None ≡ o → slice_get rows.classes t ≡ Some (step_priority p q c t)
+    nowhere None is = there ∙ (ap Some is ∙ ap Some (sym idle))
+    nowhere (Some prior) is =
+        let some : Some prior ≡ None = sym (right t prior (there ∙ ap Some is)) ∙ idle in absurd (cc)
 
 pub entered_none : (p : Program) (q : Tables) (c : Control) (threads : List ℕ) (rows : Rows) → OwnRows p q rows → AreEmpty rows
     → EnteredThose p q c threads 0 rows

@@ -4,9 +4,10 @@ use Rattle.std.proofs.Common.{option_map, refl, sym, ap, ◌∙◌, inl, inr, ar
 use Rattle.std.proofs.lemmas.Option.{same_Some, slice_get_within, slice_get-map}
 use Rattle.sc_graph.specs.declared.control.Status.{Status}
 use Rattle.sc_graph.specs.declared.control.Status.TheVariants as status
-use Rattle.sc_graph.specs.Tick.{woken}
+use Rattle.sc_graph.specs.Program.{Program, entry_of}
+use Rattle.sc_graph.specs.Tick.{woken, root_started, statuses_at_start}
 use Rattle.tick_laws.proofs.Lists.{get_contains, get_set_same, get_set_other, same_or_not, map_some}
-use Rattle.tick_core.specs.Inside.There.{woken_by, woken_at, WokenBelow}
+use Rattle.tick_core.specs.Inside.There.{woken_by, woken_at, root_at_entry, WokenBelow}
 use Rattle.tick_core.specs.Inside.Astir.{IsAstir, AstirListed}
 
 woken_twice : (s : Status) → woken (woken s) ≡ woken s
@@ -87,3 +88,38 @@ module _ (before after : List Status) (threads : List ℕ) (n : ℕ) (past : len
 
   pub all_woken : after ≡ map woken before
   all_woken = sym (all_fixed after fixed_at) ∙ h.same
+
+-- where all but an absent root are woken, it comes to stand at its entry
+pub root_entered : (p : Program) (ss : List Status) → root_at_entry (entry_of p zero) (map woken ss) ≡ statuses_at_start p ss
+root_entered p [] = none_entered (entry_of p zero)
+  where
+    none_entered : (o : Option ℕ) → root_at_entry o [] ≡ []
+    none_entered None = refl
+    none_entered (Some entry) = refl
+root_entered p (s ∷ ss) = some_entered (entry_of p zero) s
+  where
+    some_entered : (o : Option ℕ) (s : Status) → root_at_entry o (woken s ∷ map woken ss) ≡ root_started o s ∷ map woken ss
+    some_entered None s = refl
+    some_entered (Some entry) status.Absent = refl
+    some_entered (Some entry) (status.At n) = refl
+    some_entered (Some entry) (status.Waiting j) = refl
+    some_entered (Some entry) (status.Paused d) = refl
+    some_entered (Some entry) status.Ended = refl
+
+pub root_set : (entry : ℕ) (ss : List Status) → slice_get ss 0 ≡ Some status.Absent
+    → slice_set ss 0 (status.At entry) ≡ root_at_entry (Some entry) ss
+root_set entry [] is = absurd (cc)
+root_set entry (status.Absent ∷ ss) is = refl
+root_set entry (status.At n ∷ ss) is = absurd (cc)
+root_set entry (status.Waiting j ∷ ss) is = absurd (cc)
+root_set entry (status.Paused d ∷ ss) is = absurd (cc)
+root_set entry (status.Ended ∷ ss) is = absurd (cc)
+
+pub root_stays : (o : Option ℕ) (ss : List Status) → slice_get ss 0 ≢ Some status.Absent → ss ≡ root_at_entry o ss
+root_stays None ss other = refl
+root_stays (Some entry) [] other = refl
+root_stays (Some entry) (status.Absent ∷ ss) other = absurd (other refl)
+root_stays (Some entry) (status.At n ∷ ss) other = refl
+root_stays (Some entry) (status.Waiting j ∷ ss) other = refl
+root_stays (Some entry) (status.Paused d ∷ ss) other = refl
+root_stays (Some entry) (status.Ended ∷ ss) other = refl

@@ -1,5 +1,5 @@
 -- A list into which threads are put one by one, and one of which those that must stay are put to the front, one by one.
-use Rattle.std.proofs.Common.{◌≡◌, ◌≢◌, ℕ, zero, suc, ◌+◌, ◌<◌, ◌≤◌, ◌⊎◌, List, [], ◌∷◌, length, length-set, take, Some, Contains, slice_get, slice_set}
+use Rattle.std.proofs.Common.{◌≡◌, ◌≢◌, Bool, ℕ, zero, suc, ◌+◌, ◌<◌, ◌≤◌, ◌⊎◌, List, [], ◌∷◌, length, length-set, take, Some, Contains, slice_get, slice_set}
 use Rattle.std.proofs.Common.{IsTrue, refl, sym, ap, subst, ◌∙◌, inl, inr, arith}
 use Rattle.std.proofs.lemmas.Option.{same_Some, slice_get_within}
 use Rattle.sc_graph.specs.declared.control.Control.{Control}
@@ -39,6 +39,12 @@ gains_all before after threads n past h =
   where
     there : IsTrue after.is_whole → (t : ℕ) → (i : ℕ) × (slice_get threads i ≡ Some t) → Contains after.threads.items t
     there holds t at = h.gained holds at.0 t (omega (arith, slice_get_within threads at.0 t at.1, past)) at.1
+
+-- whatever the list says of who may be gone
+pub gains_marked : (before after : Listed) (threads : List ℕ) (marked : Bool) → Gains before threads after
+    → Gains before threads (record after { may_be_gone = marked })
+gains_marked before after threads marked g =
+    record { room = g.room; all = g.all; kept = g.kept; whole = g.whole; gained = g.gained }
 
 pub below_contained : (threads : List ℕ) (n t : ℕ) → StandsBelow threads n t → Contains threads t
 below_contained threads n t s = contains_get threads s.at t s.is

@@ -19,6 +19,8 @@ pub(crate) struct Listed {
     pub(crate) is_whole: bool,
     // whether each one is listed that was present as the tick began
     pub(crate) is_all: bool,
+    // whether somebody may have ended or become absent since such were left out
+    pub(crate) may_be_gone: bool,
 }
 
 impl Listed {
@@ -31,6 +33,7 @@ impl Listed {
             let thread = threads[at];
             self.add(thread);
         }
+        self.may_be_gone = true;
     }
 
     // Lists a thread too, where it is not found.
@@ -49,6 +52,17 @@ impl Listed {
         }
     }
 
+    /// Leaves out whoever is absent or has ended, but the root, where somebody may be so since this was done last.
+    pub(crate) fn leave_out_gone(&mut self, control: &Control)
+        ensures kept { StaysListed control.now self.old.threads.items self.new.threads.items }
+        ensures room { vec_capacity self.new.threads ≡ vec_capacity self.old.threads }
+    {
+        if self.may_be_gone {
+            keep_astir(control, &mut self.threads, &mut self.places);
+            self.may_be_gone = false;
+        }
+    }
+
     /// Lists everybody, where the list is not whole.
     pub(crate) fn make_whole(&mut self, program: &Program)
         requires { length program.now.threads ≤ vec_capacity self.old.threads }
@@ -64,8 +78,8 @@ impl Listed {
     }
 }
 
-/// Leaves out of a list whoever is absent or has ended, but the root, and who stands in it before.
-pub(crate) fn keep_astir(control: &Control, threads: &mut Vec<ThreadId>, places: &mut Vec<usize>)
+// Leaves out of a list whoever is absent or has ended, but the root, and who stands in it before.
+fn keep_astir(control: &Control, threads: &mut Vec<ThreadId>, places: &mut Vec<usize>)
     ensures kept { StaysListed control.now threads.old.items threads.new.items }
     ensures room { vec_capacity threads.new ≡ vec_capacity threads.old }
 {

@@ -12,7 +12,7 @@ ghost use Rattle.tick_core.specs.Inside.Sorting.{sorted_parent, ended_parent, so
 ghost use Rattle.tick_core.specs.Inside.Sorting.{StandSorted};
 ghost use Rattle.buckets.specs.Rows.{AreEmpty};
 ghost use Rattle.tick_core.specs.Inside.Astir.{AstirListed};
-ghost use Rattle.tick_core.specs.Inside.Waking.{EntersRow};
+ghost use Rattle.tick_core.specs.Inside.Waking.{EntersRow, NobodyElse};
 
 use crate::joins::Joins;
 use crate::kept_claim::KeptClaim;
@@ -253,6 +253,7 @@ fn enter(
     requires valid { IsValid program.now tables.now }
     requires configuration { IsConfiguration program.now control.now }
     requires rows { OwnRows program.now tables.now rows.old }
+    requires right { NobodyElse program.now tables.now control.now rows.old }
     ensures { EntersRow program.now tables.now control.now thread rows.old rows.new }
 {
     if thread < program.thread_count() {
@@ -274,9 +275,12 @@ fn enter_there(
     requires configuration { IsConfiguration program.now control.now }
     requires place { thread < length program.now.threads }
     requires rows { OwnRows program.now tables.now rows.old }
+    requires right { NobodyElse program.now tables.now control.now rows.old }
     ensures { EntersRow program.now tables.now control.now thread rows.old rows.new }
 {
-    rows.set(thread, step_priority(tables, control, living, thread));
+    if let Some(priority) = step_priority(tables, control, living, thread) {
+        rows.set(thread, Some(priority));
+    }
 }
 
 /// Rows for the threads of a verified image, in which nobody stands.

@@ -1,15 +1,16 @@
 //! The start of a tick.
 
 ghost use Rattle.std.specs.Prelude.{◌≡◌, IfOk, length, map};
-ghost use Rattle.sc_graph.specs.Tick.{Inputs, AreAccepted, given, value_at_start, values_at_start, woken, root_started};
+ghost use Rattle.sc_graph.specs.Program.{entry_of};
+ghost use Rattle.sc_graph.specs.Tick.{Inputs, AreAccepted, given, value_at_start, values_at_start, woken};
 ghost use Rattle.sc_graph.specs.Tick.{statuses_at_start, start};
 ghost use Rattle.tick_core.specs.Inside.Given.{HasOwnNames, Gives};
-ghost use Rattle.tick_core.specs.Inside.There.{woken_at};
+ghost use Rattle.tick_core.specs.Inside.There.{woken_at, root_at_entry};
 ghost use Rattle.tick_core.specs.Inside.Astir.{AstirListed};
 
 use crate::copying::copied;
 use crate::given::Given;
-use sc_graph::{Control, NodeId, Program, Role, Status, ThreadId, Variable};
+use sc_graph::{Control, Program, Role, Status, ThreadId, Variable};
 use sc_values::{Name, Value};
 use sqlite_items::Items;
 use std::alloc::{AllocError, Global};
@@ -95,22 +96,16 @@ fn started_value(variable: &Variable, value: Option<Value>, present: Value) -> V
 fn start_statuses(program: &Program, statuses: &mut Items<Status>)
     ensures { statuses.new ≡ statuses_at_start program.now statuses.old }
 {
-    let root = statuses.get(0).copied();
     wake_all(statuses);
-    if let Some(root) = root {
-        statuses.set(0, started_root(program.entry(0), root));
-    }
+    enter_root(program, statuses);
 }
 
 fn start_listed_statuses(program: &Program, listed: &[ThreadId], statuses: &mut Items<Status>)
     requires { AstirListed statuses.old listed.now }
     ensures { statuses.new ≡ statuses_at_start program.now statuses.old }
 {
-    let root = statuses.get(0).copied();
     wake_listed(listed, statuses);
-    if let Some(root) = root {
-        statuses.set(0, started_root(program.entry(0), root));
-    }
+    enter_root(program, statuses);
 }
 
 fn wake_listed(listed: &[ThreadId], statuses: &mut Items<Status>)
@@ -142,12 +137,15 @@ fn wake_all(statuses: &mut Items<Status>)
     }
 }
 
-fn started_root(entry: Option<NodeId>, root: Status) -> Status
-    ensures { result ≡ root_started entry root }
+// Makes an absent root stand at its entry, where it has one.
+#[tactic(auto, using(crate::proofs::ListedWoken::root_set, crate::proofs::ListedWoken::root_stays))]
+fn enter_root(program: &Program, statuses: &mut Items<Status>)
+    ensures { statuses.new ≡ root_at_entry (entry_of program.now 0) statuses.old }
 {
-    match (entry, root) {
-        (Some(entry), Status::Absent) => Status::At(entry),
-        _ => woken(root),
+    if let Some(Status::Absent) = statuses.get(0).copied() {
+        if let Some(entry) = program.entry(0) {
+            statuses.set(0, Status::At(entry));
+        }
     }
 }
 

@@ -1,5 +1,5 @@
 -- The threads that are present as a tick begins, in a list.
-use Rattle.std.specs.Prelude.{ℕ, ◌≡◌, ◌<◌, ◌≤◌, ◌⊎◌, Option, Some, None, List, [], Contains, length, map, slice_get, slice_index, slice_set}
+use Rattle.std.specs.Prelude.{ℕ, ◌≡◌, ◌<◌, ◌≤◌, ◌⊎◌, Option, Some, None, List, [], ◌∷◌, Contains, length, map, slice_get, slice_index, slice_set}
 use Rattle.sc_graph.specs.declared.control.Control.{Control}
 use Rattle.sc_graph.specs.declared.control.Status.{Status}
 use Rattle.sc_graph.specs.declared.control.Status.TheVariants as status
@@ -61,6 +61,11 @@ woken_by statuses t (Some s) = slice_set statuses t (woken s)
 -- with thread t woken
 abbrev pub woken_at : List Status → ℕ → List Status
 woken_at statuses t = woken_by statuses t (slice_get statuses t)
+
+-- with an absent root at its entry, where it has one
+abbrev pub root_at_entry : Option ℕ → List Status → List Status
+root_at_entry (Some entry) (status.Absent ∷ others) = status.At entry ∷ others
+root_at_entry other statuses = statuses
 
 -- of the threads at places below n in the list each one is awake, and whoever else was woken stands as waking him leads
 pub record WokenBelow (before after : List Status) (threads : List ℕ) (n : ℕ) : Type 0 where

@@ -37,8 +37,12 @@ pub record EntersRow (p : Program) (q : Tables) (c : Control) (t : ℕ) (before 
   pub others : (u : ℕ) → slice_get before.classes u ≡ Some (step_priority p q c u) → slice_get after.classes u ≡ Some (step_priority p q c u)
   pub rest : (u prior : ℕ) → IsIn after.classes u prior → IsIn before.classes u prior ⊎ (step_priority p q c u ≡ Some prior)
 
+-- whoever stands in a row can step, and stands in that of its priority
+abbrev pub NobodyElse : Program → Tables → Control → Rows → Type 0
+NobodyElse p q c rows = (t prior : ℕ) → IsIn rows.classes t prior → step_priority p q c t ≡ Some prior
+
 -- the threads at places below n in the list stand in their rows, and nobody stands in another one
 pub record EnteredThose (p : Program) (q : Tables) (c : Control) (threads : List ℕ) (n : ℕ) (rows : Rows) : Type 0 where
   pub own_rows : OwnRows p q rows
   pub placed : (i t : ℕ) → i < n → slice_get threads i ≡ Some t → t < length p.threads → slice_get rows.classes t ≡ Some (step_priority p q c t)
-  pub rest : (u prior : ℕ) → IsIn rows.classes u prior → step_priority p q c u ≡ Some prior
+  pub rest : NobodyElse p q c rows

@@ -157,6 +157,7 @@ impl<'a> TickState<'a> {
             places,
             is_all,
             is_whole: _,
+            may_be_gone: _,
         } = listed;
         clear_unlisted(is_all, &mut begun.statuses);
         let space = TickSpace {

@@ -9,7 +9,7 @@ ghost use Rattle.tick_core.specs.Inside.Astir.{Covers, FitsTick};
 ghost use Rattle.tick_core.specs.Inside.Given.{Gives, HasPlaces};
 
 use crate::inputs::Inputs;
-use crate::listed::{Listed, keep_astir};
+use crate::listed::Listed;
 use crate::sorting::sort_listed;
 use crate::starting::start_listed;
 use crate::state::{BeginFault, TickState};
@@ -76,7 +76,7 @@ fn start_anew(
     listed.make_whole(program);
     start_listed(program, given, listed.threads.as_slice(), present);
     copy_changed(listed.threads.as_slice(), present, begun);
-    keep_astir(present, &mut listed.threads, &mut listed.places);
+    listed.leave_out_gone(present);
     listed.is_whole = true;
     listed.is_all = false;
 }

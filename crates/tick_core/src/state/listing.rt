@@ -136,6 +136,7 @@ fn begin_in<'a>(verified: &'a Verified, room: ParkedSpace, begun: Control) -> Ti
         places,
         is_whole: true,
         is_all: true,
+        may_be_gone: true,
     };
     TickState {
         verified,

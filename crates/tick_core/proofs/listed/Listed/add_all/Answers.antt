@@ -1,6 +1,6 @@
-use Rattle.std.proofs.Common.{◌≡◌, Some, slice_get, get_or, arith}
+use Rattle.std.proofs.Common.{◌≡◌, true, Some, slice_get, get_or, arith}
 use Rattle.std.proofs.lemmas.Option.{slice_get-get_or}
-use Rattle.tick_core.proofs.StaysListed.{gains_none, gains_more, gains_all}
+use Rattle.tick_core.proofs.StaysListed.{gains_none, gains_more, gains_all, gains_marked}
 use Rattle.tick_core.proofs.listed.Listed.add_all.Goals as goal
 
 pub loop-at-init : goal.loop-at-init
@@ -13,4 +13,6 @@ loop-at-preserved c =
     gains_more c.args.self.now c.loop-at.self c.add.new.self c.args.threads.now c.loop-at.at thread c.loop-at.invariant is c.add.ensures
 
 pub returns : goal.returns
-returns c = gains_all c.args.self.now c.loop-at.self c.args.threads.now c.loop-at.at (omega (arith, c.loop-at-test.false)) c.loop-at.invariant
+returns c =
+    gains_marked c.args.self.now c.loop-at.self c.args.threads.now true
+    (gains_all c.args.self.now c.loop-at.self c.args.threads.now c.loop-at.at (omega (arith, c.loop-at-test.false)) c.loop-at.invariant)

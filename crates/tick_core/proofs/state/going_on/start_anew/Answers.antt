@@ -32,11 +32,11 @@ returns-clause-covers c =
     let covers : Covers c.args.begun.now.statuses c.args.present.now.statuses c.make_whole.new.self.threads.items =
     c.make_whole.ensures.covers c.args.begun.now.statuses c.args.present.now.statuses c.requires.root c.requires.begun.statuses c.requires.present.statuses
     c.requires.fits.whole in
-    covers_kept c.start_listed.new.control c.make_whole.new.self.threads.items c.keep_astir.new.threads.items c.copy_changed.new.to.statuses
+    covers_kept c.start_listed.new.control c.make_whole.new.self.threads.items c.leave_out_gone.new.self.threads.items c.copy_changed.new.to.statuses
     (ap (λ d. d.statuses) c.copy_changed.ensures) covers.root
     (subst (λ ss. AstirListed ss c.make_whole.new.self.threads.items) (sym c.start_listed.ensures.statuses)
     (covers_started c.args.program.now c.args.begun.now.statuses c.args.present.now.statuses c.make_whole.new.self.threads.items covers).astir)
-    c.keep_astir.ensures.kept
+    c.leave_out_gone.ensures.kept
 
 pub returns-clause-fits : goal.returns-clause-fits
 returns-clause-fits c =
@@ -44,9 +44,9 @@ returns-clause-fits c =
     c.make_whole.ensures.covers c.args.begun.now.statuses c.args.present.now.statuses c.requires.root c.requires.begun.statuses c.requires.present.statuses
     c.requires.fits.whole in
     fits_anew c.args.program.now c.copy_changed.new.to c.start_listed.new.control _
-    (omega (arith, c.requires.fits.room, c.make_whole.ensures.room, c.keep_astir.ensures.room)) refl
-    (covers_kept c.start_listed.new.control c.make_whole.new.self.threads.items c.keep_astir.new.threads.items c.copy_changed.new.to.statuses
+    (omega (arith, c.requires.fits.room, c.make_whole.ensures.room, c.leave_out_gone.ensures.room)) refl
+    (covers_kept c.start_listed.new.control c.make_whole.new.self.threads.items c.leave_out_gone.new.self.threads.items c.copy_changed.new.to.statuses
     (ap (λ d. d.statuses) c.copy_changed.ensures) covers.root
     (subst (λ ss. AstirListed ss c.make_whole.new.self.threads.items) (sym c.start_listed.ensures.statuses)
     (covers_started c.args.program.now c.args.begun.now.statuses c.args.present.now.statuses c.make_whole.new.self.threads.items covers).astir)
-    c.keep_astir.ensures.kept)
+    c.leave_out_gone.ensures.kept)
