@@ -25,7 +25,7 @@ pub(crate) struct Listed {
 
 impl Listed {
     /// Lists these threads too. Where there is no room, it is not whole.
-    #[inline(never)]
+    #[inline(always)]
     pub(crate) fn add_all(&mut self, threads: &[ThreadId])
         ensures { Gains self.old threads.now self.new }
     {

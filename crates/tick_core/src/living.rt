@@ -11,7 +11,7 @@ use sc_graph::{Control, NodeId, Program, Status, ThreadId};
 
 /// After a step of a thread: where it forked its children are counted anew, and where it ended its
 /// parent waits for one less.
-#[inline(never)]
+#[inline(always)]
 pub(crate) fn count_after(
     joins: &Joins,
     program: &Program,

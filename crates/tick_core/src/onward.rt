@@ -1,11 +1,16 @@
 //! A step of a thread, with the counts and rows behind it.
 
-ghost use Rattle.std.specs.Prelude.{◌≡◌, IfSome, slice_set};
+ghost use Rattle.std.specs.Prelude.{◌≡◌, ◌<◌, IfSome, length, slice_set};
 ghost use Rattle.std.specs.Bool.{OnTrue};
 ghost use Rattle.buckets.specs.Rows.{HasRoom};
 ghost use Rattle.sc_graph.specs.Control.{status_of};
+ghost use Rattle.sc_graph.specs.Tick.{IsConfiguration};
+ghost use Rattle.sc_graph.specs.Valid.{IsValid};
 ghost use Rattle.tick_core.specs.Inside.Astir.{Gains};
-ghost use Rattle.tick_core.specs.Inside.Sorting.{children_at};
+ghost use Rattle.tick_core.specs.Inside.Joins.{FindsForks};
+ghost use Rattle.tick_core.specs.Inside.Living.{CountsLiving, counted_at};
+ghost use Rattle.tick_core.specs.Inside.Sorting.{AreOpen, OwnRows, children_at, ready_row, sorted_one, sorted_parent};
+ghost use Rattle.tick_core.specs.Inside.Sorting.{ended_parent, sorted_all};
 ghost use Rattle.tick_core.specs.Inside.Onward.{MayStep, Goes, LeadsOn, StaysAt, own_row};
 
 use crate::joins::Joins;
@@ -54,15 +59,54 @@ pub(crate) fn step_on(
             }
         }
         None => {
-            let children = children_at(joins, program, status);
-            count_after(joins, program, control, living, thread);
-            sort_after(
-                program, tables, control, living, claims, claimed, rows, thread, children,
+            settle_others(
+                joins, program, tables, claims, claimed, control, living, rows, listed, thread, status,
             );
-            listed.add_all(children);
             None
         }
     }
+}
+
+// Behind a step of a thread that stood so: counts and sorts anew whom it can have made enabled or not, and lists the
+// children whom it forked or left.
+#[inline(never)]
+fn settle_others(
+    joins: &Joins,
+    program: &Program,
+    tables: &Tables,
+    claims: &[Option<KeptClaim>],
+    claimed: usize,
+    control: &Control,
+    living: &mut Vec<usize>,
+    rows: &mut Rows,
+    listed: &mut Listed,
+    thread: ThreadId,
+    status: Status,
+)
+    requires forks { FindsForks program.now joins.now }
+    requires valid { IsValid program.now tables.now }
+    requires opened { AreOpen program.now claims.now claimed }
+    requires configuration { IsConfiguration program.now control.now }
+    requires place { thread < length program.now.threads }
+    requires counts { CountsLiving program.now control.now
+        (counted_at program.now control.now living.old.items thread (status_of control.now thread)) }
+    requires rows { OwnRows program.now tables.now rows.old }
+    ensures counted { living.new.items
+        ≡ counted_at program.now control.now living.old.items thread (status_of control.now thread) }
+    ensures sorted { rows.new ≡ sorted_all (ready_row program.now tables.now control.now claims.now)
+        (children_at program.now status)
+        (sorted_parent (ready_row program.now tables.now control.now claims.now)
+        (sorted_one (ready_row program.now tables.now control.now claims.now) rows.old thread)
+        (ended_parent program.now thread (status_of control.now thread))) }
+    ensures rows { OwnRows program.now tables.now rows.new }
+    ensures listed { Gains listed.old (children_at program.now status) listed.new }
+{
+    let children = children_at(joins, program, status);
+    count_after(joins, program, control, living, thread);
+    sort_after(
+        program, tables, control, living, claims, claimed, rows, thread, children,
+    );
+    listed.add_all(children);
 }
 
 // Puts a thread that stands so and concerns nobody else into its row. Whether it stands there already.

@@ -24,7 +24,7 @@ use verifier::Verified;
 
 /// Sorts anew whom a step of a thread can have made enabled or not: the thread, its parent where it has
 /// ended, and the children whom the step forked or left.
-#[inline(never)]
+#[inline(always)]
 pub(crate) fn sort_after(
     program: &Program,
     tables: &Tables,

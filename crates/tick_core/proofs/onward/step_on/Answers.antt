@@ -1,13 +1,12 @@
-use Rattle.std.proofs.Common.{◌∙◌, ap, refl, sym, subst}
+use Rattle.std.proofs.Common.{ap, refl, subst}
 use Rattle.std.specs.Bool.{OnTrue}
-use Rattle.tick_core.specs.Inside.Living.{CountsLiving}
 use Rattle.tick_core.specs.Inside.Onward.{StaysAt}
 use Rattle.tick_core.specs.Inside.Astir.{Gains}
 use Rattle.tick_core.specs.Inside.Sorting.{children_at}
 use Rattle.tick_core.proofs.Covered.{gains_nobody}
 use Rattle.tick_core.proofs.LivingChildren.{counts_after}
 use Rattle.tick_core.proofs.NextSteps.{next_room, moves_on, steps_anew, leads_on}
-use Rattle.tick_core.proofs.Unmoved.{stays_configuration, children_in_at}
+use Rattle.tick_core.proofs.Unmoved.{stays_configuration}
 use Rattle.tick_core.proofs.onward.step_on.Goals as goal
 
 pub move_on-requires : goal.move_on-requires
@@ -37,34 +36,27 @@ returns-then-move_on-clause-on c =
     c.args.thread c.requires.may.place c.in-Some.next c.take_step.ensures.stepped c.in-Some.ensures.alone c.args.rows.now
     (subst (λ b. OnTrue b (StaysAt c.args.tables.now c.args.thread c.args.rows.now c.in-Some.next)) c.if-move_on.true c.move_on.ensures.stays)
 
-pub sort_after-requires-clause-counts : goal.sort_after-requires-clause-counts
-sort_after-requires-clause-counts c =
-    subst (CountsLiving c.args.program.now c.take_step.new.control) (sym c.deref.ensures.value)
-    (counts_after c.args.program.now c.args.tables.now c.requires.may.valid c.args.control.now c.take_step.new.control c.requires.may.configuration
-    c.args.thread c.requires.may.place c.take_step.ensures.stepped c.requires.may.enabled c.args.living.now.items c.count_after.new.counts.items
-    c.requires.may.counted
-    c.args.program.now _ refl refl c.count_after.ensures)
+pub settle_others-requires-clause-counts : goal.settle_others-requires-clause-counts
+settle_others-requires-clause-counts c =
+    counts_after c.args.program.now c.args.tables.now c.requires.may.valid c.args.control.now c.take_step.new.control c.requires.may.configuration
+    c.args.thread c.requires.may.place c.take_step.ensures.stepped c.requires.may.enabled c.args.living.now.items _ c.requires.may.counted
+    c.args.program.now _ refl refl refl
 
-pub sort_after-requires-clause-configuration : goal.sort_after-requires-clause-configuration
-sort_after-requires-clause-configuration c =
+pub settle_others-requires-clause-configuration : goal.settle_others-requires-clause-configuration
+settle_others-requires-clause-configuration c =
     stays_configuration c.args.program.now c.args.tables.now c.requires.may.valid c.args.control.now c.take_step.new.control c.requires.may.configuration
     c.args.thread c.take_step.ensures.stepped
-
-pub sort_after-requires-clause-places : goal.sort_after-requires-clause-places
-sort_after-requires-clause-places c =
-    children_in_at c.args.program.now c.args.program.now c.args.tables.now c.requires.may.valid refl c.args.status c.children_at-children.result.now
-    c.children_at-children.ensures
 
 pub returns-in-None-clause-goes : goal.returns-in-None-clause-goes
 returns-in-None-clause-goes c =
     steps_anew c.args.program.now c.args.tables.now c.requires.may.valid c.args.control.now c.take_step.new.control c.requires.may.configuration
-    c.args.thread c.requires.may.place c.take_step.ensures.stepped c.args.claims.now c.args.rows.now c.sort_after.new.rows c.count_after.new.counts.items
+    c.args.thread c.requires.may.place c.take_step.ensures.stepped c.args.claims.now c.args.rows.now c.settle_others.new.rows
+    c.settle_others.new.living.items
     (counts_after c.args.program.now c.args.tables.now c.requires.may.valid c.args.control.now c.take_step.new.control c.requires.may.configuration
-    c.args.thread c.requires.may.place c.take_step.ensures.stepped c.requires.may.enabled c.args.living.now.items c.count_after.new.counts.items
+    c.args.thread c.requires.may.place c.take_step.ensures.stepped c.requires.may.enabled c.args.living.now.items c.settle_others.new.living.items
     c.requires.may.counted
-    c.args.program.now _ refl refl c.count_after.ensures)
-    c.args.status c.children_at-children.result.now c.requires.standing c.children_at-children.ensures c.sort_after.ensures.sorted
-    c.sort_after.ensures.rows
+    c.args.program.now _ refl refl c.settle_others.ensures.counted)
+    c.args.status _ c.requires.standing refl c.settle_others.ensures.sorted c.settle_others.ensures.rows
 
 pub returns-then-move_on-clause-listed : goal.returns-then-move_on-clause-listed
 returns-then-move_on-clause-listed c = gains_nobody c.args.listed.now _ c.in-Some.ensures.alone.alone
@@ -74,5 +66,5 @@ returns-else-move_on-clause-listed c = gains_nobody c.args.listed.now _ c.in-Som
 
 pub returns-in-None-clause-listed : goal.returns-in-None-clause-listed
 returns-in-None-clause-listed c =
-    subst (λ ks. Gains c.args.listed.now ks c.add_all.new.self)
-    (c.children_at-children.ensures ∙ ap (children_at c.args.program.now) c.requires.standing) c.add_all.ensures
+    subst (λ ks. Gains c.args.listed.now ks c.settle_others.new.listed) (ap (children_at c.args.program.now) c.requires.standing)
+    c.settle_others.ensures.listed
