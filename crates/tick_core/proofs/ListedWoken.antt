@@ -1,5 +1,5 @@
 -- Where all that are astir are woken, everybody is.
-use Rattle.std.proofs.Common.{◌≡◌, ◌≢◌, ℕ, zero, suc, ◌+◌, ◌<◌, ◌≤◌, ◌⊎◌, List, [], ◌∷◌, length, map, Option, Some, None, Contains, slice_get, slice_set}
+use Rattle.std.proofs.Common.{◌≡◌, ◌≢◌, ℕ, zero, suc, ◌+◌, ◌<◌, ◌≤◌, ◌⊎◌, List, [], ◌∷◌, length, length-set, map, Option, Some, None, Contains, slice_get, slice_set}
 use Rattle.std.proofs.Common.{option_map, refl, sym, ap, ◌∙◌, inl, inr, arith}
 use Rattle.std.proofs.lemmas.Option.{same_Some, slice_get_within, slice_get-map}
 use Rattle.sc_graph.specs.declared.control.Status.{Status}
@@ -7,7 +7,7 @@ use Rattle.sc_graph.specs.declared.control.Status.TheVariants as status
 use Rattle.sc_graph.specs.Program.{Program, entry_of}
 use Rattle.sc_graph.specs.Tick.{woken, root_started, statuses_at_start}
 use Rattle.tick_laws.proofs.Lists.{get_contains, get_set_same, get_set_other, same_or_not, map_some}
-use Rattle.tick_core.specs.Inside.There.{woken_by, woken_at, root_at_entry, WokenBelow}
+use Rattle.tick_core.specs.Inside.There.{woken_by, woken_at, root_at_entry, CopiedBelow, StandsFrom, WokenBelow}
 use Rattle.tick_core.specs.Inside.Astir.{IsAstir, AstirListed}
 
 woken_twice : (s : Status) → woken (woken s) ≡ woken s
@@ -123,3 +123,21 @@ root_stays (Some entry) (status.At n ∷ ss) other = refl
 root_stays (Some entry) (status.Waiting j ∷ ss) other = refl
 root_stays (Some entry) (status.Paused d ∷ ss) other = refl
 root_stays (Some entry) (status.Ended ∷ ss) other = refl
+
+-- where the thread at this place is woken, whoever stood by the others as by these, but those from this place on, does so still
+pub copied_still : (from to : List Status) (threads : List ℕ) (n t : ℕ) → CopiedBelow from to threads n → slice_get threads n ≡ Some t
+    → CopiedBelow (woken_at from t) to threads n
+copied_still from to threads n t h is = record { long = h.long ∙ sym (long (slice_get from t)); rest = λ u. by u (same_or_not u t) }
+  where
+    long : (o : Option Status) → length (woken_by from t o) ≡ length from
+    long None = refl
+    long (Some s) = length-set from t (woken s)
+
+    other_by : (u : ℕ) → u ≢ t → StandsFrom threads n u ⊎ (slice_get to u ≡ slice_get from u)
+        → StandsFrom threads n u ⊎ (slice_get to u ≡ slice_get (woken_at from t) u)
+    other_by u other (inl stands) = inl stands
+    other_by u other (inr same) = inr (same ∙ sym (awake_other from t u (slice_get from t) other))
+
+    by : (u : ℕ) → (u ≡ t) ⊎ (u ≢ t) → StandsFrom threads n u ⊎ (slice_get to u ≡ slice_get (woken_at from t) u)
+    by u (inl same) = inl (record { at = n; past = omega arith; is = is ∙ ap Some (sym same) })
+    by u (inr other) = other_by u other (h.rest u)

@@ -1,5 +1,6 @@
 -- How the values at the start of a tick are put one after the other.
-use Rattle.std.proofs.Common.{◌≡◌, ℕ, zero, suc, ◌+◌, List, [], ◌∷◌, ◌++◌, take, drop, set, Some, slice_get, sym, ap, ◌∙◌, add-one}
+use Rattle.std.proofs.Common.{◌≡◌, ℕ, zero, suc, ◌+◌, ◌<◌, ◌≤◌, List, [], ◌∷◌, ◌++◌, length, take, drop, set, Some, slice_get, refl, sym, ap, subst, ◌∙◌, add-one, arith}
+use Rattle.std.proofs.lemmas.List.{take_all}
 use Rattle.std.proofs.lemmas.Option.{none-some, same_Some}
 use Rattle.sc_values.specs.declared.value.Value.{Value}
 use Rattle.sc_graph.specs.declared.program.Variable.{Variable}
@@ -24,3 +25,22 @@ pub value_more : (inputs : Inputs) (vs : List Variable) (ws : List Value) (x : �
     → v ≡ value_at_start inputs a a.role w → values_from inputs vs (set ws x v) (x + 1) ≡ values_from inputs vs ws x
 value_more inputs vs ws x a w v i j is =
     ap (values_from inputs vs (set ws x v)) (add-one x) ∙ (ap (λ u. values_from inputs vs (set ws x u) (suc x)) is ∙ value_put inputs vs ws x a w i j)
+
+put_both : (vs ws : List Value) (x : ℕ) (v : Value) → x < length vs → x < length ws → take x vs ≡ take x ws
+    → take (suc x) (set vs x v) ≡ take (suc x) (set ws x v)
+put_both [] ws x v less more same = absurd (omega (arith, less))
+put_both (u ∷ vs) [] x v less more same = absurd (omega (arith, more))
+put_both (u ∷ vs) (w ∷ ws) zero v less more same = refl
+put_both (u ∷ vs) (w ∷ ws) (suc x) v less more same =
+    let heads : u ≡ w = cc (same) in
+    let tails : take x vs ≡ take x ws = cc (same) in
+    ap (λ z. z ∷ take (suc x) (set vs x v)) heads ∙ ap (λ zs. w ∷ zs) (put_both vs ws x v (omega (arith, less)) (omega (arith, more)) tails)
+
+-- where the first values are the same, and the same one is put behind them, there is one more that is
+pub taken_more : (vs ws : List Value) (x : ℕ) (v : Value) → x < length vs → x < length ws → take x vs ≡ take x ws
+    → take (x + 1) (set vs x v) ≡ take (x + 1) (set ws x v)
+taken_more vs ws x v less more same =
+    subst (λ n. take n (set vs x v) ≡ take n (set ws x v)) (sym (add-one x)) (put_both vs ws x v less more same)
+
+pub taken_all : (vs ws : List Value) (n : ℕ) → length vs ≤ n → length ws ≤ n → take n vs ≡ take n ws → vs ≡ ws
+taken_all vs ws n past more same = sym (take_all n vs past) ∙ (same ∙ take_all n ws more)

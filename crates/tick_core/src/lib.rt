@@ -19,6 +19,7 @@ mod living;
 mod onward;
 mod short_codes;
 mod sorting;
+mod started_twice;
 mod starting;
 mod state;
 mod step_hook;

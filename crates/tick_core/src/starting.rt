@@ -80,7 +80,8 @@ fn start_values(variables: &[Variable], given: &[Option<Value>], values: &mut It
     }
 }
 
-fn started_value(variable: &Variable, value: Option<Value>, present: Value) -> Value
+/// The value of a variable as a tick starts, where this is given to it, and where it has that one.
+pub(crate) fn started_value(variable: &Variable, value: Option<Value>, present: Value) -> Value
     ensures { (inputs : Inputs) → value ≡ given inputs variable.now.name
         → result ≡ value_at_start inputs variable.now variable.now.role present }
 {
@@ -137,9 +138,9 @@ fn wake_all(statuses: &mut Items<Status>)
     }
 }
 
-// Makes an absent root stand at its entry, where it has one.
+/// Makes an absent root stand at its entry, where it has one.
 #[tactic(auto, using(crate::proofs::ListedWoken::root_set, crate::proofs::ListedWoken::root_stays))]
-fn enter_root(program: &Program, statuses: &mut Items<Status>)
+pub(crate) fn enter_root(program: &Program, statuses: &mut Items<Status>)
     ensures { statuses.new ≡ root_at_entry (entry_of program.now 0) statuses.old }
 {
     if let Some(Status::Absent) = statuses.get(0).copied() {
@@ -149,8 +150,8 @@ fn enter_root(program: &Program, statuses: &mut Items<Status>)
     }
 }
 
-// A paused thread comes to stand at its depth.
-fn woken(status: Status) -> Status
+/// A paused thread comes to stand at its depth.
+pub(crate) fn woken(status: Status) -> Status
     ensures { result ≡ woken status }
 {
     match status {

@@ -11,9 +11,8 @@ ghost use Rattle.tick_core.specs.Inside.Given.{Gives, HasPlaces};
 use crate::inputs::Inputs;
 use crate::listed::Listed;
 use crate::sorting::sort_listed;
-use crate::starting::start_listed;
+use crate::started_twice::start_twice;
 use crate::state::{BeginFault, TickState};
-use crate::there::copy_changed;
 use sc_graph::{Control, Program};
 use sc_values::Value;
 
@@ -74,8 +73,7 @@ fn start_anew(
     ensures covers { Covers begun.new.statuses present.new.statuses listed.new.threads.items }
 {
     listed.make_whole(program);
-    start_listed(program, given, listed.threads.as_slice(), present);
-    copy_changed(listed.threads.as_slice(), present, begun);
+    start_twice(program, given, listed.threads.as_slice(), present, begun);
     listed.leave_out_gone(present);
     listed.is_whole = true;
     listed.is_all = false;
