@@ -25,6 +25,7 @@ pub mod Taken
 pub mod Fresh
 pub mod StateKept
 mod GoingOn
+mod SpareKept
 pub mod Claiming
 pub mod SameClaim
 pub mod EveryOrder

@@ -60,7 +60,8 @@ pub(crate) fn step_on(
         }
         None => {
             settle_others(
-                joins, program, tables, claims, claimed, control, living, rows, listed, thread, status,
+                joins, program, tables, claims, claimed, control, living, rows, listed, thread,
+                status,
             );
             None
         }

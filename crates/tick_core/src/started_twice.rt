@@ -12,7 +12,8 @@ use sc_graph::{Control, Program, Status, ThreadId, Variable};
 use sc_values::Value;
 use sqlite_items::Items;
 
-/// The same as `start_listed`, and makes another configuration the same, in which whoever stands otherwise is listed.
+/// The same as `start` where all threads that are astir are listed: it looks at no other. Makes another configuration the
+/// same, in which whoever stands otherwise is listed.
 pub(crate) fn start_twice(
     program: &Program,
     given: &[Option<Value>],
@@ -32,7 +33,12 @@ pub(crate) fn start_twice(
     ensures values { length control.new.variables ≡ length control.old.variables }
     ensures same { other.new ≡ control.new }
 {
-    start_values_twice(program.variables(), given, &mut control.variables, &mut other.variables);
+    start_values_twice(
+        program.variables(),
+        given,
+        &mut control.variables,
+        &mut other.variables,
+    );
     start_statuses_twice(program, listed, &mut control.statuses, &mut other.statuses);
 }
 

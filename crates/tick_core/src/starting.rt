@@ -5,12 +5,11 @@ ghost use Rattle.sc_graph.specs.Program.{entry_of};
 ghost use Rattle.sc_graph.specs.Tick.{Inputs, AreAccepted, given, value_at_start, values_at_start, woken};
 ghost use Rattle.sc_graph.specs.Tick.{statuses_at_start, start};
 ghost use Rattle.tick_core.specs.Inside.Given.{HasOwnNames, Gives};
-ghost use Rattle.tick_core.specs.Inside.There.{woken_at, root_at_entry};
-ghost use Rattle.tick_core.specs.Inside.Astir.{AstirListed};
+ghost use Rattle.tick_core.specs.Inside.There.{root_at_entry};
 
 use crate::copying::copied;
 use crate::given::Given;
-use sc_graph::{Control, Program, Role, Status, ThreadId, Variable};
+use sc_graph::{Control, Program, Role, Status, Variable};
 use sc_values::{Name, Value};
 use sqlite_items::Items;
 use std::alloc::{AllocError, Global};
@@ -33,25 +32,6 @@ pub(crate) fn started(
         start(program, given.values(), &mut control);
     }
     Ok(control)
-}
-
-/// The same as `start` where all threads that are astir are listed: it looks at no other.
-pub(crate) fn start_listed(
-    program: &Program,
-    given: &[Option<Value>],
-    listed: &[ThreadId],
-    control: &mut Control,
-)
-    requires values { length control.old.variables ≡ length program.now.variables }
-    requires given { length given.now ≡ length program.now.variables }
-    requires listed { AstirListed control.old.statuses listed.now }
-    ensures start { (inputs : Inputs) → Gives program.now.variables inputs given.now
-        → control.new ≡ start program.now inputs control.old }
-    ensures statuses { control.new.statuses ≡ statuses_at_start program.now control.old.statuses }
-    ensures values { length control.new.variables ≡ length control.old.variables }
-{
-    start_values(program.variables(), given, &mut control.variables);
-    start_listed_statuses(program, listed, &mut control.statuses);
 }
 
 /// Makes of a configuration the start of a tick from it, under what is given: inputs are written, paused
@@ -99,34 +79,6 @@ fn start_statuses(program: &Program, statuses: &mut Items<Status>)
 {
     wake_all(statuses);
     enter_root(program, statuses);
-}
-
-fn start_listed_statuses(program: &Program, listed: &[ThreadId], statuses: &mut Items<Status>)
-    requires { AstirListed statuses.old listed.now }
-    ensures { statuses.new ≡ statuses_at_start program.now statuses.old }
-{
-    wake_listed(listed, statuses);
-    enter_root(program, statuses);
-}
-
-fn wake_listed(listed: &[ThreadId], statuses: &mut Items<Status>)
-    requires { AstirListed statuses.old listed.now }
-    ensures { statuses.new ≡ map woken statuses.old }
-{
-    for at in 0..listed.len() {
-        let thread = listed[at];
-        wake_one(statuses, thread);
-    }
-}
-
-fn wake_one(statuses: &mut Items<Status>, thread: ThreadId)
-    ensures { statuses.new ≡ woken_at statuses.old thread }
-{
-    let at = thread as usize;
-    if at < statuses.len() {
-        let status = statuses.as_slice()[at];
-        statuses.set(at, woken(status));
-    }
 }
 
 fn wake_all(statuses: &mut Items<Status>)

@@ -32,7 +32,8 @@ use crate::joins::Joins;
 use crate::kept_claim::KeptClaim;
 use crate::listed::Listed;
 use crate::sorting::rows_of;
-use crate::starting::{start, start_listed};
+use crate::started_twice::start_twice;
+use crate::starting::start;
 use buckets::Rows;
 use bytecode::Image;
 pub(crate) use ending::present_value;
@@ -279,11 +280,12 @@ impl<'a> TickSpace<'a> {
         }
         let mut begun = control;
         if room.list_present(verified, &begun) {
-            start_listed(
+            start_twice(
                 program,
                 room.given.values(),
                 room.listed.as_slice(),
                 &mut begun,
+                &mut room.spare,
             );
             return Ok(begin_listed(verified, room, begun));
         }

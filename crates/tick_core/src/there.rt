@@ -8,10 +8,8 @@ ghost use Rattle.sc_graph.specs.Tick.{IsConfiguration};
 ghost use Rattle.sc_graph.specs.Valid.{IsFormed};
 ghost use Rattle.tick_core.specs.Inside.Joins.{FindsForks};
 ghost use Rattle.tick_core.specs.Inside.Living.{CountsLiving, lives};
-ghost use Rattle.tick_core.specs.Inside.There.{AllListed, AreAbsent, AreListed, children_waited, waited_at, copied_at};
-ghost use Rattle.tick_core.specs.Inside.Astir.{ChangedListed};
+ghost use Rattle.tick_core.specs.Inside.There.{AllListed, AreAbsent, AreListed, children_waited, waited_at};
 
-use crate::copying::copy_items;
 use crate::joins::Joins;
 use crate::living::put;
 use crate::stepping::put_status;
@@ -171,36 +169,5 @@ fn clear_all(statuses: &mut Items<Status>)
 {
     for thread in 0..statuses.len() {
         statuses.set(thread, Status::Absent);
-    }
-}
-
-// Makes these threads stand as in other statuses: where nobody else stood otherwise, all statuses are the same then.
-fn copy_listed(listed: &[ThreadId], from: &[Status], to: &mut Items<Status>)
-    requires listed { ChangedListed from.now to.old listed.now }
-    requires places { length to.old ≡ length from.now }
-    ensures { to.new ≡ from.now }
-{
-    for at in 0..listed.len() {
-        let thread = listed[at];
-        copy_one(from, to, thread);
-    }
-}
-
-/// Makes a configuration the same as another, where whoever stands otherwise in it is listed.
-pub(crate) fn copy_changed(listed: &[ThreadId], from: &Control, to: &mut Control)
-    requires listed { ChangedListed from.now.statuses to.old.statuses listed.now }
-    requires values { length to.old.variables ≡ length from.now.variables }
-    requires statuses { length to.old.statuses ≡ length from.now.statuses }
-    ensures { to.new ≡ from.now }
-{
-    copy_items(from.variables.as_slice(), &mut to.variables);
-    copy_listed(listed, from.statuses.as_slice(), &mut to.statuses);
-}
-
-fn copy_one(from: &[Status], to: &mut Items<Status>, thread: ThreadId)
-    ensures { to.new ≡ copied_at from.now to.old thread }
-{
-    if let Some(status) = from.get(thread as usize) {
-        put_status(to, thread, *status);
     }
 }

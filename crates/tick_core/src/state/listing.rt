@@ -16,7 +16,7 @@ use crate::copying::copy_into;
 use crate::listed::Listed;
 use crate::sorting::sort_listed;
 use crate::state::{ParkedSpace, TickSpace, TickState};
-use crate::there::{clear_listed, copy_changed, list_all, list_everybody};
+use crate::there::{clear_listed, list_all, list_everybody};
 use crate::waking::count_and_sort;
 use sc_graph::{Control, Program};
 use verifier::Verified;
@@ -76,8 +76,8 @@ impl<'a> TickSpace<'a> {
     }
 }
 
-/// Begins a tick again, from the configuration in which one began, where all threads that are present are listed and
-/// counted, nobody stands in a row, and nobody is present in the configuration that is kept. It takes no memory.
+/// Begins a tick again, from the configuration in which one began, where the room holds the same, all threads that are
+/// present are listed and counted, and nobody stands in a row. It takes no memory.
 pub(super) fn begin_listed<'a>(
     verified: &'a Verified,
     room: ParkedSpace,
@@ -88,16 +88,15 @@ pub(super) fn begin_listed<'a>(
     requires listed { AreListed begun.statuses room.listed.items }
     requires counted { CountsLiving verified.now.program begun room.living.items }
     requires bare { AreEmpty room.rows }
-    requires absent { AreAbsent room.spare.statuses }
+    requires same { room.spare ≡ begun }
     ensures { result ≡ begun_again verified.now begun }
 {
     let mut room = room;
     let image = verified.image();
-    copy_changed(room.listed.as_slice(), &begun, &mut room.spare);
     sort_listed(
         image.program(),
         image.tables(),
-        &room.spare,
+        &begun,
         &room.living,
         room.listed.as_slice(),
         &mut room.rows,

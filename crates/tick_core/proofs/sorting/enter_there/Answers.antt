@@ -1,4 +1,4 @@
-use Rattle.std.proofs.Common.{◌≡◌, ◌∙◌, Option, Some, None, ℕ, ap, sym, subst, slice_set}
+use Rattle.std.proofs.Common.{◌≡◌, ◌∙◌, Option, None, ℕ, ap, sym, subst, slice_set}
 use Rattle.buckets.specs.Rows.{HasRoom}
 use Rattle.tick_core.specs.Inside.Sorting.{step_priority}
 use Rattle.tick_core.specs.Inside.Waking.{EntersRow}

@@ -1,4 +1,4 @@
-use Rattle.std.proofs.Common.{◌∙◌, length, refl, sym, ap, subst, arith}
+use Rattle.std.proofs.Common.{◌∙◌, refl, sym, ap, subst, arith}
 use Rattle.tick_core.specs.Inside.Astir.{AstirListed, ChangedListed, Covers}
 use Rattle.tick_core.proofs.Covered.{covers_started, covers_kept, fits_anew}
 use Rattle.tick_core.proofs.state.going_on.start_anew.Goals as goal
