@@ -27,7 +27,8 @@ def modules_of_types(texts):
 
 
 def functions_in(path, text):
-    """Returns of each function with a body the file, the impl and the name, what stands before the name, and the lines of its body."""
+    """Returns of each function with a body the file, the impl and the name, what stands before the name, and the lines of its
+    body: where it begins and where its end is, which comes before where the body is empty."""
     lines = text.split("\n")
     inside, head, found = "", None, []
     for at, line in enumerate(lines):
@@ -39,6 +40,9 @@ def functions_in(path, text):
         here = HEAD.match(line)
         if here:
             head = at, here
+        if head and line == f"{head[1][1]}{{}}":
+            found.append(((path, inside, head[1][3]), "", at + 1, at))
+            head = None
         if head and (line == f"{head[1][1]}{{" or line.endswith("{") and (here or line.startswith(f"{head[1][1]})"))):
             (start, said), head = head, None
             end = next((it for it in range(at + 1, len(lines)) if lines[it] == f"{said[1]}}}"), None)
@@ -64,7 +68,7 @@ def with_others_taken(crate, texts, places, end_of):
             body = "\n".join(lines[start - shift : end - shift])
             # those of a cycle of calls have one proof, and a constant may call a `const fn`
             is_own = place in places or "cycle(" in words or "const " in words or re.search(rf"\b{place[2]}\(", body)
-            if is_own or not folders:
+            if is_own or not folders or end < start:
                 continue
             here, name = f"proofs/{'/'.join(folders)}", f"Rattle.{crate}.proofs.{'.'.join(folders)}"
             if any(f"{name}." in it and not at.startswith(f"{here}/") for at, it in cited):
