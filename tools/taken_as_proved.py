@@ -86,9 +86,11 @@ def folders_of(place, types, end_of):
     """Returns the folders below proofs/ of a function at a place, or None where they are not known."""
     if not place[1]:
         return [*module_of(place[0]), place[2]]
-    kind = re.sub(r"\A(<[^{]*?>)? ", "", re.sub(r"'\w+", "", place[1])).rpartition(" for ")[2]
-    module = types.get((re.findall(r"(\w+)\s*(?:<|\{|where|$)", kind) or [""])[0])
-    return None if module is None else [*module, *end_of(place).split("::")]
+    trait, _, kind = re.sub(r"\A(<[^{]*?>)? ", "", re.sub(r"'\w+", "", place[1])).rpartition(" for ")
+    name, module = (re.findall(r"(\w+)\s*(?:<|\{|where|$)", kind) or [""])[0], module_of(place[0])
+    # what a type has by a trait stands where its impl does, and else where the type does
+    is_known = name in types if trait else types.get(name) == module
+    return [*module, *end_of(place).split("::")] if is_known else None
 
 
 def hole(name, function):
