@@ -58,7 +58,7 @@ def functions_in(path, text):
 def with_others_taken(crate, texts, places, end_of):
     """Returns the files of a crate, by path, that differ where all functions but those at some places are taken as proved;
     None where there is to be no such file."""
-    types, other, cited = modules_of_types(texts), {}, [it for it in texts.items() if it[0].endswith(".antt")]
+    types, other, cited = modules_of_types(texts), {}, cited_elsewhere(crate, texts)
     for path, text in texts.items():
         if not path.endswith(".rt"):
             continue
@@ -71,7 +71,7 @@ def with_others_taken(crate, texts, places, end_of):
             if is_own or not folders or end < start:
                 continue
             here, name = f"proofs/{'/'.join(folders)}", f"Rattle.{crate}.proofs.{'.'.join(folders)}"
-            if any(f"{name}." in it and not at.startswith(f"{here}/") for at, it in cited):
+            if tuple(folders) in cited:
                 continue
             lines[start - shift : end - shift] = ["    " * (1 + bool(place[1])) + "loop {}"]
             shift += end - start - 1
@@ -80,6 +80,18 @@ def with_others_taken(crate, texts, places, end_of):
         if shift or lines != text.split("\n"):
             other[path] = "\n".join(lines)
     return other
+
+
+def cited_elsewhere(crate, texts):
+    """Returns the folders of proofs/ below which a file of another folder names something."""
+    found = set()
+    for path, text in texts.items():
+        if path.endswith(".antt"):
+            for name in set(re.findall(rf"\bRattle\.{crate}\.proofs\.([\w.]+)", text)):
+                parts = tuple(name.split("."))
+                tops = [parts[:it] for it in range(1, len(parts))]
+                found |= {it for it in tops if not path.startswith(f"proofs/{'/'.join(it)}/")}
+    return found
 
 
 def folders_of(place, types, end_of):
