@@ -1,3 +1,4 @@
 mod Example
 mod LabelRows
 pub mod RulesRows
+pub mod Sums

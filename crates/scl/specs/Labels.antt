@@ -1,7 +1,8 @@
 -- Where labels and gotos lead. They take no step: a thread comes to stand at the next other statement.
 use Rattle.std.specs.Prelude.{ℕ, zero, suc, ◌+◌, Option, Some, None, List, option_map, option_and_then, if◌then◌else◌}
 use Rattle.std.specs.Str.{bytes_eq}
-use Rattle.scl.specs.Block.{Block, End, Assign, Label, Goto, Pause, If, Fork, Branches, NoMore, Branch}
+use Rattle.scl.specs.Block.{Block, End, Assign, Label, Goto, Pause, If, Fork, Branches}
+use Rattle.scl.specs.Sums.{Sum, total, total_among}
 
 -- a list of statements, and then what follows it
 abbrev pub before : Block → Block → Block
@@ -40,42 +41,38 @@ behind_own_label (If n e first second rest) name =
     (or_else (option_map (λ k. before k rest) (behind_own_label second name)) (behind_own_label rest name))
 behind_own_label (Fork n branches rest) name = behind_own_label rest name
 
-abbrev mutual
-  -- the same for a label in one of the threads that are forked in a text. It ends with its own thread: nothing of the
-  -- thread that forks follows
-  pub behind_lower_label : Block → List ℕ → Option Block
-  behind_lower_label (End n) name = None
-  behind_lower_label (Assign n x e rest) name = behind_lower_label rest name
-  behind_lower_label (Label l rest) name = behind_lower_label rest name
-  behind_lower_label (Goto g l rest) name = behind_lower_label rest name
-  behind_lower_label (Pause n rest) name = behind_lower_label rest name
-  behind_lower_label (If n e first second rest) name =
-      or_else (behind_lower_label first name) (or_else (behind_lower_label second name) (behind_lower_label rest name))
-  behind_lower_label (Fork n branches rest) name = or_else (behind_label_among branches name) (behind_lower_label rest name)
+-- the same for a label in one of the threads that are forked in a text. It ends with its own thread: nothing of the
+-- thread that forks follows
+abbrev pub behind_lower : List ℕ → Sum (Option Block)
+behind_lower name =
+    record {
+      nothing = None;
+      together = or_else;
+      label = λ other found. found;
+      fork = or_else;
+      branch = λ t body found. or_else (behind_own_label body name) found;
+    }
 
-  pub behind_label_among : Branches → List ℕ → Option Block
-  behind_label_among NoMore name = None
-  behind_label_among (Branch t body more) name =
-      or_else (or_else (behind_own_label body name) (behind_lower_label body name)) (behind_label_among more name)
+abbrev pub behind_lower_label : Block → List ℕ → Option Block
+behind_lower_label thread name = total (behind_lower name) thread
+
+abbrev pub behind_label_among : Branches → List ℕ → Option Block
+behind_label_among branches name = total_among (behind_lower name) branches
 
 -- the same for a label in a thread or in one that it forks; None where there is none
 abbrev pub behind_label : Block → List ℕ → Option Block
 behind_label thread name = or_else (behind_own_label thread name) (behind_lower_label thread name)
 
-abbrev mutual
-  -- how many labels there are
-  pub label_count : Block → ℕ
-  label_count (End n) = 0
-  label_count (Assign n x e rest) = label_count rest
-  label_count (Label name rest) = suc (label_count rest)
-  label_count (Goto g name rest) = label_count rest
-  label_count (Pause n rest) = label_count rest
-  label_count (If n e first second rest) = label_count first + (label_count second + label_count rest)
-  label_count (Fork n branches rest) = label_count_among branches + label_count rest
+-- how many labels there are
+abbrev pub labels_counted : Sum ℕ
+labels_counted =
+    record { nothing = 0; together = λ a b. a + b; label = λ name count. suc count; fork = λ a b. a + b; branch = λ t body count. count }
 
-  pub label_count_among : Branches → ℕ
-  label_count_among NoMore = 0
-  label_count_among (Branch t body more) = label_count body + label_count_among more
+abbrev pub label_count : Block → ℕ
+label_count = total labels_counted
+
+abbrev pub label_count_among : Branches → ℕ
+label_count_among = total_among labels_counted
 
 -- the statement to which at most so many gotos lead
 abbrev pub reached_by : Block → ℕ → Front → Option Block

@@ -12,11 +12,12 @@ use Rattle.scl.specs.Block.{Block, End, Assign, Label, Goto, Pause, If, Fork, Br
 use Rattle.scl.specs.Labels.{before}
 use Rattle.scl.specs.Numbering.{Piece, piece, piece_of, in_row, branches_from, beyond}
 use Rattle.scl.specs.Numbering as numbering
+use Rattle.scl.proofs.Sums.{total_before}
 use Rattle.scl_graph.specs.declared.numbers.NodeCounts.{NodeCounts}
 use Rattle.scl_graph.specs.declared.numbers.NodeNumbers.{NodeNumbers}
 use Rattle.scl_graph.specs.declared.way.Way.{Way}
 use Rattle.scl_graph.specs.declared.way.Way.TheVariants as leads
-use Rattle.scl_graph.specs.Graph.{way, own, node, end, of_thread, below, among, thread, forked, forked_among}
+use Rattle.scl_graph.specs.Graph.{way, own, node, end, of_thread, nodes_below, below, among, thread, forked, forked_among}
 use Rattle.scl_graph.specs.Counting.{counts_of, counts_of_all, sizes}
 use Rattle.scl_graph.specs.Inside.Laying.{HasRoom, IsLaid, after, past, text, way_in, with_goto}
 use Rattle.scl_graph.specs.Inside.Forking.{AreForkedLaid, AreBranchesLaid, HasBranchRoom, HasBranchesRoom, IsThreadLaid, body, inside, past_branch}
@@ -56,17 +57,9 @@ end_before (If m e first second rest) n = end_before rest n
 end_before (Fork m branches rest) n = end_before rest n
 
 below_before : (target : Way → ℕ) (b k : Block) → below target (before b k) ≡ below target b ++ below target k
-below_before target (End n) k = refl
-below_before target (Assign n x e rest) k = below_before target rest k
-below_before target (Label name rest) k = below_before target rest k
-below_before target (Goto g name rest) k = below_before target rest k
-below_before target (Pause n rest) k = below_before target rest k
-below_before target (If n e first second rest) k =
-    ap (λ r. (below target first ++ below target second) ++ r) (below_before target rest k)
-    ∙ sym (append_assoc (below target first ++ below target second) (below target rest) (below target k))
-below_before target (Fork n branches rest) k =
-    ap (λ r. among target branches ++ r) (below_before target rest k)
-    ∙ sym (append_assoc (among target branches) (below target rest) (below target k))
+below_before target =
+    total_before (nodes_below target)
+    (record { nothing = λ nodes. refl; three = append_assoc; label = λ name first second. refl; fork = append_assoc })
 
 forked_before : (target : Way → ℕ) (t : ℕ) (b k : Block) → forked target t (before b k) ≡ forked target t b ++ forked target t k
 forked_before target t (End n) k = refl

@@ -5,12 +5,13 @@ use Rattle.std.specs.Option.{option_or}
 use Rattle.std.specs.Str.{bytes_eq}
 use Rattle.std.proofs.lemmas.Option.{none-some}
 use Rattle.scl.specs.Block.{Block, End, Assign, Label, Goto, Pause, If, Fork, Branches, NoMore, Branch}
-use Rattle.scl.specs.Labels.{Front, Begins, Jumps, before, behind_label, behind_label_among, behind_lower_label, behind_own_label, front, label_count}
+use Rattle.scl.specs.Labels.{Front, Begins, Jumps, before, behind_label, behind_lower, behind_lower_label, behind_own_label, front, label_count}
 use Rattle.scl.specs.Labels.{label_count_among, or_else}
+use Rattle.scl.proofs.Sums.{totals_related}
 use Rattle.scl_graph.specs.Graph.{end, number}
 use Rattle.scl_graph.specs.declared.landing.Landing.{Landing}
 use Rattle.scl_graph.specs.declared.landing.Landing.TheVariants as lands
-use Rattle.scl_graph.specs.Inside.Gathering.{count_among, label_among, landing, lower_count, lower_label, own_count, own_label, thread_label}
+use Rattle.scl_graph.specs.Inside.Gathering.{count_among, landing, lower, lower_count, lower_label, own_count, own_label, thread_label}
 use Rattle.scl_graph.proofs.Gathered.{landing_before}
 
 -- what stands where this begins, up to the end of its thread
@@ -111,40 +112,26 @@ own_stands b name =
     ∙ alike (behind_own_label b name) (λ k. landing k (lands.Node (end b))) stands
     (λ k found. ap (λ n. landing k (lands.Node n)) (sym (own_end b name k found)))
 
-mutual
-  lower_stands : (b : Block) (name : List ℕ) → lower_label b name ≡ option_map stands (behind_lower_label b name)
-  lower_stands (End n) name = refl
-  lower_stands (Assign n x e rest) name = lower_stands rest name
-  lower_stands (Label l rest) name = lower_stands rest name
-  lower_stands (Goto g l rest) name = lower_stands rest name
-  lower_stands (Pause n rest) name = lower_stands rest name
-  lower_stands (If n e first second rest) name =
-      ap (λ r. option_or r (option_or (lower_label second name) (lower_label rest name))) (lower_stands first name)
-      ∙ ap (λ r. option_or (option_map stands (behind_lower_label first name)) (option_or r (lower_label rest name))) (lower_stands second name)
-      ∙ ap (λ r. option_or (option_map stands (behind_lower_label first name)) (option_or (option_map stands (behind_lower_label second name)) r))
-      (lower_stands rest name)
-      ∙ ap (option_or (option_map stands (behind_lower_label first name))) (sym (map_or stands (behind_lower_label second name) (behind_lower_label rest name)))
-      ∙ sym (map_or stands (behind_lower_label first name) (or_else (behind_lower_label second name) (behind_lower_label rest name)))
-  lower_stands (Fork n branches rest) name =
-      ap (λ r. option_or r (lower_label rest name)) (among_stands branches name)
-      ∙ ap (option_or (option_map stands (behind_label_among branches name))) (lower_stands rest name)
-      ∙ sym (map_or stands (behind_label_among branches name) (behind_lower_label rest name))
+both_stand : (a b : Option Landing) (c d : Option Block) → a ≡ option_map stands c → b ≡ option_map stands d → option_or a b ≡ option_map stands (or_else c d)
+both_stand a b c d h k = ap (λ r. option_or r b) h ∙ ap (option_or (option_map stands c)) k ∙ sym (map_or stands c d)
 
-  among_stands : (branches : Branches) (name : List ℕ) → label_among branches name ≡ option_map stands (behind_label_among branches name)
-  among_stands NoMore name = refl
-  among_stands (Branch t body more) name =
-      ap (λ r. option_or (option_or r (lower_label body name)) (label_among more name)) (own_stands body name)
-      ∙ ap (λ r. option_or (option_or (option_map stands (behind_own_label body name)) r) (label_among more name)) (lower_stands body name)
-      ∙ ap (λ r. option_or r (label_among more name)) (sym (map_or stands (behind_own_label body name) (behind_lower_label body name)))
-      ∙ ap (option_or (option_map stands (or_else (behind_own_label body name) (behind_lower_label body name)))) (among_stands more name)
-      ∙ sym (map_or stands (or_else (behind_own_label body name) (behind_lower_label body name)) (behind_label_among more name))
+lower_stands : (b : Block) (name : List ℕ) → lower_label b name ≡ option_map stands (behind_lower_label b name)
+lower_stands b name =
+    totals_related (lower name) (behind_lower name)
+    (record {
+      nothing = refl;
+      together = both_stand;
+      label = λ other a c h. h;
+      fork = both_stand;
+      branch = λ t body a c. both_stand (own_label body (lands.Node (end body)) name) a (behind_own_label body name) c (own_stands body name);
+    })
+    b
 
 -- what was gathered of a thread and those below it is what stands behind their labels
 pub thread_stands : (root : Block) (name : List ℕ) → thread_label root name ≡ option_map stands (behind_label root name)
 thread_stands root name =
-    ap (λ r. option_or r (lower_label root name)) (own_stands root name)
-    ∙ ap (option_or (option_map stands (behind_own_label root name))) (lower_stands root name)
-    ∙ sym (map_or stands (behind_own_label root name) (behind_lower_label root name))
+    both_stand (own_label root (lands.Node (end root)) name) (lower_label root name) (behind_own_label root name) (behind_lower_label root name)
+    (own_stands root name) (lower_stands root name)
 
 -- all labels are those of the thread itself, and of those below it
 mutual

@@ -14,6 +14,7 @@ use Rattle.scl.specs.declared.statement.Statement.TheFolds.{fold_out-Statement, 
 use Rattle.scl.specs.Block.{Block, End, Assign, Label, Goto, Pause, If, Fork}
 use Rattle.scl.specs.Labels.{before}
 use Rattle.scl.specs.Numbering.{Piece, piece, piece_of, in_row, beyond}
+use Rattle.scl.proofs.Sums.{total_before}
 use Rattle.scl_graph.specs.declared.landing.Landing.{Landing}
 use Rattle.scl_graph.specs.declared.landing.Landing.TheVariants as lands
 use Rattle.scl_graph.specs.declared.numbers_ahead.NumbersAhead.{NumbersAhead}
@@ -21,7 +22,7 @@ use Rattle.scl_graph.specs.declared.totals.Totals.{Totals}
 use Rattle.scl_graph.specs.Inside.Totals.{after, numbers, past, totals, totals_of, totals_of_all}
 use Rattle.scl_graph.specs.Inside.Gathering.{AreWithin, Gathers, IsGathered, IsWithin, Noted, Notes}
 use Rattle.scl_graph.specs.Inside.Gathering.{branches, find, landing, landing_at, landing_behind, landing_in}
-use Rattle.scl_graph.specs.Inside.Gathering.{own_count, own_label, text}
+use Rattle.scl_graph.specs.Inside.Gathering.{own_count, own_counted, own_label, text}
 use Rattle.scl_graph.proofs.Before.{made_before}
 use Rattle.scl_graph.proofs.Pieces.{piece_of_assign, piece_of_label, piece_of_goto, piece_of_pause, piece_of_if, piece_of_fork}
 
@@ -68,13 +69,9 @@ own_label_before (If n e first second rest) k behind name =
 own_label_before (Fork n branches rest) k behind name = own_label_before rest k behind name
 
 pub own_count_before : (b k : Block) → own_count (before b k) ≡ own_count b + own_count k
-own_count_before (End n) k = omega arith
-own_count_before (Assign n x e rest) k = own_count_before rest k
-own_count_before (Label l rest) k = let h : _ = own_count_before rest k in omega (arith, h)
-own_count_before (Goto g l rest) k = own_count_before rest k
-own_count_before (Pause n rest) k = own_count_before rest k
-own_count_before (If n e first second rest) k = let h : _ = own_count_before rest k in omega (arith, h)
-own_count_before (Fork n forks rest) k = own_count_before rest k
+own_count_before =
+    total_before own_counted
+    (record { nothing = λ n. omega arith; three = λ n m o. omega arith; label = λ name n m. omega arith; fork = λ below n m. refl })
 
 -- what stands at a text
 lands_at : (y : Statement-F Statement) (rest : List Statement) (at : NumbersAhead) (behind : Landing)

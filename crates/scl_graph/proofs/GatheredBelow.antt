@@ -6,43 +6,31 @@ use Rattle.sc_values.specs.declared.expression.Expr.{Expr}
 use Rattle.scl.specs.declared.statement.Statement.{Statement}
 use Rattle.scl.specs.declared.statement.Statement.TheOpen as tree
 use Rattle.scl.specs.declared.statement.Statement.TheVariants as variant
-use Rattle.scl.specs.Block.{Block, End, Assign, Label, Goto, Pause, If, Fork, Branches, NoMore}
+use Rattle.scl.specs.Block.{Block, End, Assign, Label, Goto, Pause, Branches, NoMore}
 use Rattle.scl.specs.Labels.{before}
 use Rattle.scl.specs.Numbering.{Piece, piece, piece_of}
+use Rattle.scl.proofs.Sums.{total_before}
 use Rattle.scl_graph.specs.declared.landing.Landing.{Landing}
 use Rattle.scl_graph.specs.declared.landing.Landing.TheVariants as lands
 use Rattle.scl_graph.specs.declared.numbers_ahead.NumbersAhead.{NumbersAhead}
 use Rattle.scl_graph.specs.declared.totals.Totals.{Totals}
 use Rattle.scl_graph.specs.Inside.Totals.{after, branches_totals, inside, numbers, past, past_branch, totals_of, totals_of_all}
 use Rattle.scl_graph.specs.Inside.Gathering.{AreBranchesGathered, AreForkedGathered, Gathers, IsGathered, IsThreadGathered, Noted}
-use Rattle.scl_graph.specs.Inside.Gathering.{body, branches, count_among, find, label_among, lower_count}
+use Rattle.scl_graph.specs.Inside.Gathering.{body, branches, count_among, find, label_among, lower, lower_count, lower_counted}
 use Rattle.scl_graph.specs.Inside.Gathering.{lower_label, own_count, own_label, text, thread_label}
 use Rattle.scl_graph.proofs.Before.{made_before}
 use Rattle.scl_graph.proofs.Branching.{all_before, end_before}
 use Rattle.scl_graph.proofs.Pieces.{piece_of_assign, piece_of_label, piece_of_goto, piece_of_pause, piece_of_if, piece_of_fork}
-use Rattle.scl_graph.proofs.Gathered.{or_assoc, or_none, three, own_label_before, own_count_before, nothing, in_turn, node_within}
+use Rattle.scl_graph.proofs.Gathered.{or_assoc, or_none, own_label_before, own_count_before, nothing, in_turn, node_within}
 
 pub lower_label_before : (b k : Block) (name : List ℕ) → lower_label (before b k) name ≡ option_or (lower_label b name) (lower_label k name)
-lower_label_before (End n) k name = refl
-lower_label_before (Assign n x e rest) k name = lower_label_before rest k name
-lower_label_before (Label l rest) k name = lower_label_before rest k name
-lower_label_before (Goto g l rest) k name = lower_label_before rest k name
-lower_label_before (Pause n rest) k name = lower_label_before rest k name
-lower_label_before (If n e first second rest) k name =
-    ap (λ r. option_or (lower_label first name) (option_or (lower_label second name) r)) (lower_label_before rest k name)
-    ∙ three (lower_label first name) (lower_label second name) (lower_label rest name) (lower_label k name)
-lower_label_before (Fork n branches rest) k name =
-    ap (option_or (label_among branches name)) (lower_label_before rest k name)
-    ∙ sym (or_assoc (label_among branches name) (lower_label rest name) (lower_label k name))
+lower_label_before b k name =
+    total_before (lower name) (record { nothing = λ found. refl; three = or_assoc; label = λ other v w. refl; fork = or_assoc }) b k
 
 pub lower_count_before : (b k : Block) → lower_count (before b k) ≡ lower_count b + lower_count k
-lower_count_before (End n) k = omega arith
-lower_count_before (Assign n x e rest) k = lower_count_before rest k
-lower_count_before (Label l rest) k = lower_count_before rest k
-lower_count_before (Goto g l rest) k = lower_count_before rest k
-lower_count_before (Pause n rest) k = lower_count_before rest k
-lower_count_before (If n e first second rest) k = let h : _ = lower_count_before rest k in omega (arith, h)
-lower_count_before (Fork n branches rest) k = let h : _ = lower_count_before rest k in omega (arith, h)
+lower_count_before =
+    total_before lower_counted
+    (record { nothing = λ n. omega arith; three = λ n m o. omega arith; label = λ name n m. refl; fork = λ n m o. omega arith })
 
 -- the same for the threads that are forked
 by_lower : (s : Statement) (at : NumbersAhead) (old new : Noted) (p : Piece) → piece_of s ≡ p
@@ -87,7 +75,7 @@ lower_if s at x y z e a b is first second =
     by_lower s at x z p (ap piece_of is ∙ piece_of_if e a b)
     (in_turn (lower_label (p.made (numbers at) (End 0))) in_first in_second (lower_count (p.made (numbers at) (End 0))) (lower_count (text a (after 1 at)))
     (lower_count (text b further)) (at.base + (p.counts.lower + 0)) (at.base + c.lower) (at.base + c.lower + d.lower) none none none x y z
-    (λ name. ap (option_or (in_first name)) (or_none (in_second name))) (omega arith) (omega arith) (omega arith) (λ most low h. h) (λ most h. h) first second)
+    (λ name. or_none (option_or (in_first name) (in_second name))) (omega arith) (omega arith) (omega arith) (λ most low h. h) (λ most h. h) first second)
 
 pub lower_fork : (s : Statement) (at : NumbersAhead) (old new : Noted) (bodies : List (List Statement)) → s ≡ variant.Fork bodies
     → AreBranchesGathered bodies at old new → AreForkedGathered (s ∷ []) at old new

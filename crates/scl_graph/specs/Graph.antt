@@ -10,6 +10,7 @@ use Rattle.sc_graph.specs.declared.program.Step.TheVariants as step
 use Rattle.sc_graph.specs.Program.{Program}
 use Rattle.scl.specs.Block.{Block, End, Assign, Label, Goto, Pause, If, Fork, Branches, NoMore, Branch}
 use Rattle.scl.specs.Labels.{settled}
+use Rattle.scl.specs.Sums.{Sum, total, total_among}
 use Rattle.scl.specs.Places.{threads_of}
 use Rattle.scl.specs.Numbering.{Numbered}
 use Rattle.scl_graph.specs.declared.way.Way.{Way}
@@ -63,21 +64,22 @@ end (Fork n branches rest) = end rest
 abbrev pub of_thread : (Way → ℕ) → ℕ → Block → List Node
 of_thread target t body = own target t body (At (end body)) ++ node t step.Exit ∷ []
 
-abbrev mutual
-  -- the nodes of the threads that are forked in a text
-  pub below : (Way → ℕ) → Block → List Node
-  below target (End n) = []
-  below target (Assign n x e rest) = below target rest
-  below target (Label name rest) = below target rest
-  below target (Goto g name rest) = below target rest
-  below target (Pause n rest) = below target rest
-  below target (If n e first second rest) = below target first ++ below target second ++ below target rest
-  below target (Fork n branches rest) = among target branches ++ below target rest
+-- the nodes of the threads that are forked in a text. A thread's nodes stand before those of the threads that it forks
+abbrev pub nodes_below : (Way → ℕ) → Sum (List Node)
+nodes_below target =
+    record {
+      nothing = [];
+      together = λ first second. first ++ second;
+      label = λ name nodes. nodes;
+      fork = λ first second. first ++ second;
+      branch = λ t body nodes. of_thread target t body ++ nodes;
+    }
 
-  -- a thread's nodes stand before those of the threads that it forks
-  pub among : (Way → ℕ) → Branches → List Node
-  among target NoMore = []
-  among target (Branch t body more) = of_thread target t body ++ below target body ++ among target more
+abbrev pub below : (Way → ℕ) → Block → List Node
+below target = total (nodes_below target)
+
+abbrev pub among : (Way → ℕ) → Branches → List Node
+among target = total_among (nodes_below target)
 
 -- a thread begins where its text leads
 abbrev pub thread : (Way → ℕ) → Option ℕ → Block → Thread

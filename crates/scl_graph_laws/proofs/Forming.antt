@@ -1,5 +1,5 @@
 -- The program of an SCL program keeps the size rule, the budget aside, and the structure rule, and each step those of codes.
-use Rattle.std.proofs.Common.{◌≡◌, ℕ, zero, suc, ◌+◌, ◌≤◌, true, Some, None, List, ◌∷◌, map, length, take, slice_get, option_map, count_by}
+use Rattle.std.proofs.Common.{◌≡◌, ℕ, zero, suc, ◌+◌, ◌≤◌, true, Some, None, map, length, take, slice_get, option_map, count_by}
 use Rattle.std.proofs.Common.{Contains, refl, sym, ap, subst, ◌∙◌, length-append, arith}
 use Rattle.std.proofs.lemmas.Option.{same_Some}
 use Rattle.sc_graph.specs.declared.program.Variable.{Variable}
@@ -20,7 +20,7 @@ use Rattle.scl.specs.Places.{Place, whole, in_branch, threads_of}
 use Rattle.scl.specs.Numbering.{Piece, in_row, pieces_of, numbered}
 use Rattle.scl.specs.Rules.{KeepsRules}
 use Rattle.scl_graph.specs.declared.way.Way.TheVariants as goes
-use Rattle.scl_graph.specs.Graph.{node, way, end, of_thread, below, target, program_of}
+use Rattle.scl_graph.specs.Graph.{way, end, of_thread, below, target, program_of}
 use Rattle.scl_graph.specs.Loops.{HasNoEmptyLoop}
 use Rattle.scl_graph.specs.Answers.{FitsImage, counts_in}
 use Rattle.scl_graph_laws.specs.Mirrors.{leads, HasFork, Mirrors}

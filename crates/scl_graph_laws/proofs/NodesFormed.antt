@@ -24,7 +24,7 @@ use Rattle.scl.specs.Numbering.{Piece, in_row, pieces_of, numbered}
 use Rattle.scl.specs.Rules.{Part, KeepsRules, IsAssignment, parts_of}
 use Rattle.scl.specs.Rules.{in_row as parts_in_row}
 use Rattle.sc_text.specs.Parts.{IsExpression}
-use Rattle.scl_graph.specs.Graph.{assigns, node, number, target, program_of}
+use Rattle.scl_graph.specs.Graph.{assigns, node, number, program_of}
 use Rattle.scl_graph.specs.Loops.{HasNoEmptyLoop}
 use Rattle.scl_graph_laws.specs.Standing.{IsStep}
 use Rattle.scl_graph_laws.specs.Settling.{Settling}

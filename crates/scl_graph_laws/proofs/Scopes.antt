@@ -4,12 +4,13 @@ use Rattle.std.proofs.Common.{◌≡◌, ℕ, Option, Some, None, List, [], ◌�
 use Rattle.std.proofs.lemmas.List.Elements.{Contains-append_left, Contains-append_right, Contains-append_cases}
 use Rattle.sc_values.specs.declared.expression.Expr.{Expr}
 use Rattle.scl.specs.Block.{Block, End, Assign, Label, Goto, Pause, If, Fork, Branches, NoMore, Branch}
-use Rattle.scl.specs.Labels.{before, or_else, behind_own_label, behind_lower_label, behind_label_among, behind_label}
+use Rattle.scl.specs.Labels.{before, or_else, behind_own_label, behind_lower, behind_lower_label, behind_label_among, behind_label}
 use Rattle.scl.specs.Places.{Place, whole, after_assign, after_label, after_goto, after_pause, in_first, in_second, after_if, after_fork, in_branch, IsBranch}
 use Rattle.scl.specs.Places.{here, later}
+use Rattle.scl.proofs.Sums.{total_before}
 use Rattle.scl_graph_laws.specs.Settling.{StayWithin}
 use Rattle.scl_graph_laws.proofs.Members.{contains_head, contains_tail, contains_none, contains_cons}
-use Rattle.scl_graph_laws.proofs.Searching.{own_labels, own_gotos, lower_labels, labels_among, Found, found_first, found_second, or_else_assoc, own_found}
+use Rattle.scl_graph_laws.proofs.Searching.{own_labels, own_gotos, lower_listed, lower_labels, labels_among, Found, found_first, found_second, or_else_assoc, own_found}
 use Rattle.scl_graph_laws.proofs.Searching.{own_none, lower_found, lower_none, among_found, among_none, label_place}
 
 -- ---- lists in which nothing stands twice
@@ -80,15 +81,8 @@ pub record KeepsScopes (root : Block) : Type 0 where
 -- ---- a list of statements, and then what follows it
 
 lower_before : (b k : Block) → lower_labels (before b k) ≡ lower_labels b ++ lower_labels k
-lower_before (End n) k = refl
-lower_before (Assign n x e rest) k = lower_before rest k
-lower_before (Label name rest) k = lower_before rest k
-lower_before (Goto g name rest) k = lower_before rest k
-lower_before (Pause n rest) k = lower_before rest k
-lower_before (If n e first second rest) k = ap (λ r. (lower_labels first ++ lower_labels second) ++ r) (lower_before rest k)
-    ∙ sym (append_assoc (lower_labels first ++ lower_labels second) (lower_labels rest) (lower_labels k))
-lower_before (Fork n branches rest) k = ap (λ r. labels_among branches ++ r) (lower_before rest k)
-    ∙ sym (append_assoc (labels_among branches) (lower_labels rest) (lower_labels k))
+lower_before =
+    total_before lower_listed (record { nothing = λ names. refl; three = append_assoc; label = λ name first second. refl; fork = append_assoc })
 
 gotos_before : (b k : Block) → own_gotos (before b k) ≡ own_gotos b ++ own_gotos k
 gotos_before (End n) k = refl
@@ -110,22 +104,8 @@ none_lost_before (If n e first second rest) k h i = (h.0, h.1, none_lost_before 
 none_lost_before (Fork n branches rest) k h i = (h.0, none_lost_before rest k h.1 i)
 
 search_before : (b k : Block) (name : List ℕ) → behind_lower_label (before b k) name ≡ or_else (behind_lower_label b name) (behind_lower_label k name)
-search_before (End n) k name = refl
-search_before (Assign n x e rest) k name = search_before rest k name
-search_before (Label l rest) k name = search_before rest k name
-search_before (Goto g l rest) k name = search_before rest k name
-search_before (Pause n rest) k name = search_before rest k name
-search_before (If n e first second rest) k name =
-    let a : Option Block = behind_lower_label first name in
-    let b : Option Block = behind_lower_label second name in
-    let c : Option Block = behind_lower_label rest name in
-    let d : Option Block = behind_lower_label k name in
-    ap (λ r. or_else a (or_else b r)) (search_before rest k name)
-    ∙ ap (or_else a) (sym (or_else_assoc b c d))
-    ∙ sym (or_else_assoc a (or_else b c) d)
-search_before (Fork n branches rest) k name =
-    ap (or_else (behind_label_among branches name)) (search_before rest k name)
-    ∙ sym (or_else_assoc (behind_label_among branches name) (behind_lower_label rest name) (behind_lower_label k name))
+search_before b k name =
+    total_before (behind_lower name) (record { nothing = λ found. refl; three = or_else_assoc; label = λ other o p. refl; fork = or_else_assoc }) b k
 
 -- ---- what holds at each place
 
@@ -245,11 +225,12 @@ module _ (root : Block) where
             ⊎_elim
             (λ i. (
               Contains-append_left (lower_labels a ++ lower_labels b) (lower_labels rest) name (Contains-append_left (lower_labels a) (lower_labels b) name i),
-              found_first x (or_else y z) (lower_found a name i) ∙ sym (found_first x z (lower_found a name i)) ∙ sym (search_before a rest name),
+              ap (λ o. or_else o z) (found_first x y (lower_found a name i)) ∙ sym (search_before a rest name),
             ))
             (λ i. (
               Contains-append_right (lower_labels a ++ lower_labels b) (lower_labels rest) name i,
-              ap (or_else x) (found_second y z
+              or_else_assoc x y z
+                  ∙ ap (or_else x) (found_second y z
                   (lower_none b name (λ j. distinct_apart (lower_labels a ++ lower_labels b) (lower_labels rest) name s.distinct
                   (Contains-append_right (lower_labels a) (lower_labels b) name j) i)))
                   ∙ sym (search_before a rest name),
@@ -291,7 +272,7 @@ module _ (root : Block) where
             Contains (lower_labels (If n e a b rest)) name × (behind_lower_label (If n e a b rest) name ≡ behind_lower_label (before b rest) name)
         lower_of name h = (
           stands name h,
-          found_second (behind_lower_label a name) (or_else (behind_lower_label b name) (behind_lower_label rest name)) (lower_none a name (apart name h))
+          ap (λ o. or_else o (behind_lower_label rest name)) (found_second (behind_lower_label a name) (behind_lower_label b name) (lower_none a name (apart name h)))
               ∙ sym (search_before b rest name),
         )
 
@@ -303,7 +284,8 @@ module _ (root : Block) where
         (distinct_second (lower_labels a ++ lower_labels b) (lower_labels rest) s.distinct)
         (λ name h. (
           Contains-append_right (lower_labels a ++ lower_labels b) (lower_labels rest) name h,
-          found_second (behind_lower_label a name) (or_else (behind_lower_label b name) (behind_lower_label rest name))
+          or_else_assoc (behind_lower_label a name) (behind_lower_label b name) (behind_lower_label rest name)
+              ∙ found_second (behind_lower_label a name) (or_else (behind_lower_label b name) (behind_lower_label rest name))
               (lower_none a name (λ j. distinct_apart (lower_labels a ++ lower_labels b) (lower_labels rest) name s.distinct
               (Contains-append_left (lower_labels a) (lower_labels b) name j) h))
               ∙ found_second (behind_lower_label b name) (behind_lower_label rest name)

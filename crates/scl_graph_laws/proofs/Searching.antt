@@ -5,22 +5,28 @@ use Rattle.std.proofs.lemmas.List.Elements.{Contains-append_left, Contains-appen
 use Rattle.std.specs.Str.{bytes_eq}
 use Rattle.std.proofs.lemmas.Slice.Eq.{bytes_eq-Decides}
 use Rattle.std.proofs.lemmas.Option.{none-some, same_Some}
-use Rattle.scl.specs.Block.{Block, End, Assign, Label, Goto, Pause, If, Fork, Branches, NoMore, Branch}
-use Rattle.scl.specs.Labels.{before, or_else, behind_own_label, behind_lower_label, behind_label_among, behind_label}
+use Rattle.scl.specs.Block.{Block, End, Assign, Label, Goto, Pause, If, Fork, Branches}
+use Rattle.scl.specs.Labels.{before, or_else, behind_own_label, behind_lower, behind_lower_label, behind_label_among, behind_label}
 use Rattle.scl.specs.Places.{Place, after_assign, after_label, after_goto, after_pause, in_first, in_second, after_if, after_fork}
+use Rattle.scl.specs.Sums.{Sum, total, total_among}
+use Rattle.scl.proofs.Sums.{AreRelated, totals_related, totals_among_related}
 use Rattle.scl_graph.specs.Graph.{end}
 use Rattle.scl_graph_laws.proofs.Members.{contains_head, contains_tail, contains_none, contains_cons}
 use Rattle.scl_graph_laws.proofs.Ways.{before_end}
 
 -- the labels of a thread's text
+abbrev pub own_listed : Sum (List (List ℕ))
+own_listed =
+    record {
+      nothing = [];
+      together = λ first second. first ++ second;
+      label = λ name names. name ∷ names;
+      fork = λ below names. names;
+      branch = λ t body names. names;
+    }
+
 abbrev pub own_labels : Block → List (List ℕ)
-own_labels (End n) = []
-own_labels (Assign n x e rest) = own_labels rest
-own_labels (Label name rest) = name ∷ own_labels rest
-own_labels (Goto g name rest) = own_labels rest
-own_labels (Pause n rest) = own_labels rest
-own_labels (If n e first second rest) = (own_labels first ++ own_labels second) ++ own_labels rest
-own_labels (Fork n branches rest) = own_labels rest
+own_labels = total own_listed
 
 -- its gotos
 abbrev pub own_gotos : Block → List (List ℕ)
@@ -32,20 +38,16 @@ own_gotos (Pause n rest) = own_gotos rest
 own_gotos (If n e first second rest) = (own_gotos first ++ own_gotos second) ++ own_gotos rest
 own_gotos (Fork n branches rest) = own_gotos rest
 
-abbrev mutual
-  -- the labels of the threads that it forks
-  pub lower_labels : Block → List (List ℕ)
-  lower_labels (End n) = []
-  lower_labels (Assign n x e rest) = lower_labels rest
-  lower_labels (Label name rest) = lower_labels rest
-  lower_labels (Goto g name rest) = lower_labels rest
-  lower_labels (Pause n rest) = lower_labels rest
-  lower_labels (If n e first second rest) = (lower_labels first ++ lower_labels second) ++ lower_labels rest
-  lower_labels (Fork n branches rest) = labels_among branches ++ lower_labels rest
+-- the labels of the threads that it forks
+abbrev pub lower_listed : Sum (List (List ℕ))
+lower_listed =
+    record own_listed { label = λ name names. names; fork = λ first second. first ++ second; branch = λ t body names. own_labels body ++ names }
 
-  pub labels_among : Branches → List (List ℕ)
-  labels_among NoMore = []
-  labels_among (Branch t body more) = (own_labels body ++ lower_labels body) ++ labels_among more
+abbrev pub lower_labels : Block → List (List ℕ)
+lower_labels = total lower_listed
+
+abbrev pub labels_among : Branches → List (List ℕ)
+labels_among = total_among lower_listed
 
 -- ---- what is found in one place or in another
 
@@ -150,78 +152,45 @@ own_none b name without = none_or (Contains (own_labels b) name) (behind_own_lab
 
 -- ---- those of the threads below
 
-mutual
-  pub lower_found : (b : Block) (name : List ℕ) → Contains (lower_labels b) name → Found (behind_lower_label b name)
-  lower_found (End n) name h = absurd (contains_none name h)
-  lower_found (Assign n x e rest) name h = lower_found rest name h
-  lower_found (Label l rest) name h = lower_found rest name h
-  lower_found (Goto g l rest) name h = lower_found rest name h
-  lower_found (Pause n rest) name h = lower_found rest name h
-  lower_found (If n e first second rest) name h =
-      let a : Option Block = behind_lower_label first name in
-      let b : Option Block = behind_lower_label second name in
-      let c : Option Block = behind_lower_label rest name in
-      ⊎_elim
-      (λ i. ⊎_elim (λ j. found_here a (or_else b c) (lower_found first name j)) (λ j. found_there a (or_else b c) (found_here b c (lower_found second name j)))
-      (Contains-append_cases (lower_labels first) (lower_labels second) name i))
-      (λ i. found_there a (or_else b c) (found_there b c (lower_found rest name i)))
-      (Contains-append_cases (lower_labels first ++ lower_labels second) (lower_labels rest) name h)
-  lower_found (Fork n branches rest) name h =
-      ⊎_elim
-      (λ i. found_here (behind_label_among branches name) (behind_lower_label rest name) (among_found branches name i))
-      (λ i. found_there (behind_label_among branches name) (behind_lower_label rest name) (lower_found rest name i))
-      (Contains-append_cases (labels_among branches) (lower_labels rest) name h)
+module _ (name : List ℕ) where
+  either_found : (o p : Option Block) (xs ys : List (List ℕ)) → (Contains xs name → Found o) → (Contains ys name → Found p) → Contains (xs ++ ys) name
+      → Found (or_else o p)
+  either_found o p xs ys h k i = ⊎_elim (λ j. found_here o p (h j)) (λ j. found_there o p (k j)) (Contains-append_cases xs ys name i)
 
-  pub among_found : (branches : Branches) (name : List ℕ) → Contains (labels_among branches) name → Found (behind_label_among branches name)
-  among_found NoMore name h = absurd (contains_none name h)
-  among_found (Branch t body more) name h =
-      let a : Option Block = behind_own_label body name in
-      let b : Option Block = behind_lower_label body name in
-      let c : Option Block = behind_label_among more name in
-      ⊎_elim
-      (λ i. found_here (or_else a b) c (⊎_elim (λ j. found_here a b (own_found body name j)) (λ j. found_there a b (lower_found body name j))
-      (Contains-append_cases (own_labels body) (lower_labels body) name i)))
-      (λ i. found_there (or_else a b) c (among_found more name i))
-      (Contains-append_cases (own_labels body ++ lower_labels body) (labels_among more) name h)
+  found_by_parts : AreRelated (λ o xs. Contains xs name → Found o) (behind_lower name) lower_listed
+  found_by_parts = record {
+    nothing = λ h. absurd (contains_none name h);
+    together = either_found;
+    label = λ other o xs h. h;
+    fork = either_found;
+    branch = λ t body o xs. either_found (behind_own_label body name) o (own_labels body) xs (own_found body name);
+  }
 
-mutual
-  lower_stands : (b : Block) (name : List ℕ) (k : Block) → behind_lower_label b name ≡ Some k → Contains (lower_labels b) name
-  lower_stands (End n) name k h = absurd (none-some k h)
-  lower_stands (Assign n x e rest) name k h = lower_stands rest name k h
-  lower_stands (Label l rest) name k h = lower_stands rest name k h
-  lower_stands (Goto g l rest) name k h = lower_stands rest name k h
-  lower_stands (Pause n rest) name k h = lower_stands rest name k h
-  lower_stands (If n e first second rest) name k h =
-      let a : Option Block = behind_lower_label first name in
-      let b : Option Block = behind_lower_label second name in
-      let c : Option Block = behind_lower_label rest name in
-      ⊎_elim
-      (λ i. Contains-append_left (lower_labels first ++ lower_labels second) (lower_labels rest) name
-      (Contains-append_left (lower_labels first) (lower_labels second) name (lower_stands first name k i)))
-      (λ i. ⊎_elim
-      (λ i. Contains-append_left (lower_labels first ++ lower_labels second) (lower_labels rest) name
-      (Contains-append_right (lower_labels first) (lower_labels second) name (lower_stands second name k i)))
-      (λ i. Contains-append_right (lower_labels first ++ lower_labels second) (lower_labels rest) name (lower_stands rest name k i))
-      (found_cases b c k i))
-      (found_cases a (or_else b c) k h)
-  lower_stands (Fork n branches rest) name k h =
-      ⊎_elim
-      (λ i. Contains-append_left (labels_among branches) (lower_labels rest) name (among_stands branches name k i))
-      (λ i. Contains-append_right (labels_among branches) (lower_labels rest) name (lower_stands rest name k i))
-      (found_cases (behind_label_among branches name) (behind_lower_label rest name) k h)
+  either_stands : (o p : Option Block) (xs ys : List (List ℕ)) → ((k : Block) → o ≡ Some k → Contains xs name)
+      → ((k : Block) → p ≡ Some k → Contains ys name) → (k : Block) → or_else o p ≡ Some k → Contains (xs ++ ys) name
+  either_stands o p xs ys h i k is =
+      ⊎_elim (λ j. Contains-append_left xs ys name (h k j)) (λ j. Contains-append_right xs ys name (i k j)) (found_cases o p k is)
 
-  among_stands : (branches : Branches) (name : List ℕ) (k : Block) → behind_label_among branches name ≡ Some k → Contains (labels_among branches) name
-  among_stands NoMore name k h = absurd (none-some k h)
-  among_stands (Branch t body more) name k h =
-      let a : Option Block = behind_own_label body name in
-      let b : Option Block = behind_lower_label body name in
-      let c : Option Block = behind_label_among more name in
-      ⊎_elim
-      (λ i. Contains-append_left (own_labels body ++ lower_labels body) (labels_among more) name
-      (⊎_elim (λ j. Contains-append_left (own_labels body) (lower_labels body) name (own_stands body name k j))
-      (λ j. Contains-append_right (own_labels body) (lower_labels body) name (lower_stands body name k j)) (found_cases a b k i)))
-      (λ i. Contains-append_right (own_labels body ++ lower_labels body) (labels_among more) name (among_stands more name k i))
-      (found_cases (or_else a b) c k h)
+  stands_by_parts : AreRelated (λ o xs. (k : Block) → o ≡ Some k → Contains xs name) (behind_lower name) lower_listed
+  stands_by_parts = record {
+    nothing = λ k h. absurd (none-some k h);
+    together = either_stands;
+    label = λ other o xs h. h;
+    fork = either_stands;
+    branch = λ t body o xs. either_stands (behind_own_label body name) o (own_labels body) xs (own_stands body name);
+  }
+
+pub lower_found : (b : Block) (name : List ℕ) → Contains (lower_labels b) name → Found (behind_lower_label b name)
+lower_found b name = totals_related (behind_lower name) lower_listed (found_by_parts name) b
+
+pub among_found : (branches : Branches) (name : List ℕ) → Contains (labels_among branches) name → Found (behind_label_among branches name)
+among_found branches name = totals_among_related (behind_lower name) lower_listed (found_by_parts name) branches
+
+lower_stands : (b : Block) (name : List ℕ) (k : Block) → behind_lower_label b name ≡ Some k → Contains (lower_labels b) name
+lower_stands b name = totals_related (behind_lower name) lower_listed (stands_by_parts name) b
+
+among_stands : (branches : Branches) (name : List ℕ) (k : Block) → behind_label_among branches name ≡ Some k → Contains (labels_among branches) name
+among_stands branches name = totals_among_related (behind_lower name) lower_listed (stands_by_parts name) branches
 
 pub lower_none : (b : Block) (name : List ℕ) → ¬ Contains (lower_labels b) name → behind_lower_label b name ≡ None
 lower_none b name without = none_or (Contains (lower_labels b) name) (behind_lower_label b name) (lower_stands b name) without

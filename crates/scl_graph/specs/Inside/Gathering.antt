@@ -7,8 +7,10 @@ use Rattle.scl.specs.declared.statement.Statement.{Statement}
 use Rattle.scl.specs.declared.statement.Statement.TheOpen.{Statement-F}
 use Rattle.scl.specs.declared.statement.Statement.TheOpen as tree
 use Rattle.scl.specs.declared.statement.Statement.TheViews.{out-Statement}
-use Rattle.scl.specs.Block.{Block, End, Assign, Label, Goto, Pause, If, Fork, Branches, NoMore, Branch}
+use Rattle.scl.specs.Block.{Block, End, Assign, Label, Goto, Pause, If, Fork, Branches}
+use Rattle.scl.specs.Labels.{labels_counted}
 use Rattle.scl.specs.Numbering.{in_row, piece_of, branches_from, thread_body}
+use Rattle.scl.specs.Sums.{Sum, total, total_among}
 use Rattle.scl_graph.specs.Graph.{end}
 use Rattle.scl_graph.specs.declared.numbers_ahead.NumbersAhead.{NumbersAhead}
 use Rattle.scl_graph.specs.Inside.Totals.{branches_totals, numbers, totals_of_all}
@@ -68,51 +70,43 @@ own_label (If n e first second rest) behind name =
     (option_or (own_label second (landing rest behind) name) (own_label rest behind name))
 own_label (Fork n branches rest) behind name = own_label rest behind name
 
-abbrev mutual
-  -- the same in the threads that are forked in a text
-  pub lower_label : Block → List ℕ → Option Landing
-  lower_label (End n) name = None
-  lower_label (Assign n x e rest) name = lower_label rest name
-  lower_label (Label l rest) name = lower_label rest name
-  lower_label (Goto g l rest) name = lower_label rest name
-  lower_label (Pause n rest) name = lower_label rest name
-  lower_label (If n e first second rest) name =
-      option_or (lower_label first name) (option_or (lower_label second name) (lower_label rest name))
-  lower_label (Fork n branches rest) name = option_or (label_among branches name) (lower_label rest name)
+-- the same in the threads that are forked in a text
+abbrev pub lower : List ℕ → Sum (Option Landing)
+lower name =
+    record {
+      nothing = None;
+      together = option_or;
+      label = λ other found. found;
+      fork = option_or;
+      branch = λ t body found. option_or (own_label body (lands.Node (end body)) name) found;
+    }
 
-  pub label_among : Branches → List ℕ → Option Landing
-  label_among NoMore name = None
-  label_among (Branch t body more) name =
-      option_or (option_or (own_label body (lands.Node (end body)) name) (lower_label body name)) (label_among more name)
+abbrev pub lower_label : Block → List ℕ → Option Landing
+lower_label b name = total (lower name) b
+
+abbrev pub label_among : Branches → List ℕ → Option Landing
+label_among branches name = total_among (lower name) branches
 
 -- in a thread and in those below it
 abbrev pub thread_label : Block → List ℕ → Option Landing
 thread_label body name = option_or (own_label body (lands.Node (end body)) name) (lower_label body name)
 
 -- how many labels stand in a thread itself
+abbrev pub own_counted : Sum ℕ
+own_counted = record labels_counted { fork = λ below count. count }
+
 abbrev pub own_count : Block → ℕ
-own_count (End n) = 0
-own_count (Assign n x e rest) = own_count rest
-own_count (Label name rest) = suc (own_count rest)
-own_count (Goto g name rest) = own_count rest
-own_count (Pause n rest) = own_count rest
-own_count (If n e first second rest) = own_count first + (own_count second + own_count rest)
-own_count (Fork n branches rest) = own_count rest
+own_count = total own_counted
 
-abbrev mutual
-  -- how many stand in the threads that are forked in a text
-  pub lower_count : Block → ℕ
-  lower_count (End n) = 0
-  lower_count (Assign n x e rest) = lower_count rest
-  lower_count (Label name rest) = lower_count rest
-  lower_count (Goto g name rest) = lower_count rest
-  lower_count (Pause n rest) = lower_count rest
-  lower_count (If n e first second rest) = lower_count first + (lower_count second + lower_count rest)
-  lower_count (Fork n branches rest) = count_among branches + lower_count rest
+-- how many stand in the threads that are forked in a text
+abbrev pub lower_counted : Sum ℕ
+lower_counted = record labels_counted { label = λ name count. count; branch = λ t body count. own_count body + count }
 
-  pub count_among : Branches → ℕ
-  count_among NoMore = 0
-  count_among (Branch t body more) = (own_count body + lower_count body) + count_among more
+abbrev pub lower_count : Block → ℕ
+lower_count = total lower_counted
+
+abbrev pub count_among : Branches → ℕ
+count_among = total_among lower_counted
 
 -- no number of a node is above this
 abbrev pub IsWithin : ℕ → Landing → Type 0
