@@ -52,7 +52,7 @@ mutual
       let b : length (forkers_among n (suc i) more) ≡ threads_among more = forkers_among_length n (suc i) more in
       let k : length (forkers body ++ forkers_among n (suc i) more) ≡ length (forkers body) + length (forkers_among n (suc i) more) = length-append
       (forkers body) (forkers_among n (suc i) more) in
-      ap suc (omega (arith, a, b, k))
+      omega (arith, a, b, k)
 
 abbrev mutual
   -- each thread below has its fork at its place

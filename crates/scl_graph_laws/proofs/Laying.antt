@@ -9,11 +9,12 @@ use Rattle.sc_graph.specs.Program.{Program}
 use Rattle.scl.specs.Block.{Block, End, Assign, Label, Goto, Pause, If, Fork, Branches, NoMore, Branch}
 use Rattle.scl.specs.Labels.{before}
 use Rattle.scl.specs.Places.{threads_of}
+use Rattle.scl.proofs.Sums.{AreRelated, totals_related, totals_among_related}
 use Rattle.scl_graph.specs.declared.way.Way.{Way}
 use Rattle.scl_graph.specs.declared.way.Way.TheVariants as goes
-use Rattle.scl_graph.specs.Graph.{way, node, assigns, own, end, of_thread, below, among, forked, forked_among, target}
+use Rattle.scl_graph.specs.Graph.{way, node, assigns, own, end, of_thread, nodes_below, below, among, forked, forked_among, target}
 use Rattle.scl_graph_laws.specs.Mirrors.{leads, HasNode, HasNodes}
-use Rattle.scl_graph_laws.proofs.Numbers.{own_count, thread_count, threads_among, lower_count, lower_among, IsNumbered, AreNumbered}
+use Rattle.scl_graph_laws.proofs.Numbers.{own_count, thread_count, threads_among, lower_count, lower_nodes, lower_among, IsNumbered, AreNumbered}
 use Rattle.scl_graph_laws.proofs.Segments.{StandAt, stand_from, stand_first, stand_second}
 use Rattle.scl_graph_laws.proofs.Ways.{way_leads, body_leads}
 
@@ -41,37 +42,25 @@ module _ (to : Way → ℕ) where
       (own to t b (goes.At (end b))) (node t step.Exit ∷ []) in
       omega (arith, i, own_length t b (goes.At (end b)))
 
-  of_three : (a b c : List Node) (l m n : ℕ) → length a ≡ l → length b ≡ m → length c ≡ n → length ((a ++ b) ++ c) ≡ l + (m + n)
-  of_three a b c l m n h i j =
-      let x : length ((a ++ b) ++ c) ≡ length (a ++ b) + length c = length-append (a ++ b) c in
-      let y : length (a ++ b) ≡ length a + length b = length-append a b in
-      omega (arith, x, y, h, i, j)
+  of_two : (a b : List Node) (m n : ℕ) → length a ≡ m → length b ≡ n → length (a ++ b) ≡ m + n
+  of_two a b m n h i = omega (arith, length-append a b, h, i)
 
-  mutual
-    pub below_length : (b : Block) → length (below to b) ≡ lower_count b
-    below_length (End n) = refl
-    below_length (Assign n x e rest) = below_length rest
-    below_length (Label name rest) = below_length rest
-    below_length (Goto g name rest) = below_length rest
-    below_length (Pause n rest) = below_length rest
-    below_length (If n e first second rest) = of_three (below to first) (below to second) (below to rest) (lower_count first) (lower_count second)
-        (lower_count rest) (below_length first) (below_length second) (below_length rest)
-    below_length (Fork n branches rest) =
-        let i : length (among to branches ++ below to rest) ≡ length (among to branches) + length (below to rest) = length-append (among to branches)
-        (below to rest) in
-        let j : length (among to branches) ≡ lower_among branches = among_length branches in
-        let k : length (below to rest) ≡ lower_count rest = below_length rest in
-        omega (arith, i, j, k)
+  lengths_below : AreRelated (λ nodes n. length nodes ≡ n) (nodes_below to) lower_nodes
+  lengths_below = record {
+    nothing = refl;
+    together = of_two;
+    label = λ name nodes n h. h;
+    fork = of_two;
+    branch = λ t body nodes n. of_two (of_thread to t body) nodes (suc (own_count body)) n (thread_length t body);
+  }
 
-    pub among_length : (branches : Branches) → length (among to branches) ≡ lower_among branches
-    among_length NoMore = refl
-    among_length (Branch t body more) =
-        let i : length ((of_thread to t body ++ below to body) ++ among to more) ≡ suc (own_count body) + (lower_count body + lower_among more) =
-        of_three (of_thread to t body) (below to body) (among to more) (suc (own_count body)) (lower_count body) (lower_among more) (thread_length t body)
-        (below_length body) (among_length more) in
-        omega (arith, i)
+  pub below_length : (b : Block) → length (below to b) ≡ lower_count b
+  below_length = totals_related (nodes_below to) lower_nodes lengths_below
 
-  of_three_threads : (a b c : List Thread) (l m n : ℕ) → length a ≡ l → length b ≡ m → length c ≡ n → length ((a ++ b) ++ c) ≡ l + (m + n)
+  pub among_length : (branches : Branches) → length (among to branches) ≡ lower_among branches
+  among_length = totals_among_related (nodes_below to) lower_nodes lengths_below
+
+  of_three_threads : (a b c : List Thread) (l m n : ℕ) → length a ≡ l → length b ≡ m → length c ≡ n → length ((a ++ b) ++ c) ≡ (l + m) + n
   of_three_threads a b c l m n h i j =
       let x : length ((a ++ b) ++ c) ≡ length (a ++ b) + length c = length-append (a ++ b) c in
       let y : length (a ++ b) ≡ length a + length b = length-append a b in
@@ -100,7 +89,7 @@ module _ (to : Way → ℕ) where
         (forked to u body) (forked_among to t more) in
         let j : length (forked to u body) ≡ thread_count body = forked_length u body in
         let k : length (forked_among to t more) ≡ threads_among more = forked_among_length t more in
-        ap suc (omega (arith, i, j, k))
+        omega (arith, i, j, k)
 
 -- ---- where they stand
 

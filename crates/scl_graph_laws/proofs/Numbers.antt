@@ -7,6 +7,7 @@ use Rattle.scl.specs.declared.statement.Statement.TheOpen as text
 use Rattle.scl.specs.declared.statement.Statement.TheFolds.{fold-roll-Statement, ind-Statement, map-Statement}
 use Rattle.scl.specs.Block.{Block, End, Assign, Label, Goto, Pause, If, Fork, Branches, NoMore, Branch}
 use Rattle.scl.specs.Numbering.{Piece, Counts, Numbers, piece, piece_of, in_row, beyond, inside, thread_body, branches_from, branch_counts, all_branch_counts}
+use Rattle.scl.specs.Sums.{Sum, total, total_among}
 use Rattle.scl_graph.specs.Graph.{end}
 
 -- the nodes of a thread in a part of its text, without its end
@@ -19,35 +20,26 @@ own_count (Pause n rest) = suc (suc (own_count rest))
 own_count (If n e first second rest) = suc (own_count first + (own_count second + own_count rest))
 own_count (Fork n branches rest) = suc (suc (own_count rest))
 
-abbrev mutual
-  -- the threads below
-  pub thread_count : Block → ℕ
-  thread_count (End n) = 0
-  thread_count (Assign n x e rest) = thread_count rest
-  thread_count (Label name rest) = thread_count rest
-  thread_count (Goto g name rest) = thread_count rest
-  thread_count (Pause n rest) = thread_count rest
-  thread_count (If n e first second rest) = thread_count first + (thread_count second + thread_count rest)
-  thread_count (Fork n branches rest) = threads_among branches + thread_count rest
+-- the threads below
+abbrev pub threads_counted : Sum ℕ
+threads_counted =
+    record { nothing = 0; together = λ a b. a + b; label = λ name count. count; fork = λ a b. a + b; branch = λ t body count. suc count }
 
-  pub threads_among : Branches → ℕ
-  threads_among NoMore = 0
-  threads_among (Branch t body more) = suc (thread_count body + threads_among more)
+abbrev pub thread_count : Block → ℕ
+thread_count = total threads_counted
 
-abbrev mutual
-  -- the nodes of these
-  pub lower_count : Block → ℕ
-  lower_count (End n) = 0
-  lower_count (Assign n x e rest) = lower_count rest
-  lower_count (Label name rest) = lower_count rest
-  lower_count (Goto g name rest) = lower_count rest
-  lower_count (Pause n rest) = lower_count rest
-  lower_count (If n e first second rest) = lower_count first + (lower_count second + lower_count rest)
-  lower_count (Fork n branches rest) = lower_among branches + lower_count rest
+abbrev pub threads_among : Branches → ℕ
+threads_among = total_among threads_counted
 
-  pub lower_among : Branches → ℕ
-  lower_among NoMore = 0
-  lower_among (Branch t body more) = suc (own_count body + (lower_count body + lower_among more))
+-- the nodes of these
+abbrev pub lower_nodes : Sum ℕ
+lower_nodes = record threads_counted { branch = λ t body count. suc (own_count body) + count }
+
+abbrev pub lower_count : Block → ℕ
+lower_count = total lower_nodes
+
+abbrev pub lower_among : Branches → ℕ
+lower_among = total_among lower_nodes
 
 abbrev mutual
   -- the own nodes begin at n, the threads below at t, and the nodes of these at b

@@ -10,8 +10,8 @@ use Rattle.scl.specs.Places.{here, later}
 use Rattle.scl.proofs.Sums.{total_before}
 use Rattle.scl_graph_laws.specs.Settling.{StayWithin}
 use Rattle.scl_graph_laws.proofs.Members.{contains_head, contains_tail, contains_none, contains_cons}
-use Rattle.scl_graph_laws.proofs.Searching.{own_labels, own_gotos, lower_listed, lower_labels, labels_among, Found, found_first, found_second, or_else_assoc, own_found}
-use Rattle.scl_graph_laws.proofs.Searching.{own_none, lower_found, lower_none, among_found, among_none, label_place}
+use Rattle.scl_graph_laws.proofs.Searching.{own_labels, own_gotos, lower_listed, lower_labels, labels_among, Found, found_first, found_second}
+use Rattle.scl_graph_laws.proofs.Searching.{or_else_assoc, own_found, own_none, lower_found, lower_none, among_found, among_none, label_place}
 
 -- ---- lists in which nothing stands twice
 
@@ -272,7 +272,8 @@ module _ (root : Block) where
             Contains (lower_labels (If n e a b rest)) name × (behind_lower_label (If n e a b rest) name ≡ behind_lower_label (before b rest) name)
         lower_of name h = (
           stands name h,
-          ap (λ o. or_else o (behind_lower_label rest name)) (found_second (behind_lower_label a name) (behind_lower_label b name) (lower_none a name (apart name h)))
+          ap (λ o. or_else o (behind_lower_label rest name))
+              (found_second (behind_lower_label a name) (behind_lower_label b name) (lower_none a name (apart name h)))
               ∙ sym (search_before b rest name),
         )
 
