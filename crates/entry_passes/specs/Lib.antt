@@ -1,3 +1,4 @@
 pub mod Exits
 pub mod Histories
 pub mod Entry
+pub mod Inside

@@ -1,12 +1,12 @@
 //! The states behind a superstate, which make the exit actions of what was active in it.
 
-ghost use Rattle.std.specs.Prelude.{◌≡◌, ◌++◌, suc, IfOk, length, map};
+ghost use Rattle.std.specs.Prelude.{◌≡◌, [], ◌∷◌, ◌++◌, suc, IfOk, OnOk, length, map};
 ghost use Rattle.entry_passes.specs.Exits.{integer, set, is_at, departure, departures, behind, way_out, ways_out};
 ghost use Rattle.entry_passes.specs.Exits.{led_out, left_by, left_transitions, left_behind};
 
 use crate::leaving::Leaving;
 use chart_elements::next;
-use core_charts::{Effect, Transition, copied_effects};
+use core_charts::{Effect, Transition, TransitionKind, copied_effects};
 use extended_charts::{ExtendedState, alone, always, has_some, made_state, sum};
 use sc_graph::VariableId;
 use sc_text::numbered;
@@ -51,6 +51,19 @@ fn joined(alloc: Global, first: &[Effect], then: &[Effect]) -> Result<Items<Effe
     Ok(made)
 }
 
+// These exit actions, behind which the variable notes nothing more.
+fn departing(
+    alloc: Global,
+    variable: VariableId,
+    exit: &[Effect],
+) -> Result<Items<Effect>, AllocError>
+    ensures { IfOk result (λ made. made ≡ exit.now ++ set variable 0 ∷ []) }
+{
+    let mut effects = copied_effects(alloc, exit)?;
+    effects.push(set(variable, 0)?)?;
+    Ok(effects)
+}
+
 fn departure(
     alloc: Global,
     variable: VariableId,
@@ -60,29 +73,32 @@ fn departure(
 ) -> Result<Transition, AllocError>
     ensures { IfOk result (λ made. made ≡ departure variable number target exit.now) }
 {
-    let mut effects = copied_effects(alloc, exit)?;
-    effects.push(set(variable, 0)?)?;
-    let mut made = always(true, effects, target);
-    made.trigger = Some(is_at(alloc, variable, number)?);
-    Ok(made)
+    let trigger = is_at(alloc, variable, number)?;
+    let effects = departing(alloc, variable, exit)?;
+    Ok(Transition {
+        kind: TransitionKind::Go,
+        immediate: true,
+        trigger: Some(trigger),
+        effects,
+        target,
+    })
 }
 
-fn departures(
+fn put_departures(
     alloc: Global,
     variable: VariableId,
     target: u32,
     exits: &[Items<Effect>],
-) -> Result<Items<Transition>, AllocError>
-    ensures { IfOk result (λ made. made ≡ departures variable 1 target exits.now) }
+    made: &mut Items<Transition>,
+) -> Result<(), AllocError>
+    ensures { OnOk result (made.new ≡ made.old ++ departures variable 1 target exits.now) }
 {
-    let mut made = Items::new(alloc);
     let mut number = 1;
     for exit in exits {
         made.push(departure(alloc, variable, number, target, exit.as_slice())?)?;
         number = next(number)?;
     }
-    made.push(always(true, Items::new(alloc), target))?;
-    Ok(made)
+    made.push(always(true, Items::new(alloc), target))
 }
 
 fn behind(alloc: Global, place: u32, transitions: Items<Transition>) -> ExtendedState
@@ -92,27 +108,65 @@ fn behind(alloc: Global, place: u32, transitions: Items<Transition>) -> Extended
     made_state(alloc, name, false, Items::new(alloc), transitions)
 }
 
-// The states from this place on that make what is left, then these effects, and go to the target.
-fn way_out(
+// Puts the state of this place that makes what is left of one region, and goes on.
+fn put_leaving(
+    alloc: Global,
+    place: u32,
+    onward: u32,
+    leaving: &Leaving,
+    made: &mut Items<ExtendedState>,
+) -> Result<(), AllocError>
+    ensures { OnOk result
+        (made.new ≡ made.old ++ behind place (departures leaving.now.variable 1 onward leaving.now.exits) ∷ []) }
+{
+    let mut transitions = Items::new(alloc);
+    put_departures(
+        alloc,
+        leaving.variable,
+        onward,
+        leaving.exits.as_slice(),
+        &mut transitions,
+    )?;
+    made.push(behind(alloc, place, transitions))
+}
+
+// Puts the state of this place that makes these effects and those of the transition, and goes to its target.
+fn put_last(
+    alloc: Global,
+    place: u32,
+    own: &[Effect],
+    transition: &Transition,
+    made: &mut Items<ExtendedState>,
+) -> Result<(), AllocError>
+    ensures { OnOk result
+        (made.new ≡ made.old ++ way_out place [] (own.now ++ transition.now.effects) transition.now.target) }
+{
+    let effects = joined(alloc, own, transition.effects.as_slice())?;
+    let transitions = alone(alloc, always(true, effects, transition.target))?;
+    made.push(behind(alloc, place, transitions))
+}
+
+// Puts the states from this place on that make what is left, then these effects and those of the transition, and go to
+// its target.
+fn put_way_out(
     alloc: Global,
     first: u32,
     leavings: &[Leaving],
-    effects: Items<Effect>,
-    target: u32,
-) -> Result<Items<ExtendedState>, AllocError>
-    ensures { IfOk result (λ made. made ≡ way_out first leavings.now effects target) }
+    own: &[Effect],
+    transition: &Transition,
+    made: &mut Items<ExtendedState>,
+) -> Result<(), AllocError>
+    ensures { OnOk result
+        (made.new
+        ≡ made.old ++ way_out first leavings.now (own.now ++ transition.now.effects) transition.now.target) }
 {
-    let mut made = Items::new(alloc);
     let mut place = first;
     for leaving in leavings {
         let onward = next(place)?;
-        let transitions = departures(alloc, leaving.variable, onward, leaving.exits.as_slice())?;
-        made.push(behind(alloc, place, transitions))?;
+        put_leaving(alloc, place, onward, leaving, made)?;
         place = onward;
     }
-    let transitions = alone(alloc, always(true, effects, target))?;
-    made.push(behind(alloc, place, transitions))?;
-    Ok(made)
+    put_last(alloc, place, own, transition, made)
 }
 
 // How many states one way out has.
@@ -125,36 +179,35 @@ fn length_of(leavings: &[Leaving]) -> Result<u32, AllocError>
     }
 }
 
-fn ways_out(
+fn put_ways_out(
     alloc: Global,
     first: u32,
     leavings: &[Leaving],
     own: &[Effect],
     transitions: &[Transition],
-) -> Result<Items<ExtendedState>, AllocError>
-    ensures { IfOk result (λ made. made ≡ ways_out first leavings.now own.now transitions.now) }
+    made: &mut Items<ExtendedState>,
+) -> Result<(), AllocError>
+    ensures { OnOk result (made.new ≡ made.old ++ ways_out first leavings.now own.now transitions.now) }
 {
     let states = length_of(leavings)?;
-    let mut made = Items::new(alloc);
     let mut place = first;
     for transition in transitions {
-        let effects = joined(alloc, own, transition.effects.as_slice())?;
-        made.append(way_out(alloc, place, leavings, effects, transition.target)?)?;
+        put_way_out(alloc, place, leavings, own, transition, made)?;
         place = sum(place, states)?;
     }
-    Ok(made)
+    Ok(())
 }
 
-fn led_out(
+fn put_led_out(
     alloc: Global,
     first: u32,
     leavings: &[Leaving],
     transitions: &[Transition],
-) -> Result<Items<Transition>, AllocError>
-    ensures { IfOk result (λ made. made ≡ led_out first leavings.now transitions.now) }
+    made: &mut Items<Transition>,
+) -> Result<(), AllocError>
+    ensures { OnOk result (made.new ≡ made.old ++ led_out first leavings.now transitions.now) }
 {
     let states = length_of(leavings)?;
-    let mut made = Items::new(alloc);
     let mut place = first;
     for transition in transitions {
         let mut copy = transition.copied(alloc)?;
@@ -163,56 +216,64 @@ fn led_out(
         made.push(copy)?;
         place = sum(place, states)?;
     }
-    Ok(made)
+    Ok(())
 }
 
-fn all_left_by(
+fn left_by(alloc: Global, own: &[Effect], transition: &Transition) -> Result<Transition, AllocError>
+    ensures { IfOk result (λ made. made ≡ left_by own.now transition.now) }
+{
+    let mut copy = transition.copied(alloc)?;
+    copy.effects = joined(alloc, own, transition.effects.as_slice())?;
+    Ok(copy)
+}
+
+fn put_left_by(
     alloc: Global,
     own: &[Effect],
     transitions: &[Transition],
-) -> Result<Items<Transition>, AllocError>
-    ensures { IfOk result (λ made. made ≡ map (left_by own.now) transitions.now) }
+    made: &mut Items<Transition>,
+) -> Result<(), AllocError>
+    ensures { OnOk result (made.new ≡ made.old ++ map (left_by own.now) transitions.now) }
 {
-    let mut made = Items::new(alloc);
     for transition in transitions {
-        let mut copy = transition.copied(alloc)?;
-        copy.effects = joined(alloc, own, transition.effects.as_slice())?;
-        made.push(copy)?;
+        made.push(left_by(alloc, own, transition)?)?;
     }
-    Ok(made)
+    Ok(())
 }
 
-/// The transitions of a state that makes these effects as it is left, where the states behind it stand from this place
-/// on. Err: memory was refused.
-pub(crate) fn left_transitions(
+/// Puts the transitions of a state that makes these effects as it is left, where the states behind it stand from this
+/// place on. Err: memory was refused.
+pub(crate) fn put_left_transitions(
     alloc: Global,
     place: u32,
     leavings: &[Leaving],
     own: &[Effect],
     transitions: &[Transition],
-) -> Result<Items<Transition>, AllocError>
-    ensures { IfOk result (λ made. made ≡ left_transitions place leavings.now own.now transitions.now) }
+    made: &mut Items<Transition>,
+) -> Result<(), AllocError>
+    ensures { OnOk result (made.new ≡ made.old ++ left_transitions place leavings.now own.now transitions.now) }
 {
     if has_some(leavings) {
-        led_out(alloc, place, leavings, transitions)
+        put_led_out(alloc, place, leavings, transitions, made)
     } else {
-        all_left_by(alloc, own, transitions)
+        put_left_by(alloc, own, transitions, made)
     }
 }
 
-/// The states behind it. Err: memory was refused.
-pub(crate) fn left_behind(
+/// Puts the states behind it. Err: memory was refused.
+pub(crate) fn put_left_behind(
     alloc: Global,
     place: u32,
     leavings: &[Leaving],
     own: &[Effect],
     transitions: &[Transition],
-) -> Result<Items<ExtendedState>, AllocError>
-    ensures { IfOk result (λ made. made ≡ left_behind place leavings.now own.now transitions.now) }
+    made: &mut Items<ExtendedState>,
+) -> Result<(), AllocError>
+    ensures { OnOk result (made.new ≡ made.old ++ left_behind place leavings.now own.now transitions.now) }
 {
     if has_some(leavings) {
-        ways_out(alloc, place, leavings, own, transitions)
+        put_ways_out(alloc, place, leavings, own, transitions, made)
     } else {
-        Ok(Items::new(alloc))
+        Ok(())
     }
 }

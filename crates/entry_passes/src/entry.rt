@@ -1,7 +1,7 @@
 //! Entry actions: a state that has such is entered by a step state before it, which makes them.
 
-ghost use Rattle.std.specs.Prelude.{◌≡◌, ◌+◌, IfOk, map, slice_get, unwrap_or};
-ghost use Rattle.entry_passes.specs.Entry.{width, entrances, nowhere, led, entering, laid, all_laid};
+ghost use Rattle.std.specs.Prelude.{◌≡◌, ◌+◌, [], ◌∷◌, ◌++◌, IfOk, OnOk, map, slice_get, unwrap_or};
+ghost use Rattle.entry_passes.specs.Entry.{width, entrances, nowhere, led, standing, entering, laid, all_laid};
 ghost use Rattle.entry_passes.specs.Entry.{entered, without_entry};
 
 use core_charts::{Effect, Region, State, Transition, copied_effects};
@@ -11,93 +11,131 @@ use sqlite_items::Items;
 use std::alloc::{AllocError, Global};
 
 /// Regions whose states are entered by the states that make their entry actions. Err: memory was refused.
-#[cycle(entered)]
 pub fn without_entry(alloc: Global, regions: &[ExtendedRegion]) -> Result<Items<Region>, AllocError>
     ensures { IfOk result (λ made. made ≡ map without_entry regions.now) }
 {
     let mut made = Items::new(alloc);
-    for region in regions {
-        made.push(region_without_entry(alloc, region)?)?;
-    }
+    put_regions(alloc, regions, &mut made)?;
     Ok(made)
 }
 
+// Puts what is made of regions behind others.
 #[cycle(entered)]
-fn region_without_entry(alloc: Global, region: &ExtendedRegion) -> Result<Region, AllocError>
-    ensures { IfOk result (λ made. made ≡ without_entry region.now) }
+fn put_regions(
+    alloc: Global,
+    regions: &[ExtendedRegion],
+    made: &mut Items<Region>,
+) -> Result<(), AllocError>
+    ensures { OnOk result (made.new ≡ made.old ++ map without_entry regions.now) }
 {
-    let states = region.states.as_slice();
-    let at = entrances(alloc, states)?;
-    Ok(Region {
+    for region in regions {
+        put_region(alloc, region, made)?;
+    }
+    Ok(())
+}
+
+#[cycle(entered)]
+fn put_region(
+    alloc: Global,
+    region: &ExtendedRegion,
+    made: &mut Items<Region>,
+) -> Result<(), AllocError>
+    ensures { OnOk result (made.new ≡ made.old ++ without_entry region.now ∷ []) }
+{
+    let mut at = Items::new(alloc);
+    put_entrances(region.states.as_slice(), &mut at)?;
+    let mut states = Items::new(alloc);
+    put_states(alloc, at.as_slice(), region.states.as_slice(), &mut states)?;
+    made.push(Region {
         name: region.name,
-        states: all_laid(alloc, at.as_slice(), states)?,
+        states,
     })
 }
 
-// What stands for the states of a region.
+// Puts what stands for the states of a region behind others.
 #[cycle(entered)]
-fn all_laid(alloc: Global, at: &[u32], states: &[ExtendedState]) -> Result<Items<State>, AllocError>
-    ensures { IfOk result (λ made. made ≡ all_laid at.now 0 0 (map entered states.now)) }
+fn put_states(
+    alloc: Global,
+    at: &[u32],
+    states: &[ExtendedState],
+    made: &mut Items<State>,
+) -> Result<(), AllocError>
+    ensures { OnOk result (made.new ≡ made.old ++ all_laid at.now 0 0 (map entered states.now)) }
 {
-    let mut made = Items::new(alloc);
     let mut number = 0;
     let mut place = 0;
     for state in states {
-        made.append(laid(alloc, at, number, place, state)?)?;
+        put_laid(alloc, at, number, place, state, made)?;
         number = past(number, 1)?;
         place = past(place, width(state))?;
     }
-    Ok(made)
+    Ok(())
 }
 
 #[cycle(entered)]
 #[tactic(auto, using(crate::proofs::Folded::state_entered))]
-fn laid(
+fn put_laid(
     alloc: Global,
     at: &[u32],
     number: u32,
     place: u32,
     state: &ExtendedState,
-) -> Result<Items<State>, AllocError>
-    ensures { IfOk result (λ made. made ≡ laid at.now number place (entered state.now)) }
+    made: &mut Items<State>,
+) -> Result<(), AllocError>
+    ensures { OnOk result (made.new ≡ made.old ++ laid at.now number place (entered state.now)) }
 {
     let entry = state.entry.as_slice();
-    let mut made = entering(alloc, number, place, state.is_initial, entry)?;
-    made.push(State {
-        name: state.name,
-        is_initial: state.is_initial && !has_some(entry),
-        is_final: state.is_final,
-        regions: without_entry(alloc, state.regions.as_slice())?,
-        transitions: all_led(alloc, at, state.transitions.as_slice())?,
-    })?;
-    Ok(made)
+    put_entering(alloc, number, place, state.is_initial, entry, made)?;
+    put_standing(alloc, at, state, made)
 }
 
-// The step state of this number and place, where there are entry actions.
-fn entering(
+// Puts the state itself.
+#[cycle(entered)]
+#[tactic(auto, using(crate::proofs::Folded::state_entered))]
+fn put_standing(
+    alloc: Global,
+    at: &[u32],
+    state: &ExtendedState,
+    made: &mut Items<State>,
+) -> Result<(), AllocError>
+    ensures { OnOk result (made.new ≡ made.old ++ standing at.now (entered state.now) ∷ []) }
+{
+    let mut regions = Items::new(alloc);
+    put_regions(alloc, state.regions.as_slice(), &mut regions)?;
+    let mut transitions = Items::new(alloc);
+    put_led(alloc, at, state.transitions.as_slice(), &mut transitions)?;
+    made.push(State {
+        name: state.name,
+        is_initial: state.is_initial && !has_some(state.entry.as_slice()),
+        is_final: state.is_final,
+        regions,
+        transitions,
+    })
+}
+
+// Puts the step state of this number and place, where there are entry actions.
+fn put_entering(
     alloc: Global,
     number: u32,
     place: u32,
     is_initial: bool,
     entry: &[Effect],
-) -> Result<Items<State>, AllocError>
-    ensures { IfOk result (λ made. made ≡ entering number place is_initial entry.now) }
+    made: &mut Items<State>,
+) -> Result<(), AllocError>
+    ensures { OnOk result (made.new ≡ made.old ++ entering number place is_initial entry.now) }
 {
     if !has_some(entry) {
-        return Ok(Items::new(alloc));
+        return Ok(());
     }
-    let effects = copied_effects(alloc, entry)?;
-    let transitions = alone(alloc, always(true, effects, past(place, 1)?))?;
-    alone(
-        alloc,
-        State {
-            name: numbered("enter__", number as u64),
-            is_initial,
-            is_final: false,
-            regions: Items::new(alloc),
-            transitions,
-        },
-    )
+    let behind = past(place, 1)?;
+    let transitions = alone(alloc, always(true, copied_effects(alloc, entry)?, behind))?;
+    made.push(State {
+        name: numbered("enter__", number as u64),
+        is_initial,
+        is_final: false,
+        regions: Items::new(alloc),
+        transitions,
+    })
 }
 
 #[tactic(auto, using(crate::proofs::Folded::state_entered))]
@@ -121,17 +159,16 @@ fn past(place: u32, width: u32) -> Result<u32, AllocError>
     }
 }
 
-// The place at which each state is entered.
-fn entrances(alloc: Global, states: &[ExtendedState]) -> Result<Items<u32>, AllocError>
-    ensures { IfOk result (λ made. made ≡ entrances (map entered states.now) 0) }
+// Puts the place at which each state is entered.
+fn put_entrances(states: &[ExtendedState], made: &mut Items<u32>) -> Result<(), AllocError>
+    ensures { OnOk result (made.new ≡ made.old ++ entrances (map entered states.now) 0) }
 {
-    let mut made = Items::new(alloc);
     let mut place = 0;
     for state in states {
         made.push(place)?;
         place = past(place, width(state))?;
     }
-    Ok(made)
+    Ok(())
 }
 
 fn entrance(at: &[u32], target: u32) -> u32
@@ -143,19 +180,19 @@ fn entrance(at: &[u32], target: u32) -> u32
     }
 }
 
-// Transitions as they stand, to where their targets are entered.
-fn all_led(
+// Puts transitions as they stand, to where their targets are entered.
+fn put_led(
     alloc: Global,
     at: &[u32],
     transitions: &[Transition],
-) -> Result<Items<Transition>, AllocError>
-    ensures { IfOk result (λ made. made ≡ map (led at.now) transitions.now) }
+    made: &mut Items<Transition>,
+) -> Result<(), AllocError>
+    ensures { OnOk result (made.new ≡ made.old ++ map (led at.now) transitions.now) }
 {
-    let mut made = Items::new(alloc);
     for transition in transitions {
         let mut copy = transition.copied(alloc)?;
         copy.target = entrance(at, transition.target);
         made.push(copy)?;
     }
-    Ok(made)
+    Ok(())
 }

@@ -1,15 +1,18 @@
 //! Exit actions: a transition makes those of the state that it leaves, behind those of what is active in it.
 
-ghost use Rattle.std.specs.Prelude.{◌≡◌, ◌+◌, IfOk, map};
-ghost use Rattle.entry_passes.specs.Exits.{noted, parting, own_note, left_in, left_region, left_state, all_regions};
-ghost use Rattle.entry_passes.specs.Exits.{with_behind, all_inside, outer_regions, with_exits};
+ghost use Rattle.std.specs.Prelude.{◌≡◌, ◌+◌, [], ◌∷◌, ◌++◌, IfOk, OnOk, length, map};
+ghost use Rattle.entry_passes.specs.Exits.{noted, parting, own_note, left_region, left_state, all_regions};
+ghost use Rattle.entry_passes.specs.Exits.{all_states, all_behind, with_behind, all_inside, outer_regions, with_exits};
+ghost use Rattle.entry_passes.specs.Inside.{note_of, own_leavings, own_transitions, fill_left};
 
-use crate::departures::{left_behind, left_transitions, set};
-use crate::leaving::{Leaving, has_exit, have_exits, inside, notes, state_inside, state_leavings};
-use core_charts::{Effect, copied_effects};
+use crate::bare::bare;
+use crate::departures::{put_left_behind, put_left_transitions, set};
+use crate::leaving::{
+    Leaving, has_exit, have_exits, inside, notes, put_state_leavings, state_inside,
+};
+use core_charts::{Effect, Transition, copied_effects};
 use extended_charts::{
-    ExtendedChart, ExtendedRegion, ExtendedState, alone, count, has_some, integers, one, sum,
-    variable,
+    ExtendedChart, ExtendedRegion, ExtendedState, count, has_some, integers, one, sum, variable,
 };
 use sc_graph::VariableId;
 use sqlite_items::Items;
@@ -23,34 +26,35 @@ const MOST_STATES: u32 = 1024;
 pub fn with_exits(alloc: Global, chart: ExtendedChart) -> Result<ExtendedChart, AllocError>
     ensures { IfOk result (λ made. made ≡ with_exits chart) }
 {
-    let first = u32::from(variable(chart.variables.len())?);
-    let count = all_inside(chart.regions.as_slice())?;
-    let regions = outer_regions(alloc, first, chart.regions.as_slice())?;
-    let mut variables = chart.variables;
-    variables.append(integers(alloc, "in__", count)?)?;
-    Ok(ExtendedChart {
-        name: chart.name,
-        variables,
-        signals: chart.signals,
-        befores: chart.befores,
-        constants: chart.constants,
-        counts: chart.counts,
-        regions,
-    })
+    let mut chart = chart;
+    put_exits(alloc, &mut chart)?;
+    Ok(chart)
 }
 
-// The number of a state, where its region notes it and the state has exit actions.
-fn noted(
-    alloc: Global,
+// The chart is behind a reference, so that no `?` has to drop its parts.
+fn put_exits(alloc: Global, chart: &mut ExtendedChart) -> Result<(), AllocError>
+    ensures { OnOk result (chart.new ≡ with_exits chart.old) }
+{
+    let first = u32::from(variable(chart.variables.len())?);
+    let count = all_inside(chart.regions.as_slice())?;
+    let mut regions = Items::new(alloc);
+    put_outer_regions(alloc, first, chart.regions.as_slice(), &mut regions)?;
+    chart.regions = regions;
+    chart.variables.append(integers(alloc, "in__", count)?)
+}
+
+// Puts the number of a state, where its region notes it and the state has exit actions.
+fn put_noted(
     own: Option<VariableId>,
     number: u32,
     exit: &[Effect],
-) -> Result<Items<Effect>, AllocError>
-    ensures { IfOk result (λ made. made ≡ noted own number exit.now) }
+    made: &mut Items<Effect>,
+) -> Result<(), AllocError>
+    ensures { OnOk result (made.new ≡ made.old ++ noted own number exit.now) }
 {
     match own {
-        Some(x) if has_some(exit) => alone(alloc, set(x, number)?),
-        _ => Ok(Items::new(alloc)),
+        Some(x) if has_some(exit) => made.push(set(x, number)?),
+        _ => Ok(()),
     }
 }
 
@@ -63,7 +67,7 @@ fn parting(
     ensures { IfOk result (λ made. made ≡ parting own exit.now) }
 {
     let mut made = copied_effects(alloc, exit)?;
-    made.append(noted(alloc, own, 0, exit)?)?;
+    put_noted(own, 0, exit, &mut made)?;
     Ok(made)
 }
 
@@ -75,6 +79,14 @@ fn own_note(x: u32, notes: bool) -> Result<Option<VariableId>, AllocError>
     } else {
         Ok(None)
     }
+}
+
+// The variable in which a region notes where it is, behind those of the regions in it, which begin with this one.
+fn note_of(x: u32, region: &ExtendedRegion) -> Result<Option<VariableId>, AllocError>
+    ensures { IfOk result (λ own. own ≡ note_of x (left_region region.now)) }
+{
+    let notes_itself = have_exits(region.states.as_slice());
+    own_note(sum(x, inside(region)?)?, notes_itself)
 }
 
 // The place behind so many states. Err: no region is made of so many, since a chart has far fewer in one.
@@ -89,11 +101,16 @@ fn place_behind(place: u32, width: u32) -> Result<u32, AllocError>
     }
 }
 
-// What is active in a state that a reduction made is left with the author's state around it.
-fn left_in(alloc: Global, is_own: bool, leavings: Items<Leaving>) -> Items<Leaving>
-    ensures { result ≡ left_in is_own leavings }
+// What is left of the regions in a state. What is active in one that a reduction made is left with the author's state
+// around it.
+fn leavings_of(alloc: Global, x: u32, state: &ExtendedState) -> Result<Items<Leaving>, AllocError>
+    ensures { IfOk result (λ made. made ≡ own_leavings x state.now) }
 {
-    if is_own { leavings } else { Items::new(alloc) }
+    let mut made = Items::new(alloc);
+    if state.is_own {
+        put_state_leavings(alloc, x, state, &mut made)?;
+    }
+    Ok(made)
 }
 
 // How many regions note where they are.
@@ -107,141 +124,203 @@ fn all_inside(regions: &[ExtendedRegion]) -> Result<u32, AllocError>
     Ok(count)
 }
 
-// The regions of the chart.
-fn outer_regions(
+// Puts the regions of the chart.
+fn put_outer_regions(
     alloc: Global,
     first: u32,
     regions: &[ExtendedRegion],
-) -> Result<Items<ExtendedRegion>, AllocError>
-    ensures { IfOk result (λ made. made ≡ outer_regions first (map left_region regions.now)) }
+    made: &mut Items<ExtendedRegion>,
+) -> Result<(), AllocError>
+    ensures { OnOk result (made.new ≡ made.old ++ outer_regions first (map left_region regions.now)) }
 {
-    let mut made = Items::new(alloc);
     let mut x = first;
     for region in regions {
-        made.push(left_region(alloc, None, x, region)?)?;
+        put_region(alloc, None, x, region, made)?;
         x = sum(x, inside(region)?)?;
     }
-    Ok(made)
+    Ok(())
 }
 
-// The regions of a superstate.
+// Puts the regions of a superstate.
 #[cycle(left)]
-fn all_regions(
+fn put_regions(
     alloc: Global,
     first: u32,
     regions: &[ExtendedRegion],
-) -> Result<Items<ExtendedRegion>, AllocError>
-    ensures { IfOk result (λ made. made ≡ all_regions first (map left_region regions.now)) }
+    made: &mut Items<ExtendedRegion>,
+) -> Result<(), AllocError>
+    ensures { OnOk result (made.new ≡ made.old ++ all_regions first (map left_region regions.now)) }
 {
-    let mut made = Items::new(alloc);
     let mut x = first;
     for region in regions {
-        let notes_itself = have_exits(region.states.as_slice());
-        let own = own_note(sum(x, inside(region)?)?, notes_itself)?;
-        made.push(left_region(alloc, own, x, region)?)?;
+        let own = note_of(x, region)?;
+        put_region(alloc, own, x, region, made)?;
         x = sum(x, notes(region)?)?;
     }
-    Ok(made)
+    Ok(())
 }
 
 #[cycle(left)]
-fn left_region(
+fn put_region(
     alloc: Global,
     own: Option<VariableId>,
     x: u32,
     region: &ExtendedRegion,
-) -> Result<ExtendedRegion, AllocError>
-    ensures { IfOk result (λ made. made ≡ (left_region region.now).made own x) }
+    made: &mut Items<ExtendedRegion>,
+) -> Result<(), AllocError>
+    ensures { OnOk result (made.new ≡ made.old ++ (left_region region.now).made own x ∷ []) }
 {
-    Ok(ExtendedRegion {
+    let mut states = Items::new(alloc);
+    put_with_behind(alloc, own, x, region.states.as_slice(), &mut states)?;
+    made.push(ExtendedRegion {
         name: region.name,
-        states: with_behind(alloc, own, x, region.states.as_slice())?,
+        states,
     })
 }
 
-// The states of a region, and what stands behind them.
+// Puts the states of a region, and what stands behind them.
 #[cycle(left)]
-fn with_behind(
+fn put_with_behind(
     alloc: Global,
     own: Option<VariableId>,
     first: u32,
     states: &[ExtendedState],
-) -> Result<Items<ExtendedState>, AllocError>
-    ensures { IfOk result (λ made. made ≡ with_behind own first (map left_state states.now)) }
+    made: &mut Items<ExtendedState>,
+) -> Result<(), AllocError>
+    ensures { OnOk result (made.new ≡ made.old ++ with_behind own first (map left_state states.now)) }
 {
-    let mut made = Items::new(alloc);
-    let mut all_behind = Items::new(alloc);
+    let mut behind = Items::new(alloc);
+    put_states(alloc, own, first, states, made, &mut behind)?;
+    made.append(behind)
+}
+
+// Puts the states of a region, and elsewhere what stands behind them.
+#[cycle(left)]
+fn put_states(
+    alloc: Global,
+    own: Option<VariableId>,
+    first: u32,
+    states: &[ExtendedState],
+    made: &mut Items<ExtendedState>,
+    behind: &mut Items<ExtendedState>,
+) -> Result<(), AllocError>
+    ensures states { OnOk result
+        (made.new ≡ made.old ++ all_states own 1 first (length states.now) (map left_state states.now)) }
+    ensures behind { OnOk result
+        (behind.new ≡ behind.old ++ all_behind own first (length states.now) (map left_state states.now)) }
+{
     let mut number = 1;
     let mut x = first;
     let mut place = count(states)?;
     for state in states {
-        let behind = behind(alloc, own, x, place, state)?;
-        made.push(left_state(alloc, own, number, x, place, state)?)?;
+        put_state(alloc, own, number, x, place, state, made)?;
+        place = put_behind(alloc, own, x, place, state, behind)?;
         number = sum(number, one(has_exit(state)))?;
         x = sum(x, state_inside(state)?)?;
-        place = place_behind(place, count(behind.as_slice())?)?;
-        all_behind.append(behind)?;
     }
-    made.append(all_behind)?;
-    Ok(made)
+    Ok(())
 }
 
 #[cycle(left)]
 #[tactic(auto, using(crate::proofs::Left::state_made))]
-fn left_state(
+fn put_state(
     alloc: Global,
     own: Option<VariableId>,
     number: u32,
     x: u32,
     place: u32,
     state: &ExtendedState,
-) -> Result<ExtendedState, AllocError>
-    ensures { IfOk result (λ made. made ≡ (left_state state.now).made own number x place) }
+    made: &mut Items<ExtendedState>,
+) -> Result<(), AllocError>
+    ensures { OnOk result (made.new ≡ made.old ++ (left_state state.now).made own number x place ∷ []) }
 {
-    let exit = state.exit.as_slice();
-    let transitions = state.transitions.as_slice();
-    let leavings = left_in(alloc, state.is_own, state_leavings(alloc, x, state)?);
-    let parting = parting(alloc, own, exit)?;
-    let mut entry = noted(alloc, own, number, exit)?;
-    entry.append(copied_effects(alloc, state.entry.as_slice())?)?;
-    Ok(ExtendedState {
-        name: state.name,
-        is_own: state.is_own,
-        is_initial: state.is_initial,
-        is_final: state.is_final,
-        entry,
-        exit: Items::new(alloc),
-        during: Items::new(alloc),
-        regions: all_regions(alloc, x, state.regions.as_slice())?,
-        transitions: left_transitions(
-            alloc,
-            place,
-            leavings.as_slice(),
-            parting.as_slice(),
-            transitions,
-        )?,
-    })
+    let mut left = bare(alloc, state);
+    fill_left(alloc, own, number, x, place, state, &mut left)?;
+    made.push(left)
 }
 
-// What stands behind a state, from this place on.
-#[tactic(auto, using(crate::proofs::Left::state_behind))]
-fn behind(
+// Puts what a state holds into a bare one, which is behind a reference so that no `?` has to drop its parts.
+#[cycle(left)]
+fn fill_left(
+    alloc: Global,
+    own: Option<VariableId>,
+    number: u32,
+    x: u32,
+    place: u32,
+    state: &ExtendedState,
+    left: &mut ExtendedState,
+) -> Result<(), AllocError>
+    ensures { OnOk result (left.new ≡ fill_left own number x place state.now left.old) }
+{
+    put_noted(own, number, state.exit.as_slice(), &mut left.entry)?;
+    left.entry
+        .append(copied_effects(alloc, state.entry.as_slice())?)?;
+    put_regions(alloc, x, state.regions.as_slice(), &mut left.regions)?;
+    put_transitions(alloc, own, x, place, state, &mut left.transitions)
+}
+
+// Puts the transitions of a state.
+fn put_transitions(
     alloc: Global,
     own: Option<VariableId>,
     x: u32,
     place: u32,
     state: &ExtendedState,
-) -> Result<Items<ExtendedState>, AllocError>
-    ensures { IfOk result (λ made. made ≡ (left_state state.now).behind own x place) }
+    made: &mut Items<Transition>,
+) -> Result<(), AllocError>
+    ensures { OnOk result (made.new ≡ made.old ++ own_transitions own x place state.now) }
 {
-    let transitions = state.transitions.as_slice();
-    let leavings = left_in(alloc, state.is_own, state_leavings(alloc, x, state)?);
+    let leavings = leavings_of(alloc, x, state)?;
     let parting = parting(alloc, own, state.exit.as_slice())?;
-    left_behind(
+    put_left_transitions(
         alloc,
         place,
         leavings.as_slice(),
         parting.as_slice(),
-        transitions,
+        state.transitions.as_slice(),
+        made,
     )
+}
+
+// Puts what stands behind a state, from this place on.
+#[tactic(auto, using(crate::proofs::Left::state_behind))]
+fn put_own_behind(
+    alloc: Global,
+    own: Option<VariableId>,
+    x: u32,
+    place: u32,
+    state: &ExtendedState,
+    made: &mut Items<ExtendedState>,
+) -> Result<(), AllocError>
+    ensures { OnOk result (made.new ≡ made.old ++ (left_state state.now).behind own x place) }
+{
+    let leavings = leavings_of(alloc, x, state)?;
+    let parting = parting(alloc, own, state.exit.as_slice())?;
+    put_left_behind(
+        alloc,
+        place,
+        leavings.as_slice(),
+        parting.as_slice(),
+        state.transitions.as_slice(),
+        made,
+    )
+}
+
+// Puts it, and tells the place behind it.
+fn put_behind(
+    alloc: Global,
+    own: Option<VariableId>,
+    x: u32,
+    place: u32,
+    state: &ExtendedState,
+    made: &mut Items<ExtendedState>,
+) -> Result<u32, AllocError>
+    ensures place { IfOk result (λ past. past ≡ place + length ((left_state state.now).behind own x place)) }
+    ensures behind { OnOk result (made.new ≡ made.old ++ (left_state state.now).behind own x place) }
+{
+    let mut behind = Items::new(alloc);
+    put_own_behind(alloc, own, x, place, state, &mut behind)?;
+    let past = place_behind(place, count(behind.as_slice())?)?;
+    made.append(behind)?;
+    Ok(past)
 }

@@ -1,26 +1,27 @@
 //! Histories: regions that begin where they were last.
 
-ghost use Rattle.std.specs.Prelude.{◌≡◌, suc, IfOk, map};
-ghost use Rattle.entry_passes.specs.Histories.{asks, entering, noted, led, was_at, resumption, initial_among};
-ghost use Rattle.entry_passes.specs.Histories.{resumptions, resuming, own_past, past_own, begins, history_of};
-ghost use Rattle.entry_passes.specs.Histories.{all_regions, all_states};
+ghost use Rattle.std.specs.Prelude.{◌≡◌, [], ◌∷◌, ◌++◌, suc, IfOk, OnOk, map};
+ghost use Rattle.entry_passes.specs.Histories.{asks, entering, noted, led, own_past, past_own, begins, history_of};
+ghost use Rattle.entry_passes.specs.Histories.{all_regions, all_states, recalling};
 ghost use Rattle.entry_passes.specs.Histories.{made_region, past_region, past_state, with_histories};
+ghost use Rattle.entry_passes.specs.Inside.{fill_past};
 
-use crate::departures::{is_at, set};
+use crate::bare::bare;
+use crate::departures::set;
 use crate::recalls::{
-    asking, is_by_history, is_recalled, kept_in, recalled_among, region_kept, state_kept,
-    variables_for,
+    Kept, asking_count, is_by_history, is_recalled, put_kept_in, put_variables, recalled_among,
+    region_count, state_count,
 };
+use crate::resuming::put_resuming;
 use chart_elements::next;
 use core_charts::{Effect, Transition, copied_effects};
 use extended_charts::{
-    ExtendedChart, ExtendedRegion, ExtendedState, alone, always, copied_durings, copy, count,
-    has_some, made_state, reset, sum, variable,
+    ExtendedChart, ExtendedRegion, ExtendedState, copied_durings, copy, count, has_some, reset,
+    sum, variable,
 };
 use sc_graph::VariableId;
-use sc_text::numbered;
-use sc_values::{BinaryOperator, Expr, Value};
-use sqlite_items::{Boxed, Items};
+use sc_values::{Expr, Value};
+use sqlite_items::Items;
 use std::alloc::{AllocError, Global};
 
 /// A region that goes on where it was, in a state that was entered by history.
@@ -47,23 +48,33 @@ pub struct Standing {
 pub fn with_histories(alloc: Global, chart: ExtendedChart) -> Result<ExtendedChart, AllocError>
     ensures { IfOk result (λ made. made ≡ with_histories chart) }
 {
-    let kept = kept_in(alloc, false, chart.regions.as_slice())?;
-    if !has_some(kept.as_slice()) {
-        return Ok(chart);
+    let mut chart = chart;
+    put_histories(alloc, &mut chart)?;
+    Ok(chart)
+}
+
+// The chart is behind a reference, so that no `?` has to drop its parts.
+fn put_histories(alloc: Global, chart: &mut ExtendedChart) -> Result<(), AllocError>
+    ensures { OnOk result (chart.new ≡ with_histories chart.old) }
+{
+    let mut kept = Items::new(alloc);
+    put_kept_in(alloc, false, chart.regions.as_slice(), &mut kept)?;
+    if has_some(kept.as_slice()) {
+        put_recalling(alloc, kept.as_slice(), chart)
+    } else {
+        Ok(())
     }
+}
+
+// Where these variables are needed.
+fn put_recalling(alloc: Global, kept: &[Kept], chart: &mut ExtendedChart) -> Result<(), AllocError>
+    ensures { OnOk result (chart.new ≡ recalling kept.now chart.old) }
+{
     let first = u32::from(variable(chart.variables.len())?);
-    let regions = all_regions(alloc, None, first, chart.regions.as_slice())?;
-    let mut variables = chart.variables;
-    variables.append(variables_for(alloc, kept.as_slice())?)?;
-    Ok(ExtendedChart {
-        name: chart.name,
-        variables,
-        signals: chart.signals,
-        befores: chart.befores,
-        constants: chart.constants,
-        counts: chart.counts,
-        regions,
-    })
+    let mut regions = Items::new(alloc);
+    put_regions(alloc, None, first, chart.regions.as_slice(), &mut regions)?;
+    chart.regions = regions;
+    put_variables(kept, &mut chart.variables)
 }
 
 // The transition that is taken goes by history.
@@ -82,29 +93,28 @@ fn entered_of(asked: VariableId) -> Result<VariableId, AllocError>
     variable(asked as usize + 1)
 }
 
-// What is done as a state is entered, where a transition leads to it by history.
-fn entering(
-    alloc: Global,
+// Puts what is done as a state is entered, where a transition leads to it by history.
+fn put_entering(
     asked: VariableId,
     is_recalled: bool,
-) -> Result<Items<Effect>, AllocError>
-    ensures { IfOk result (λ made. made ≡ entering asked is_recalled) }
+    made: &mut Items<Effect>,
+) -> Result<(), AllocError>
+    ensures { OnOk result (made.new ≡ made.old ++ entering asked is_recalled) }
 {
-    let mut made = Items::new(alloc);
-    if is_recalled {
-        made.push(copy(entered_of(asked)?, asked))?;
-        made.push(reset(asked))?;
+    if !is_recalled {
+        return Ok(());
     }
-    Ok(made)
+    made.push(copy(entered_of(asked)?, asked))?;
+    made.push(reset(asked))
 }
 
-// What is done as the state of this place is entered, where the region keeps where it is.
-fn noted(alloc: Global, own: Option<Past>, place: u32) -> Result<Items<Effect>, AllocError>
-    ensures { IfOk result (λ made. made ≡ noted own place) }
+// Puts what is done as the state of this place is entered, where the region keeps where it is.
+fn put_noted(own: Option<Past>, place: u32, made: &mut Items<Effect>) -> Result<(), AllocError>
+    ensures { OnOk result (made.new ≡ made.old ++ noted own place) }
 {
     match own {
-        Some(past) => alone(alloc, set(past.last, next(place)?)?),
-        None => Ok(Items::new(alloc)),
+        Some(past) => made.push(set(past.last, next(place)?)?),
+        None => Ok(()),
     }
 }
 
@@ -119,89 +129,18 @@ fn led(alloc: Global, at: Standing, transition: &Transition) -> Result<Transitio
     Ok(made)
 }
 
-fn all_led(
+fn put_led(
     alloc: Global,
     at: Standing,
     transitions: &[Transition],
-) -> Result<Items<Transition>, AllocError>
-    ensures { IfOk result (λ made. made ≡ map (led at) transitions.now) }
+    made: &mut Items<Transition>,
+) -> Result<(), AllocError>
+    ensures { OnOk result (made.new ≡ made.old ++ map (led at) transitions.now) }
 {
-    let mut made = Items::new(alloc);
     for transition in transitions {
         made.push(led(alloc, at, transition)?)?;
     }
-    Ok(made)
-}
-
-// Whether the region was in the state of this place, and goes on there.
-fn was_at(alloc: Global, past: Past, place: u32) -> Result<Expr, AllocError>
-    ensures { IfOk result (λ made. made ≡ was_at past place) }
-{
-    let history = Boxed::new(alloc, Expr::Load(past.history))?;
-    let last = Boxed::new(alloc, is_at(alloc, past.last, next(place)?)?)?;
-    Ok(Expr::Binary(BinaryOperator::And, history, last))
-}
-
-fn resumption(alloc: Global, past: Past, place: u32) -> Result<Transition, AllocError>
-    ensures { IfOk result (λ made. made ≡ resumption past place) }
-{
-    let mut made = always(true, Items::new(alloc), place);
-    made.trigger = Some(was_at(alloc, past, place)?);
-    Ok(made)
-}
-
-// To each state but the initial one.
-#[tactic(auto, using(crate::proofs::PastStates::state_begins))]
-fn resumptions(
-    alloc: Global,
-    past: Past,
-    states: &[ExtendedState],
-) -> Result<Items<Transition>, AllocError>
-    ensures { IfOk result (λ made. made ≡ resumptions past 0 (map past_state states.now)) }
-{
-    let mut made = Items::new(alloc);
-    let mut place = 0;
-    for state in states {
-        if !state.is_initial {
-            made.push(resumption(alloc, past, place)?)?;
-        }
-        place = next(place)?;
-    }
-    Ok(made)
-}
-
-#[tactic(auto, using(crate::proofs::PastStates::state_begins))]
-fn initial_among(states: &[ExtendedState]) -> Result<u32, AllocError>
-    ensures { IfOk result (λ place. place ≡ initial_among 0 (map past_state states.now)) }
-{
-    let mut place = 0;
-    for state in states {
-        if state.is_initial {
-            return Ok(place);
-        }
-        place = next(place)?;
-    }
-    Ok(place)
-}
-
-// Where the region begins, if not in its initial state.
-fn resuming(
-    alloc: Global,
-    own: Option<Past>,
-    states: &[ExtendedState],
-) -> Result<Items<ExtendedState>, AllocError>
-    ensures { IfOk result (λ made. made ≡ resuming own (map past_state states.now)) }
-{
-    let Some(past) = own else {
-        return Ok(Items::new(alloc));
-    };
-    let name = numbered("resume__", count(states)? as u64);
-    let mut ways = resumptions(alloc, past, states)?;
-    ways.push(always(true, Items::new(alloc), initial_among(states)?))?;
-    alone(
-        alloc,
-        made_state(alloc, name, true, Items::new(alloc), ways),
-    )
+    Ok(())
 }
 
 fn own_past(history: Option<VariableId>, x: u32) -> Result<Option<Past>, AllocError>
@@ -245,112 +184,142 @@ fn history_of(asked: VariableId, is_recalled: bool) -> Result<Option<VariableId>
     }
 }
 
+// Puts what is made of regions behind others.
 #[cycle(past)]
-fn all_regions(
+fn put_regions(
     alloc: Global,
     history: Option<VariableId>,
     first: u32,
     regions: &[ExtendedRegion],
-) -> Result<Items<ExtendedRegion>, AllocError>
-    ensures { IfOk result (λ made. made ≡ all_regions history first (map past_region regions.now)) }
+    made: &mut Items<ExtendedRegion>,
+) -> Result<(), AllocError>
+    ensures { OnOk result (made.new ≡ made.old ++ all_regions history first (map past_region regions.now)) }
 {
-    let mut made = Items::new(alloc);
     let mut x = first;
     for region in regions {
         let own = own_past(history, x)?;
         let inside = past_own(history, x)?;
-        made.push(past_region(alloc, own, inside, region)?)?;
-        x = sum(inside, count(region_kept(alloc, region)?.as_slice())?)?;
+        put_region(alloc, own, inside, region, made)?;
+        x = sum(inside, region_count(alloc, region)?)?;
     }
-    Ok(made)
+    Ok(())
 }
 
 #[cycle(past)]
 #[tactic(auto, using(crate::proofs::PastStates::region_made))]
-fn past_region(
+fn put_region(
     alloc: Global,
     own: Option<Past>,
     x: u32,
     region: &ExtendedRegion,
-) -> Result<ExtendedRegion, AllocError>
-    ensures { IfOk result (λ made. made ≡ (past_region region.now).made own x) }
+    made: &mut Items<ExtendedRegion>,
+) -> Result<(), AllocError>
+    ensures { OnOk result (made.new ≡ made.old ++ (past_region region.now).made own x ∷ []) }
 {
     let states = region.states.as_slice();
     let recalled = recalled_among(alloc, count(states)?, states)?;
-    Ok(ExtendedRegion {
+    let mut inside = Items::new(alloc);
+    put_made(alloc, own, recalled.as_slice(), x, states, &mut inside)?;
+    made.push(ExtendedRegion {
         name: region.name,
-        states: made_region(alloc, own, recalled.as_slice(), x, states)?,
+        states: inside,
     })
 }
 
+// Puts the states of a region in which transitions go to these places by history.
 #[cycle(past)]
-fn made_region(
+fn put_made(
     alloc: Global,
     own: Option<Past>,
     recalled: &[u32],
     x: u32,
     states: &[ExtendedState],
-) -> Result<Items<ExtendedState>, AllocError>
-    ensures { IfOk result (λ made. made ≡ made_region own recalled.now x (map past_state states.now)) }
+    made: &mut Items<ExtendedState>,
+) -> Result<(), AllocError>
+    ensures { OnOk result (made.new ≡ made.old ++ made_region own recalled.now x (map past_state states.now)) }
 {
     let at = Standing {
         count: count(states)?,
         asked: variable(x as usize)?,
         own,
     };
-    let inside = sum(x, count(asking(alloc, recalled)?.as_slice())?)?;
-    let mut made = all_states(alloc, at, recalled, inside, states)?;
-    made.append(resuming(alloc, own, states)?)?;
-    Ok(made)
+    let inside = sum(x, asking_count(recalled))?;
+    put_states(alloc, at, recalled, inside, states, made)?;
+    put_resuming(alloc, own, states, made)
 }
 
 #[cycle(past)]
-fn all_states(
+fn put_states(
     alloc: Global,
     at: Standing,
     recalled: &[u32],
     first: u32,
     states: &[ExtendedState],
-) -> Result<Items<ExtendedState>, AllocError>
-    ensures { IfOk result (λ made. made ≡ all_states at recalled.now 0 first (map past_state states.now)) }
+    made: &mut Items<ExtendedState>,
+) -> Result<(), AllocError>
+    ensures { OnOk result (made.new ≡ made.old ++ all_states at recalled.now 0 first (map past_state states.now)) }
 {
-    let mut made = Items::new(alloc);
     let mut place = 0;
     let mut x = first;
     for state in states {
         let is_recalled = is_recalled(place, recalled);
-        made.push(past_state(alloc, at, is_recalled, place, x, state)?)?;
-        x = sum(x, count(state_kept(alloc, is_recalled, state)?.as_slice())?)?;
+        put_state(alloc, at, is_recalled, place, x, state, made)?;
+        x = sum(x, state_count(alloc, is_recalled, state)?)?;
         place = next(place)?;
     }
-    Ok(made)
+    Ok(())
 }
 
 #[cycle(past)]
 #[tactic(auto, using(crate::proofs::PastStates::state_made))]
-fn past_state(
+fn put_state(
     alloc: Global,
     at: Standing,
     is_recalled: bool,
     place: u32,
     x: u32,
     state: &ExtendedState,
-) -> Result<ExtendedState, AllocError>
-    ensures { IfOk result (λ made. made ≡ (past_state state.now).made at is_recalled place x) }
+    made: &mut Items<ExtendedState>,
+) -> Result<(), AllocError>
+    ensures { OnOk result (made.new ≡ made.old ++ (past_state state.now).made at is_recalled place x ∷ []) }
+{
+    let mut past = bare(alloc, state);
+    past.is_initial = begins(at.own, state.is_initial);
+    fill_past(alloc, at, is_recalled, place, x, state, &mut past)?;
+    made.push(past)
+}
+
+// Puts what a state holds into a bare one, which is behind a reference so that no `?` has to drop its parts.
+#[cycle(past)]
+fn fill_past(
+    alloc: Global,
+    at: Standing,
+    is_recalled: bool,
+    place: u32,
+    x: u32,
+    state: &ExtendedState,
+    past: &mut ExtendedState,
+) -> Result<(), AllocError>
+    ensures { OnOk result (past.new ≡ fill_past at is_recalled place x state.now past.old) }
 {
     let history = history_of(at.asked, is_recalled)?;
-    let mut entry = noted(alloc, at.own, place)?;
-    entry.append(entering(alloc, at.asked, is_recalled)?)?;
-    entry.append(copied_effects(alloc, state.entry.as_slice())?)?;
-    Ok(ExtendedState {
-        name: state.name,
-        is_own: state.is_own,
-        is_initial: begins(at.own, state.is_initial),
-        is_final: state.is_final,
-        entry,
-        exit: copied_effects(alloc, state.exit.as_slice())?,
-        during: copied_durings(alloc, state.during.as_slice())?,
-        regions: all_regions(alloc, history, x, state.regions.as_slice())?,
-        transitions: all_led(alloc, at, state.transitions.as_slice())?,
-    })
+    put_noted(at.own, place, &mut past.entry)?;
+    put_entering(at.asked, is_recalled, &mut past.entry)?;
+    past.entry
+        .append(copied_effects(alloc, state.entry.as_slice())?)?;
+    past.exit = copied_effects(alloc, state.exit.as_slice())?;
+    past.during = copied_durings(alloc, state.during.as_slice())?;
+    put_regions(
+        alloc,
+        history,
+        x,
+        state.regions.as_slice(),
+        &mut past.regions,
+    )?;
+    put_led(
+        alloc,
+        at,
+        state.transitions.as_slice(),
+        &mut past.transitions,
+    )
 }

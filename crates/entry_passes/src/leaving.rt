@@ -1,12 +1,12 @@
 //! Which regions note in which of their states they are, and what is left of them as a superstate around them is left.
 
-ghost use Rattle.std.specs.Prelude.{◌≡◌, IfOk, map};
+ghost use Rattle.std.specs.Prelude.{◌≡◌, ◌++◌, IfOk, OnOk, map};
 ghost use Rattle.extended_charts.specs.Making.{has_some};
 ghost use Rattle.entry_passes.specs.Exits.{left_region, left_state, exits_of, notes, notes_in};
 ghost use Rattle.entry_passes.specs.Exits.{leavings_in, leavings_among, own_leaving};
 
 use core_charts::{Effect, copied_effects};
-use extended_charts::{ExtendedRegion, ExtendedState, alone, has_some, one, sum, variable};
+use extended_charts::{ExtendedRegion, ExtendedState, has_some, one, sum, variable};
 use sc_graph::VariableId;
 use sqlite_items::Items;
 use std::alloc::{AllocError, Global};
@@ -39,18 +39,21 @@ pub(crate) fn have_exits(states: &[ExtendedState]) -> bool
     false
 }
 
-// The exit actions of the states that have some.
+// Puts the exit actions of the states that have some.
 #[tactic(auto, using(crate::proofs::Left::state_exit))]
-fn exits_of(alloc: Global, states: &[ExtendedState]) -> Result<Items<Items<Effect>>, AllocError>
-    ensures { IfOk result (λ made. made ≡ exits_of (map left_state states.now)) }
+fn put_exits(
+    alloc: Global,
+    states: &[ExtendedState],
+    made: &mut Items<Items<Effect>>,
+) -> Result<(), AllocError>
+    ensures { OnOk result (made.new ≡ made.old ++ exits_of (map left_state states.now)) }
 {
-    let mut made = Items::new(alloc);
     for state in states {
         if has_exit(state) {
             made.push(copied_effects(alloc, state.exit.as_slice())?)?;
         }
     }
-    Ok(made)
+    Ok(())
 }
 
 // How many of these regions, and of those in them, note where they are.
@@ -94,78 +97,86 @@ pub(crate) fn state_inside(state: &ExtendedState) -> Result<u32, AllocError>
     notes_in(state.regions.as_slice())
 }
 
-// What is left of these regions, and of those in them, where variables from this one on note where they are: those in
-// a region first.
+// Puts what is left of these regions, and of those in them, where variables from this one on note where they are: those
+// in a region first.
 #[cycle(leaving)]
-fn leavings_in(
+fn put_leavings_in(
     alloc: Global,
     first: u32,
     regions: &[ExtendedRegion],
-) -> Result<Items<Leaving>, AllocError>
-    ensures { IfOk result (λ made. made ≡ leavings_in first (map left_region regions.now)) }
+    made: &mut Items<Leaving>,
+) -> Result<(), AllocError>
+    ensures { OnOk result (made.new ≡ made.old ++ leavings_in first (map left_region regions.now)) }
 {
-    let mut made = Items::new(alloc);
     let mut x = first;
     for region in regions {
-        made.append(leavings(alloc, x, region)?)?;
+        put_leavings(alloc, x, region, made)?;
         x = sum(x, notes(region)?)?;
     }
-    Ok(made)
+    Ok(())
 }
 
 #[cycle(leaving)]
 #[tactic(auto, using(crate::proofs::Left::region_leavings))]
-fn leavings(alloc: Global, x: u32, region: &ExtendedRegion) -> Result<Items<Leaving>, AllocError>
-    ensures { IfOk result (λ made. made ≡ (left_region region.now).leavings x) }
+fn put_leavings(
+    alloc: Global,
+    x: u32,
+    region: &ExtendedRegion,
+    made: &mut Items<Leaving>,
+) -> Result<(), AllocError>
+    ensures { OnOk result (made.new ≡ made.old ++ (left_region region.now).leavings x) }
 {
     let states = region.states.as_slice();
-    let mut made = leavings_among(alloc, x, states)?;
     let own = sum(x, inside(region)?)?;
-    made.append(own_leaving(alloc, own, exits_of(alloc, states)?)?)?;
-    Ok(made)
+    put_leavings_among(alloc, x, states, made)?;
+    put_own_leaving(alloc, own, states, made)
 }
 
 #[cycle(leaving)]
-fn leavings_among(
+fn put_leavings_among(
     alloc: Global,
     first: u32,
     states: &[ExtendedState],
-) -> Result<Items<Leaving>, AllocError>
-    ensures { IfOk result (λ made. made ≡ leavings_among first (map left_state states.now)) }
+    made: &mut Items<Leaving>,
+) -> Result<(), AllocError>
+    ensures { OnOk result (made.new ≡ made.old ++ leavings_among first (map left_state states.now)) }
 {
-    let mut made = Items::new(alloc);
     let mut x = first;
     for state in states {
-        made.append(state_leavings(alloc, x, state)?)?;
+        put_state_leavings(alloc, x, state, made)?;
         x = sum(x, state_inside(state)?)?;
     }
-    Ok(made)
+    Ok(())
 }
 
-/// What is left of the regions in this state, where variables from this one on note where they are: those in a region
-/// first. Err: memory was refused, or there are more than 65535 variables.
+/// Puts what is left of the regions in this state, where variables from this one on note where they are: those in a
+/// region first. Err: memory was refused, or there are more than 65535 variables.
 #[cycle(leaving)]
 #[tactic(auto, using(crate::proofs::Left::state_leavings))]
-pub(crate) fn state_leavings(
+pub(crate) fn put_state_leavings(
     alloc: Global,
     x: u32,
     state: &ExtendedState,
-) -> Result<Items<Leaving>, AllocError>
-    ensures { IfOk result (λ made. made ≡ (left_state state.now).leavings x) }
+    made: &mut Items<Leaving>,
+) -> Result<(), AllocError>
+    ensures { OnOk result (made.new ≡ made.old ++ (left_state state.now).leavings x) }
 {
-    leavings_in(alloc, x, state.regions.as_slice())
+    put_leavings_in(alloc, x, state.regions.as_slice(), made)
 }
 
-fn own_leaving(
+fn put_own_leaving(
     alloc: Global,
     x: u32,
-    exits: Items<Items<Effect>>,
-) -> Result<Items<Leaving>, AllocError>
-    ensures { IfOk result (λ made. made ≡ own_leaving x exits) }
+    states: &[ExtendedState],
+    made: &mut Items<Leaving>,
+) -> Result<(), AllocError>
+    ensures { OnOk result (made.new ≡ made.old ++ own_leaving x (exits_of (map left_state states.now))) }
 {
-    if !has_some(exits.as_slice()) {
-        return Ok(Items::new(alloc));
+    if !have_exits(states) {
+        return Ok(());
     }
     let variable = variable(x as usize)?;
-    alone(alloc, Leaving { variable, exits })
+    let mut exits = Items::new(alloc);
+    put_exits(alloc, states, &mut exits)?;
+    made.push(Leaving { variable, exits })
 }

@@ -2,12 +2,14 @@
 //! actions.
 #![tactic(auto)]
 
+mod bare;
 mod departures;
 mod entry;
 mod exits;
 mod histories;
 mod leaving;
 mod recalls;
+mod resuming;
 
 pub use entry::without_entry;
 pub use exits::with_exits;

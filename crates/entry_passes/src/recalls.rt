@@ -1,13 +1,13 @@
 //! To which states transitions lead by history, and which variables that needs.
 
-ghost use Rattle.std.specs.Prelude.{◌≡◌, IfOk, map};
+ghost use Rattle.std.specs.Prelude.{◌≡◌, ◌++◌, IfOk, OnOk, length, map};
 ghost use Rattle.entry_passes.specs.Histories.{is_by_history, recalled_by, recalled_among, is_recalled};
 ghost use Rattle.entry_passes.specs.Histories.{asking, keeping, kept_in, kept_among, past_region, past_state};
 ghost use Rattle.entry_passes.specs.Histories.{variable_for, variables_for};
 
 use chart_elements::next;
 use core_charts::Transition;
-use extended_charts::{Declared, ExtendedRegion, ExtendedState, alone, count, has_some, local};
+use extended_charts::{Declared, ExtendedRegion, ExtendedState, count, has_some, local};
 use sc_text::numbered;
 use sc_values::Kind;
 use sqlite_items::Items;
@@ -31,25 +31,37 @@ pub(crate) fn is_by_history(count: u32, transition: &Transition) -> bool
     !(transition.target < count)
 }
 
-// The places to which these go by history.
-fn recalled_by(
-    alloc: Global,
+// Puts the places to which these go by history.
+fn put_recalled_by(
     count: u32,
     transitions: &[Transition],
-) -> Result<Items<u32>, AllocError>
-    ensures { IfOk result (λ made. made ≡ recalled_by count transitions.now) }
+    made: &mut Items<u32>,
+) -> Result<(), AllocError>
+    ensures { OnOk result (made.new ≡ made.old ++ recalled_by count transitions.now) }
 {
-    let mut made = Items::new(alloc);
     for transition in transitions {
         if is_by_history(count, transition) {
             made.push(transition.target - count)?;
         }
     }
-    Ok(made)
+    Ok(())
+}
+
+#[tactic(auto, using(crate::proofs::PastStates::state_transitions))]
+fn put_recalled_among(
+    count: u32,
+    states: &[ExtendedState],
+    made: &mut Items<u32>,
+) -> Result<(), AllocError>
+    ensures { OnOk result (made.new ≡ made.old ++ recalled_among count (map past_state states.now)) }
+{
+    for state in states {
+        put_recalled_by(count, state.transitions.as_slice(), made)?;
+    }
+    Ok(())
 }
 
 /// The places to which transitions of these states go by history, in a region of so many. Err: memory was refused.
-#[tactic(auto, using(crate::proofs::PastStates::state_transitions))]
 pub(crate) fn recalled_among(
     alloc: Global,
     count: u32,
@@ -58,9 +70,7 @@ pub(crate) fn recalled_among(
     ensures { IfOk result (λ made. made ≡ recalled_among count (map past_state states.now)) }
 {
     let mut made = Items::new(alloc);
-    for state in states {
-        made.append(recalled_by(alloc, count, state.transitions.as_slice())?)?;
-    }
+    put_recalled_among(count, states, &mut made)?;
     Ok(made)
 }
 
@@ -71,87 +81,118 @@ pub(crate) fn is_recalled(place: u32, recalled: &[u32]) -> bool
     recalled.iter().any(|other| place == *other)
 }
 
-/// The variables of a region itself, where transitions go to these places by history. Err: memory was refused.
-pub(crate) fn asking(alloc: Global, recalled: &[u32]) -> Result<Items<Kept>, AllocError>
-    ensures { IfOk result (λ made. made ≡ asking recalled.now) }
+// Puts the variables of a region itself, where transitions go to these places by history.
+fn put_asking(recalled: &[u32], made: &mut Items<Kept>) -> Result<(), AllocError>
+    ensures { OnOk result (made.new ≡ made.old ++ asking recalled.now) }
 {
-    let mut made = Items::new(alloc);
-    if has_some(recalled) {
-        made.push(Kept::Asked)?;
-        made.push(Kept::Entered)?;
+    if !has_some(recalled) {
+        return Ok(());
     }
-    Ok(made)
+    made.push(Kept::Asked)?;
+    made.push(Kept::Entered)
 }
 
-// That of a region in a state, where one goes to it by history.
-fn keeping(alloc: Global, is_recalled: bool) -> Result<Items<Kept>, AllocError>
-    ensures { IfOk result (λ made. made ≡ keeping is_recalled) }
+/// How many these are.
+pub(crate) fn asking_count(recalled: &[u32]) -> u32
+    ensures { result ≡ length (asking recalled.now) }
+{
+    if has_some(recalled) { 2 } else { 0 }
+}
+
+// Puts that of a region in a state, where one goes to it by history.
+fn put_keeping(is_recalled: bool, made: &mut Items<Kept>) -> Result<(), AllocError>
+    ensures { OnOk result (made.new ≡ made.old ++ keeping is_recalled) }
 {
     if is_recalled {
-        alone(alloc, Kept::Last)
+        made.push(Kept::Last)
     } else {
-        Ok(Items::new(alloc))
+        Ok(())
     }
 }
 
-/// The variables of these regions and of those in them. Err: memory was refused.
+/// Puts the variables of these regions and of those in them. Err: memory was refused.
 #[cycle(keeping)]
-pub(crate) fn kept_in(
+pub(crate) fn put_kept_in(
     alloc: Global,
     is_recalled: bool,
     regions: &[ExtendedRegion],
-) -> Result<Items<Kept>, AllocError>
-    ensures { IfOk result (λ made. made ≡ kept_in is_recalled (map past_region regions.now)) }
+    made: &mut Items<Kept>,
+) -> Result<(), AllocError>
+    ensures { OnOk result (made.new ≡ made.old ++ kept_in is_recalled (map past_region regions.now)) }
 {
-    let mut made = Items::new(alloc);
     for region in regions {
-        made.append(keeping(alloc, is_recalled)?)?;
-        made.append(region_kept(alloc, region)?)?;
+        put_keeping(is_recalled, made)?;
+        put_region_kept(alloc, region, made)?;
     }
-    Ok(made)
+    Ok(())
 }
 
-/// The variables of a region and of those in it, but the one for where it is. Err: memory was refused.
+// Puts the variables of a region and of those in it, but the one for where it is.
 #[cycle(keeping)]
 #[tactic(auto, using(crate::proofs::PastStates::region_kept))]
-pub(crate) fn region_kept(alloc: Global, region: &ExtendedRegion) -> Result<Items<Kept>, AllocError>
-    ensures { IfOk result (λ made. made ≡ (past_region region.now).kept) }
+fn put_region_kept(
+    alloc: Global,
+    region: &ExtendedRegion,
+    made: &mut Items<Kept>,
+) -> Result<(), AllocError>
+    ensures { OnOk result (made.new ≡ made.old ++ (past_region region.now).kept) }
 {
     let states = region.states.as_slice();
     let recalled = recalled_among(alloc, count(states)?, states)?;
-    let mut made = asking(alloc, recalled.as_slice())?;
-    made.append(kept_among(alloc, recalled.as_slice(), states)?)?;
-    Ok(made)
+    put_asking(recalled.as_slice(), made)?;
+    put_kept_among(alloc, recalled.as_slice(), states, made)
 }
 
 #[cycle(keeping)]
-fn kept_among(
+fn put_kept_among(
     alloc: Global,
     recalled: &[u32],
     states: &[ExtendedState],
-) -> Result<Items<Kept>, AllocError>
-    ensures { IfOk result (λ made. made ≡ kept_among recalled.now 0 (map past_state states.now)) }
+    made: &mut Items<Kept>,
+) -> Result<(), AllocError>
+    ensures { OnOk result (made.new ≡ made.old ++ kept_among recalled.now 0 (map past_state states.now)) }
 {
-    let mut made = Items::new(alloc);
     let mut place = 0;
     for state in states {
-        made.append(state_kept(alloc, is_recalled(place, recalled), state)?)?;
+        put_state_kept(alloc, is_recalled(place, recalled), state, made)?;
         place = next(place)?;
     }
-    Ok(made)
+    Ok(())
 }
 
-/// The variables of a state. Err: memory was refused.
 #[cycle(keeping)]
 #[tactic(auto, using(crate::proofs::PastStates::state_kept))]
-pub(crate) fn state_kept(
+fn put_state_kept(
     alloc: Global,
     is_recalled: bool,
     state: &ExtendedState,
-) -> Result<Items<Kept>, AllocError>
-    ensures { IfOk result (λ made. made ≡ (past_state state.now).kept is_recalled) }
+    made: &mut Items<Kept>,
+) -> Result<(), AllocError>
+    ensures { OnOk result (made.new ≡ made.old ++ (past_state state.now).kept is_recalled) }
 {
-    kept_in(alloc, is_recalled, state.regions.as_slice())
+    put_kept_in(alloc, is_recalled, state.regions.as_slice(), made)
+}
+
+/// How many variables a region and those in it have, but the one for where it is. Err: memory was refused.
+pub(crate) fn region_count(alloc: Global, region: &ExtendedRegion) -> Result<u32, AllocError>
+    ensures { IfOk result (λ count. count ≡ length (past_region region.now).kept) }
+{
+    let mut kept = Items::new(alloc);
+    put_region_kept(alloc, region, &mut kept)?;
+    count(kept.as_slice())
+}
+
+/// How many variables a state has. Err: memory was refused.
+pub(crate) fn state_count(
+    alloc: Global,
+    is_recalled: bool,
+    state: &ExtendedState,
+) -> Result<u32, AllocError>
+    ensures { IfOk result (λ count. count ≡ length ((past_state state.now).kept is_recalled)) }
+{
+    let mut kept = Items::new(alloc);
+    put_state_kept(alloc, is_recalled, state, &mut kept)?;
+    count(kept.as_slice())
 }
 
 fn variable_for(number: u32, kept: Kept) -> Declared
@@ -164,15 +205,14 @@ fn variable_for(number: u32, kept: Kept) -> Declared
     }
 }
 
-/// These variables, numbered from 1. Err: memory was refused.
-pub(crate) fn variables_for(alloc: Global, kept: &[Kept]) -> Result<Items<Declared>, AllocError>
-    ensures { IfOk result (λ made. made ≡ variables_for 1 kept.now) }
+/// Puts these variables, numbered from 1. Err: memory was refused.
+pub(crate) fn put_variables(kept: &[Kept], made: &mut Items<Declared>) -> Result<(), AllocError>
+    ensures { OnOk result (made.new ≡ made.old ++ variables_for 1 kept.now) }
 {
-    let mut made = Items::new(alloc);
     let mut number = 1;
     for one in kept {
         made.push(variable_for(number, *one))?;
         number = next(number)?;
     }
-    Ok(made)
+    Ok(())
 }

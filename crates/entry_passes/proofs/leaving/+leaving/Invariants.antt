@@ -2,10 +2,12 @@ use Rattle.std.proofs.Common.{◌≡◌, ◌++◌, map, drop}
 use Rattle.entry_passes.specs.Exits.{leavings_in, leavings_among, left_region, left_state}
 use Rattle.entry_passes.proofs.leaving.+leaving.Given as goal
 
-abbrev pub invariant-leavings_in-loop-region : goal.invariant-leavings_in-loop-region
-invariant-leavings_in-loop-region l =
-    l.made ++ leavings_in l.x (map left_region (drop l.region-index l.regions)) ≡ leavings_in l.first (map left_region l.regions)
+abbrev pub invariant-put_leavings_in-loop-region : goal.invariant-put_leavings_in-loop-region
+invariant-put_leavings_in-loop-region l =
+    l.made ++ leavings_in l.x (map left_region (drop l.region-index l.regions))
+    ≡ l.fn.made ++ leavings_in l.first (map left_region l.regions)
 
-abbrev pub invariant-leavings_among-loop-state : goal.invariant-leavings_among-loop-state
-invariant-leavings_among-loop-state l =
-    l.made ++ leavings_among l.x (map left_state (drop l.state-index l.states)) ≡ leavings_among l.first (map left_state l.states)
+abbrev pub invariant-put_leavings_among-loop-state : goal.invariant-put_leavings_among-loop-state
+invariant-put_leavings_among-loop-state l =
+    l.made ++ leavings_among l.x (map left_state (drop l.state-index l.states))
+    ≡ l.fn.made ++ leavings_among l.first (map left_state l.states)

@@ -1,0 +1,102 @@
+//! Where a region begins that goes on where it was: in a state that leads to each of the others.
+
+ghost use Rattle.std.specs.Prelude.{◌≡◌, Some, ◌++◌, IfOk, OnOk, map};
+ghost use Rattle.entry_passes.specs.Histories.{was_at, resumption, initial_among, resumptions, resuming, past_state};
+
+use crate::departures::is_at;
+use crate::histories::Past;
+use chart_elements::next;
+use core_charts::{Transition, TransitionKind};
+use extended_charts::{ExtendedState, always, count, made_state};
+use sc_text::numbered;
+use sc_values::{BinaryOperator, Expr};
+use sqlite_items::{Boxed, Items};
+use std::alloc::{AllocError, Global};
+
+// Whether the region was in the state of this place, and goes on there.
+fn was_at(alloc: Global, past: Past, place: u32) -> Result<Expr, AllocError>
+    ensures { IfOk result (λ made. made ≡ was_at past place) }
+{
+    let history = Boxed::new(alloc, Expr::Load(past.history))?;
+    let last = Boxed::new(alloc, is_at(alloc, past.last, next(place)?)?)?;
+    Ok(Expr::Binary(BinaryOperator::And, history, last))
+}
+
+fn resumption(alloc: Global, past: Past, place: u32) -> Result<Transition, AllocError>
+    ensures { IfOk result (λ made. made ≡ resumption past place) }
+{
+    let trigger = was_at(alloc, past, place)?;
+    Ok(Transition {
+        kind: TransitionKind::Go,
+        immediate: true,
+        trigger: Some(trigger),
+        effects: Items::new(alloc),
+        target: place,
+    })
+}
+
+// Puts one to each state but the initial one.
+#[tactic(auto, using(crate::proofs::PastStates::state_begins))]
+fn put_resumptions(
+    alloc: Global,
+    past: Past,
+    states: &[ExtendedState],
+    made: &mut Items<Transition>,
+) -> Result<(), AllocError>
+    ensures { OnOk result (made.new ≡ made.old ++ resumptions past 0 (map past_state states.now)) }
+{
+    let mut place = 0;
+    for state in states {
+        if !state.is_initial {
+            made.push(resumption(alloc, past, place)?)?;
+        }
+        place = next(place)?;
+    }
+    Ok(())
+}
+
+#[tactic(auto, using(crate::proofs::PastStates::state_begins))]
+fn initial_among(states: &[ExtendedState]) -> Result<u32, AllocError>
+    ensures { IfOk result (λ place. place ≡ initial_among 0 (map past_state states.now)) }
+{
+    let mut place = 0;
+    for state in states {
+        if state.is_initial {
+            return Ok(place);
+        }
+        place = next(place)?;
+    }
+    Ok(place)
+}
+
+// Puts the state in which a region begins that goes on where it was.
+fn put_resuming_state(
+    alloc: Global,
+    past: Past,
+    states: &[ExtendedState],
+    made: &mut Items<ExtendedState>,
+) -> Result<(), AllocError>
+    ensures { OnOk result (made.new ≡ made.old ++ resuming (Some past) (map past_state states.now)) }
+{
+    let name = numbered("resume__", count(states)? as u64);
+    let initial = initial_among(states)?;
+    let mut ways = Items::new(alloc);
+    put_resumptions(alloc, past, states, &mut ways)?;
+    ways.push(always(true, Items::new(alloc), initial))?;
+    made.push(made_state(alloc, name, true, Items::new(alloc), ways))
+}
+
+/// Puts where the region begins, if not in its initial state. Err: memory was refused.
+pub(crate) fn put_resuming(
+    alloc: Global,
+    own: Option<Past>,
+    states: &[ExtendedState],
+    made: &mut Items<ExtendedState>,
+) -> Result<(), AllocError>
+    ensures { OnOk result (made.new ≡ made.old ++ resuming own (map past_state states.now)) }
+{
+    match own {
+        Some(past) => put_resuming_state(alloc, past, states, made),
+        None => Ok(()),
+    }
+}
