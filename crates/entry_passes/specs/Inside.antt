@@ -16,6 +16,10 @@ abbrev pub bare : ExtendedState → ExtendedState
 bare s =
     roll-ExtendedState (record (out-ExtendedState s) { entry = []; exit = []; during = []; regions = []; transitions = [] })
 
+-- the transition that leads to this place behind, where what it makes is made
+abbrev pub led_to : (place : ℕ) → Transition → Transition
+led_to place t = record t { effects = []; target = place }
+
 -- the variable in which a region notes where it is, if it does
 abbrev pub note_of : (x : ℕ) → LeftRegion → Option ℕ
 note_of x r = own_note (x + r.inside) (has_some r.exits)

@@ -3,10 +3,11 @@
 ghost use Rattle.std.specs.Prelude.{◌≡◌, [], ◌∷◌, ◌++◌, suc, IfOk, OnOk, length, map};
 ghost use Rattle.entry_passes.specs.Exits.{integer, set, is_at, departure, departures, behind, way_out, ways_out};
 ghost use Rattle.entry_passes.specs.Exits.{led_out, left_by, left_transitions, left_behind};
+ghost use Rattle.entry_passes.specs.Inside.{led_to};
 
 use crate::leaving::Leaving;
 use chart_elements::next;
-use core_charts::{Effect, Transition, TransitionKind, copied_effects};
+use core_charts::{Effect, Transition, TransitionKind, copied_effects, copied_trigger};
 use extended_charts::{ExtendedState, alone, always, has_some, made_state, sum};
 use sc_graph::VariableId;
 use sc_text::numbered;
@@ -198,6 +199,19 @@ fn put_ways_out(
     Ok(())
 }
 
+// The transition that leads to the first of the states behind, which make what it makes.
+fn led_to(alloc: Global, place: u32, transition: &Transition) -> Result<Transition, AllocError>
+    ensures { IfOk result (λ made. made ≡ led_to place transition.now) }
+{
+    Ok(Transition {
+        kind: transition.kind,
+        immediate: transition.immediate,
+        trigger: copied_trigger(alloc, &transition.trigger)?,
+        effects: Items::new(alloc),
+        target: place,
+    })
+}
+
 fn put_led_out(
     alloc: Global,
     first: u32,
@@ -210,10 +224,7 @@ fn put_led_out(
     let states = length_of(leavings)?;
     let mut place = first;
     for transition in transitions {
-        let mut copy = transition.copied(alloc)?;
-        copy.effects = Items::new(alloc);
-        copy.target = place;
-        made.push(copy)?;
+        made.push(led_to(alloc, place, transition)?)?;
         place = sum(place, states)?;
     }
     Ok(())
@@ -222,9 +233,15 @@ fn put_led_out(
 fn left_by(alloc: Global, own: &[Effect], transition: &Transition) -> Result<Transition, AllocError>
     ensures { IfOk result (λ made. made ≡ left_by own.now transition.now) }
 {
-    let mut copy = transition.copied(alloc)?;
-    copy.effects = joined(alloc, own, transition.effects.as_slice())?;
-    Ok(copy)
+    let trigger = copied_trigger(alloc, &transition.trigger)?;
+    let effects = joined(alloc, own, transition.effects.as_slice())?;
+    Ok(Transition {
+        kind: transition.kind,
+        immediate: transition.immediate,
+        trigger,
+        effects,
+        target: transition.target,
+    })
 }
 
 fn put_left_by(
