@@ -1,15 +1,16 @@
 -- What private functions make: what is put into a state whose name and marks stand already.
-use Rattle.std.specs.Prelude.{ℕ, ◌+◌, Bool, Option, List, [], ◌++◌, map}
+use Rattle.std.specs.Prelude.{ℕ, ◌+◌, Bool, true, false, Option, List, [], ◌∷◌, ◌++◌, map}
 use Rattle.core_charts.specs.declared.region.Transition.{Transition}
 use Rattle.extended_charts.specs.declared.extended.ExtendedState.{ExtendedState}
 use Rattle.extended_charts.specs.declared.extended.ExtendedRegion.TheViews.{out-ExtendedState, roll-ExtendedState}
 use Rattle.extended_charts.specs.Making.{has_some}
+use Rattle.entry_passes.specs.declared.histories.Past.{Past}
 use Rattle.entry_passes.specs.declared.histories.Standing.{Standing}
 use Rattle.entry_passes.specs.declared.leaving.Leaving.{Leaving}
 use Rattle.entry_passes.specs.Exits as exits
 use Rattle.entry_passes.specs.Exits.{LeftRegion, own_note, parting, left_transitions, left_in, left_region, left_state}
 use Rattle.entry_passes.specs.Histories as histories
-use Rattle.entry_passes.specs.Histories.{entering, led, history_of, past_region}
+use Rattle.entry_passes.specs.Histories.{entering, led, history_of, resumption, past_region}
 
 -- the state with nothing in it
 abbrev pub bare : ExtendedState → ExtendedState
@@ -40,6 +41,11 @@ fill_left own number x place s left =
       regions = (out-ExtendedState left).regions ++ exits.all_regions x (map left_region (out-ExtendedState s).regions);
       transitions = (out-ExtendedState left).transitions ++ own_transitions own x place s;
     })
+
+-- the transition to a state of a region that goes on where it was
+abbrev pub own_resumption : Past → (place : ℕ) → (is_initial : Bool) → List Transition
+own_resumption past place true = []
+own_resumption past place false = resumption past place ∷ []
 
 abbrev pub fill_past : Standing → (is_recalled : Bool) → (place x : ℕ) → (s past : ExtendedState) → ExtendedState
 fill_past at is_recalled place x s past =

@@ -2,6 +2,7 @@
 
 ghost use Rattle.std.specs.Prelude.{◌≡◌, Some, ◌++◌, IfOk, OnOk, map};
 ghost use Rattle.entry_passes.specs.Histories.{was_at, resumption, initial_among, resumptions, resuming, past_state};
+ghost use Rattle.entry_passes.specs.Inside.{own_resumption};
 
 use crate::departures::is_at;
 use crate::histories::Past;
@@ -35,7 +36,23 @@ fn resumption(alloc: Global, past: Past, place: u32) -> Result<Transition, Alloc
     })
 }
 
-// Puts one to each state but the initial one.
+// Puts one to the state of this place, where it is not the initial one.
+fn put_resumption(
+    alloc: Global,
+    past: Past,
+    place: u32,
+    is_initial: bool,
+    made: &mut Items<Transition>,
+) -> Result<(), AllocError>
+    ensures { OnOk result (made.new ≡ made.old ++ own_resumption past place is_initial) }
+{
+    if is_initial {
+        Ok(())
+    } else {
+        made.push(resumption(alloc, past, place)?)
+    }
+}
+
 #[tactic(auto, using(crate::proofs::PastStates::state_begins))]
 fn put_resumptions(
     alloc: Global,
@@ -47,9 +64,7 @@ fn put_resumptions(
 {
     let mut place = 0;
     for state in states {
-        if !state.is_initial {
-            made.push(resumption(alloc, past, place)?)?;
-        }
+        put_resumption(alloc, past, place, state.is_initial, made)?;
         place = next(place)?;
     }
     Ok(())
