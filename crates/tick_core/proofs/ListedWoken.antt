@@ -1,6 +1,6 @@
 -- Where all that are astir are woken, everybody is.
-use Rattle.std.proofs.Common.{◌≡◌, ◌≢◌, ℕ, zero, suc, ◌+◌, ◌<◌, ◌≤◌, ◌⊎◌, List, [], ◌∷◌, length, length-set, map, Option, Some, None, Contains, slice_get, slice_set}
-use Rattle.std.proofs.Common.{option_map, refl, sym, ap, ◌∙◌, inl, inr, arith}
+use Rattle.std.proofs.Common.{◌≡◌, ◌≢◌, ℕ, zero, suc, ◌+◌, ◌<◌, ◌≤◌, ◌⊎◌, List, [], ◌∷◌, length, length-set, map, Option, Some, None, Contains}
+use Rattle.std.proofs.Common.{slice_get, slice_set, option_map, refl, sym, ap, ◌∙◌, inl, inr, arith}
 use Rattle.std.proofs.lemmas.Option.{same_Some, slice_get_within, slice_get-map}
 use Rattle.sc_graph.specs.declared.control.Status.{Status}
 use Rattle.sc_graph.specs.declared.control.Status.TheVariants as status

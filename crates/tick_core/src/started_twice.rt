@@ -12,8 +12,8 @@ use sc_graph::{Control, Program, Status, ThreadId, Variable};
 use sc_values::Value;
 use sqlite_items::Items;
 
-/// The same as `start` where all threads that are astir are listed: it looks at no other. Makes another configuration the
-/// same, in which whoever stands otherwise is listed.
+/// The same as `start` where all threads that are astir are listed: it looks at no other. Makes another configuration
+/// the same, in which whoever stands otherwise is listed.
 pub(crate) fn start_twice(
     program: &Program,
     given: &[Option<Value>],
