@@ -3,4 +3,4 @@
 
 mod paths;
 
-pub use paths::paths_of;
+pub use paths::{joined, paths_of};

@@ -83,8 +83,8 @@ fn add_state(
     add_regions(alloc, before.as_str(), state.regions.as_slice(), paths)
 }
 
-// A text, and another one behind it.
-fn joined(alloc: Global, first: &str, second: &str) -> Result<String, AllocError>
+/// A text, and another one behind it. Err: memory was refused.
+pub fn joined(alloc: Global, first: &str, second: &str) -> Result<String, AllocError>
     ensures { IfOk result (λ text. string_bytes text ≡ first.now ++ second.now) }
 {
     let mut text = String::from_str(alloc, first)?;
