@@ -1,3 +1,4 @@
+pub mod Walks
 pub mod HeldStates
 pub mod ActingStates
 pub mod Emitting

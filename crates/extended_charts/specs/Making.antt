@@ -16,7 +16,7 @@ use Rattle.core_charts.specs.declared.region.TransitionKind.TheVariants as kind
 use Rattle.extended_charts.specs.declared.extended.Declared.{Declared}
 use Rattle.extended_charts.specs.declared.extended.ExtendedRegion.{ExtendedRegion}
 use Rattle.extended_charts.specs.declared.extended.ExtendedState.{ExtendedState}
-use Rattle.extended_charts.specs.declared.extended.ExtendedRegion.TheViews.{roll-ExtendedRegion, roll-ExtendedState}
+use Rattle.extended_charts.specs.declared.extended.ExtendedRegion.TheViews.{out-ExtendedState, roll-ExtendedRegion, roll-ExtendedState}
 
 abbrev pub has_some : {A : Type 0} → List A → Bool
 has_some [] = false
@@ -25,8 +25,6 @@ has_some (x ∷ xs) = true
 abbrev pub one : Bool → ℕ
 one true = 1
 one false = 0
-
--- ---- names
 
 -- ---- literals and variables
 
@@ -71,6 +69,11 @@ made_state name is_initial regions transitions =
       regions = regions;
       transitions = transitions;
     })
+
+-- the state with nothing in it
+abbrev pub bare : ExtendedState → ExtendedState
+bare s =
+    roll-ExtendedState (record (out-ExtendedState s) { entry = []; exit = []; during = []; regions = []; transitions = [] })
 
 -- the state of this place, which makes these effects and goes on: at once, or in the next tick
 abbrev pub passing : (immediate : Bool) → (place : ℕ) → List Effect → (target : ℕ) → ExtendedState

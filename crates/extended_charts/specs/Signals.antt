@@ -7,6 +7,7 @@ use Rattle.sc_values.specs.declared.expression.Expr.TheVariants as expr
 use Rattle.core_charts.specs.declared.region.Effect.{Effect}
 use Rattle.extended_charts.specs.declared.extended.ExtendedChart.{ExtendedChart}
 use Rattle.extended_charts.specs.declared.extended.ExtendedRegion.{ExtendedRegion}
+use Rattle.extended_charts.specs.declared.extended.ExtendedState.{ExtendedState}
 use Rattle.extended_charts.specs.Making.{has_some, passing, all_passing, region}
 
 -- the signal is emitted
@@ -25,10 +26,11 @@ abbrev pub resets : (signals : List ℕ) → List Effect
 resets signals = map reset signals
 
 -- it waits for the next tick, makes the signals false, and begins anew
+abbrev pub signal_states : (signals : List ℕ) → List ExtendedState
+signal_states signals = passing false 0 [] 1 ∷ all_passing 1 (resets signals) ++ passing true (suc (length signals)) [] 0 ∷ []
+
 abbrev pub signal_region : (signals : List ℕ) → ExtendedRegion
-signal_region signals =
-    region (codes "signals__1")
-    (passing false 0 [] 1 ∷ all_passing 1 (resets signals) ++ passing true (suc (length signals)) [] 0 ∷ [])
+signal_region signals = region (codes "signals__1") (signal_states signals)
 
 abbrev pub signalled : ExtendedChart → ExtendedChart
 signalled c = record c { signals = []; regions = c.regions ++ signal_region c.signals ∷ [] }

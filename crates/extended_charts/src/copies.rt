@@ -1,6 +1,6 @@
 //! Copies of the parts of an extended chart.
 
-ghost use Rattle.std.specs.Prelude.{◌≡◌, IfOk};
+ghost use Rattle.std.specs.Prelude.{◌≡◌, ◌++◌, IfOk, OnOk};
 
 use crate::extended::{Declared, During};
 use core_charts::{copied_effects, copied_trigger};
@@ -12,22 +12,27 @@ use std::alloc::{AllocError, Global};
 pub(crate) fn copied_during(alloc: Global, during: &During) -> Result<During, AllocError>
     ensures { IfOk result (λ copy. copy ≡ during.now) }
 {
+    let trigger = copied_trigger(alloc, &during.trigger)?;
+    let effects = copied_effects(alloc, during.effects.as_slice())?;
     Ok(During {
         immediate: during.immediate,
-        trigger: copied_trigger(alloc, &during.trigger)?,
-        effects: copied_effects(alloc, during.effects.as_slice())?,
+        trigger,
+        effects,
     })
 }
 
-/// A copy of during actions. Err: memory was refused.
-pub fn copied_durings(alloc: Global, durings: &[During]) -> Result<Items<During>, AllocError>
-    ensures { IfOk result (λ copy. copy ≡ durings.now) }
+/// Puts copies of during actions. Err: memory was refused.
+pub fn put_copied_durings(
+    alloc: Global,
+    durings: &[During],
+    made: &mut Items<During>,
+) -> Result<(), AllocError>
+    ensures { OnOk result (made.new ≡ made.old ++ durings.now) }
 {
-    let mut copy = Items::new(alloc);
     for during in durings {
-        copy.push(copied_during(alloc, during)?)?;
+        made.push(copied_during(alloc, during)?)?;
     }
-    Ok(copy)
+    Ok(())
 }
 
 /// A copy of declarations. Err: memory was refused.

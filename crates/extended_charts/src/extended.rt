@@ -9,14 +9,14 @@ use sqlite_items::Items;
 pub const ELAPSED: u16 = 65535;
 
 /// A variable, and what it holds before the first tick; none counts as `false` or 0.
-#[derive(Debug, Drop)]
+#[derive(Drop)]
 pub struct Declared {
     pub variable: Variable,
     pub initial: Option<Value>,
 }
 
 /// A name for a value.
-#[derive(Debug, Drop)]
+#[derive(Drop)]
 pub struct Constant {
     pub name: Name,
     pub value: Value,
@@ -25,7 +25,7 @@ pub struct Constant {
 /// An extended chart. Expressions name its variables by their numbers from 0; behind these what variables were at the
 /// end of the tick before; and behind these its constants. In triggers the last numbers below `ELAPSED` name counts: in
 /// how many ticks each condition was true, behind the one in which the state was entered and before this one.
-#[derive(Debug, Drop)]
+#[derive(Drop)]
 pub struct ExtendedChart {
     pub name: Name,
     pub variables: Items<Declared>,
@@ -41,7 +41,7 @@ pub struct ExtendedChart {
 
 /// What is done in each tick in which a state goes on, and where it is immediate also in the tick of its entry: where
 /// the trigger is true, if there is one.
-#[derive(Debug, Drop)]
+#[derive(Drop)]
 pub struct During {
     pub immediate: bool,
     pub trigger: Option<Expr>,
@@ -49,7 +49,7 @@ pub struct During {
 }
 
 /// A region: it is in one of its states, or has ended.
-#[derive(Debug, Drop)]
+#[derive(Drop)]
 #[cycle(extended)]
 pub struct ExtendedRegion {
     pub name: Name,
@@ -57,7 +57,7 @@ pub struct ExtendedRegion {
 }
 
 /// A state. With regions it is a superstate, else a simple one.
-#[derive(Debug, Drop)]
+#[derive(Drop)]
 #[cycle(extended)]
 pub struct ExtendedState {
     pub name: Name,

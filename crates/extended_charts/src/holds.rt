@@ -1,11 +1,12 @@
 //! Terminations with triggers: behind the regions of a superstate a state waits for the trigger.
 
-ghost use Rattle.std.specs.Prelude.{◌≡◌, IfOk, map};
+ghost use Rattle.std.specs.Prelude.{◌≡◌, Some, [], ◌∷◌, ◌++◌, IfOk, OnOk, map};
 ghost use Rattle.extended_charts.specs.Holds.{condition, untested, body, tested, hold, ended, held};
 ghost use Rattle.extended_charts.specs.Holds.{held_region, held_state, held_inside, with_holds};
+ghost use Rattle.extended_charts.specs.Inside.{fill_held};
 
 use crate::extended::{ExtendedChart, ExtendedRegion, ExtendedState};
-use crate::making::{alone, always, made_state};
+use crate::making::{alone, always, bare, made_state};
 use core_charts::{Transition, TransitionKind, copied_effects, copied_trigger};
 use sc_text::plain;
 use sc_values::Expr;
@@ -16,16 +17,19 @@ use std::alloc::{AllocError, Global};
 pub fn with_holds(alloc: Global, chart: ExtendedChart) -> Result<ExtendedChart, AllocError>
     ensures { IfOk result (λ made. made ≡ with_holds chart) }
 {
-    let regions = held_regions(alloc, chart.regions.as_slice())?;
-    Ok(ExtendedChart {
-        name: chart.name,
-        variables: chart.variables,
-        signals: chart.signals,
-        befores: chart.befores,
-        constants: chart.constants,
-        counts: chart.counts,
-        regions,
-    })
+    let mut chart = chart;
+    put_holds(alloc, &mut chart)?;
+    Ok(chart)
+}
+
+// The chart is behind a reference, so that no `?` has to drop its parts.
+fn put_holds(alloc: Global, chart: &mut ExtendedChart) -> Result<(), AllocError>
+    ensures { OnOk result (chart.new ≡ with_holds chart.old) }
+{
+    let mut regions = Items::new(alloc);
+    put_regions(alloc, chart.regions.as_slice(), &mut regions)?;
+    chart.regions = regions;
+    Ok(())
 }
 
 /// The trigger of the termination, if it has one. Err: memory was refused.
@@ -51,18 +55,18 @@ fn untested(alloc: Global, transition: &Transition) -> Result<Transition, AllocE
     Ok(copy)
 }
 
-/// Copies of transitions; that of a termination has no trigger. Err: memory was refused.
-pub fn all_untested(
+/// Puts copies of transitions; that of a termination has no trigger. Err: memory was refused.
+pub fn put_untested(
     alloc: Global,
     transitions: &[Transition],
-) -> Result<Items<Transition>, AllocError>
-    ensures { IfOk result (λ made. made ≡ map untested transitions.now) }
+    made: &mut Items<Transition>,
+) -> Result<(), AllocError>
+    ensures { OnOk result (made.new ≡ made.old ++ map untested transitions.now) }
 {
-    let mut made = Items::new(alloc);
     for transition in transitions {
         made.push(untested(alloc, transition)?)?;
     }
-    Ok(made)
+    Ok(())
 }
 
 // The state that has the regions, and is left when these have ended.
@@ -111,88 +115,132 @@ pub fn ended(alloc: Global) -> ExtendedState
     }
 }
 
-// What a superstate has instead of these regions.
-fn held(
+// Puts the states of the region that has these regions, and waits for the trigger behind them.
+fn put_held_states(
     alloc: Global,
-    condition: Option<Expr>,
+    trigger: Expr,
     regions: Items<ExtendedRegion>,
-) -> Result<Items<ExtendedRegion>, AllocError>
-    ensures { IfOk result (λ made. made ≡ held condition regions) }
+    made: &mut Items<ExtendedState>,
+) -> Result<(), AllocError>
+    ensures { OnOk result (made.new ≡ made.old ++ body regions ∷ hold trigger ∷ ended ∷ []) }
 {
-    let Some(trigger) = condition else {
-        return Ok(regions);
-    };
-    let mut states = alone(alloc, body(alloc, regions)?)?;
-    states.push(hold(alloc, trigger)?)?;
-    states.push(ended(alloc))?;
-    alone(
-        alloc,
-        ExtendedRegion {
-            name: plain("body__1"),
-            states,
-        },
-    )
+    made.push(body(alloc, regions)?)?;
+    made.push(hold(alloc, trigger)?)?;
+    made.push(ended(alloc))
 }
 
+// Puts what a superstate with this trigger has instead of these regions.
+fn put_held(
+    alloc: Global,
+    trigger: Expr,
+    regions: Items<ExtendedRegion>,
+    made: &mut Items<ExtendedRegion>,
+) -> Result<(), AllocError>
+    ensures { OnOk result (made.new ≡ made.old ++ held (Some trigger) regions) }
+{
+    let mut states = Items::new(alloc);
+    put_held_states(alloc, trigger, regions, &mut states)?;
+    made.push(ExtendedRegion {
+        name: plain("body__1"),
+        states,
+    })
+}
+
+// Puts what is made of regions behind others.
 #[cycle(held)]
-fn held_regions(
+fn put_regions(
     alloc: Global,
     regions: &[ExtendedRegion],
-) -> Result<Items<ExtendedRegion>, AllocError>
-    ensures { IfOk result (λ made. made ≡ map held_region regions.now) }
+    made: &mut Items<ExtendedRegion>,
+) -> Result<(), AllocError>
+    ensures { OnOk result (made.new ≡ made.old ++ map held_region regions.now) }
 {
-    let mut made = Items::new(alloc);
     for region in regions {
-        made.push(held_region(alloc, region)?)?;
+        put_region(alloc, region, made)?;
     }
-    Ok(made)
+    Ok(())
 }
 
 #[cycle(held)]
-fn held_region(alloc: Global, region: &ExtendedRegion) -> Result<ExtendedRegion, AllocError>
-    ensures { IfOk result (λ made. made ≡ held_region region.now) }
+fn put_region(
+    alloc: Global,
+    region: &ExtendedRegion,
+    made: &mut Items<ExtendedRegion>,
+) -> Result<(), AllocError>
+    ensures { OnOk result (made.new ≡ made.old ++ held_region region.now ∷ []) }
 {
-    Ok(ExtendedRegion {
+    let mut states = Items::new(alloc);
+    put_states(alloc, region.states.as_slice(), &mut states)?;
+    made.push(ExtendedRegion {
         name: region.name,
-        states: held_states(alloc, region.states.as_slice())?,
+        states,
     })
 }
 
 #[cycle(held)]
-fn held_states(alloc: Global, states: &[ExtendedState]) -> Result<Items<ExtendedState>, AllocError>
-    ensures { IfOk result (λ made. made ≡ map held_state states.now) }
+fn put_states(
+    alloc: Global,
+    states: &[ExtendedState],
+    made: &mut Items<ExtendedState>,
+) -> Result<(), AllocError>
+    ensures { OnOk result (made.new ≡ made.old ++ map held_state states.now) }
 {
-    let mut made = Items::new(alloc);
     for state in states {
-        made.push(held_state(alloc, state)?)?;
+        put_state(alloc, state, made)?;
     }
-    Ok(made)
-}
-
-// What the state has instead of its regions.
-#[cycle(held)]
-fn held_inside(alloc: Global, state: &ExtendedState) -> Result<Items<ExtendedRegion>, AllocError>
-    ensures { IfOk result (λ made. made ≡ held_inside state.now) }
-{
-    let condition = condition(alloc, state.transitions.as_slice())?;
-    let regions = held_regions(alloc, state.regions.as_slice())?;
-    held(alloc, condition, regions)
+    Ok(())
 }
 
 #[cycle(held)]
 #[tactic(auto, using(crate::proofs::HeldStates::state_held))]
-fn held_state(alloc: Global, state: &ExtendedState) -> Result<ExtendedState, AllocError>
-    ensures { IfOk result (λ made. made ≡ held_state state.now) }
+fn put_state(
+    alloc: Global,
+    state: &ExtendedState,
+    made: &mut Items<ExtendedState>,
+) -> Result<(), AllocError>
+    ensures { OnOk result (made.new ≡ made.old ++ held_state state.now ∷ []) }
 {
-    Ok(ExtendedState {
-        name: state.name,
-        is_own: state.is_own,
-        is_initial: state.is_initial,
-        is_final: state.is_final,
-        entry: copied_effects(alloc, state.entry.as_slice())?,
-        exit: copied_effects(alloc, state.exit.as_slice())?,
-        during: Items::new(alloc),
-        regions: held_inside(alloc, state)?,
-        transitions: all_untested(alloc, state.transitions.as_slice())?,
-    })
+    let mut changed = bare(alloc, state);
+    fill_held(alloc, state, &mut changed)?;
+    made.push(changed)
+}
+
+// Puts what the state has instead of its regions.
+#[cycle(held)]
+fn put_held_inside(
+    alloc: Global,
+    state: &ExtendedState,
+    made: &mut Items<ExtendedRegion>,
+) -> Result<(), AllocError>
+    ensures { OnOk result (made.new ≡ made.old ++ held_inside state.now) }
+{
+    let Some(trigger) = condition(alloc, state.transitions.as_slice())? else {
+        return put_regions(alloc, state.regions.as_slice(), made);
+    };
+    let mut regions = Items::new(alloc);
+    put_regions(alloc, state.regions.as_slice(), &mut regions)?;
+    put_held(alloc, trigger, regions, made)
+}
+
+// Puts what a state holds into a bare one, which is behind a reference so that no `?` has to drop its parts.
+#[cycle(held)]
+fn fill_held(
+    alloc: Global,
+    state: &ExtendedState,
+    changed: &mut ExtendedState,
+) -> Result<(), AllocError>
+    ensures { OnOk result (changed.new ≡ fill_held state.now changed.old) }
+{
+    changed
+        .entry
+        .append(copied_effects(alloc, state.entry.as_slice())?)?;
+    changed
+        .exit
+        .append(copied_effects(alloc, state.exit.as_slice())?)?;
+    put_held_inside(alloc, state, &mut changed.regions)?;
+    put_untested(
+        alloc,
+        state.transitions.as_slice(),
+        &mut changed.transitions,
+    )
 }

@@ -10,15 +10,15 @@ mod making;
 mod reading;
 mod signals;
 
-pub use copies::{copied_declarations, copied_durings};
-pub use durings::{immediate_ones, steps, ways_on, with_durings};
+pub use copies::{copied_declarations, put_copied_durings};
+pub use durings::{put_immediate_ones, put_steps, put_ways_on, with_durings};
 pub use extended::{
     Constant, Declared, During, ELAPSED, ExtendedChart, ExtendedRegion, ExtendedState,
 };
-pub use holds::{all_untested, condition, ended, with_holds};
+pub use holds::{condition, ended, put_untested, with_holds};
 pub use making::{
-    all_passing, alone, always, copy, count, has_some, integers, literal, local, made_state, one,
-    passing, sum, variable,
+    alone, always, bare, copy, count, has_some, literal, local, made_state, one, passing,
+    put_all_passing, put_integers, sum, variable,
 };
 pub use reading::{Reading, count_variable, is_count};
 pub use signals::{emission, reset, with_signals};

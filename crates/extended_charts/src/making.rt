@@ -1,9 +1,9 @@
 //! The literals, variables, transitions and states that reductions make.
 
-ghost use Rattle.std.specs.Prelude.{◌≡◌, ◌≤◌, ◌+◌, ◌∷◌, [], IsTrue, IfOk, length};
+ghost use Rattle.std.specs.Prelude.{◌≡◌, ◌≤◌, ◌+◌, ◌∷◌, ◌++◌, [], IsTrue, IfOk, OnOk, length};
 ghost use Rattle.sc_values.specs.Name.{is_name};
 ghost use Rattle.extended_charts.specs.Making.{has_some, one, literal, local, integers, copy, always, made_state};
-ghost use Rattle.extended_charts.specs.Making.{passing, all_passing};
+ghost use Rattle.extended_charts.specs.Making.{bare, passing, all_passing};
 
 use crate::extended::{Declared, ExtendedRegion, ExtendedState};
 use chart_elements::next;
@@ -41,17 +41,16 @@ pub fn local(name: Name, kind: Kind, initial: Option<Value>) -> Declared
     }
 }
 
-/// As many int variables: this word, and a number from 1 behind it.
-pub fn integers(alloc: Global, word: &str, count: u32) -> Result<Items<Declared>, AllocError>
+/// Puts as many int variables: this word, and a number from 1 behind it. Err: memory was refused.
+pub fn put_integers(word: &str, count: u32, made: &mut Items<Declared>) -> Result<(), AllocError>
     requires named { IsTrue (is_name word.now) }
     requires short { length word.now ≤ 16 }
-    ensures { IfOk result (λ made. made ≡ integers word.now count) }
+    ensures { OnOk result (made.new ≡ made.old ++ integers word.now count) }
 {
-    let mut made = Items::new(alloc);
     for before in 0..count {
         made.push(local(numbered(word, (before + 1) as u64), Kind::Int, None))?;
     }
-    Ok(made)
+    Ok(())
 }
 
 /// The variable becomes what another is.
@@ -100,6 +99,23 @@ pub fn made_state(
     }
 }
 
+/// The state with nothing in it.
+pub fn bare(alloc: Global, state: &ExtendedState) -> ExtendedState
+    ensures { result ≡ bare state.now }
+{
+    ExtendedState {
+        name: state.name,
+        is_own: state.is_own,
+        is_initial: state.is_initial,
+        is_final: state.is_final,
+        entry: Items::new(alloc),
+        exit: Items::new(alloc),
+        during: Items::new(alloc),
+        regions: Items::new(alloc),
+        transitions: Items::new(alloc),
+    }
+}
+
 /// The state of this place, which makes these effects and goes on: at once, or in the next tick.
 pub fn passing(
     alloc: Global,
@@ -115,15 +131,16 @@ pub fn passing(
     Ok(made_state(alloc, name, place == 0, Items::new(alloc), transitions))
 }
 
-/// States from this place on that make these effects, one after the other, and lead to the place behind them.
-pub fn all_passing(
+/// Puts states from this place on that make these effects, one after the other, and lead to the place behind them. Err:
+/// memory was refused.
+pub fn put_all_passing(
     alloc: Global,
     first: u32,
     effects: &[Effect],
-) -> Result<Items<ExtendedState>, AllocError>
-    ensures { IfOk result (λ made. made ≡ all_passing first effects.now) }
+    made: &mut Items<ExtendedState>,
+) -> Result<(), AllocError>
+    ensures { OnOk result (made.new ≡ made.old ++ all_passing first effects.now) }
 {
-    let mut made = Items::new(alloc);
     let mut place = first;
     for effect in effects {
         let behind = next(place)?;
@@ -131,7 +148,7 @@ pub fn all_passing(
         made.push(passing(alloc, true, place, own, behind)?)?;
         place = behind;
     }
-    Ok(made)
+    Ok(())
 }
 
 /// Whether there is an item.

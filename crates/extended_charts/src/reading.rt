@@ -11,7 +11,7 @@ use sqlite_items::{Boxed, Items};
 use std::alloc::{AllocError, Global};
 
 /// What stands for what an expression reads.
-#[derive(Debug, Drop)]
+#[derive(Drop)]
 pub enum Reading {
     /// For a number that has a value here, its literal.
     Values(Items<Option<Value>>),
@@ -46,20 +46,19 @@ impl Reading {
     pub fn replaced(&self, alloc: Global, expression: &Expr) -> Result<Expr, AllocError>
         ensures { IfOk result (λ made. made ≡ replaced self.now expression.now) }
     {
-        let made = match expression {
-            Expr::Literal(value) => Expr::Literal(*value),
-            Expr::Load(x) => self.read(alloc, *x)?,
+        match expression {
+            Expr::Literal(value) => Ok(Expr::Literal(*value)),
+            Expr::Load(x) => self.read(alloc, *x),
             Expr::Unary(f, operand) => {
                 let operand = self.replaced(alloc, operand.get())?;
-                Expr::Unary(*f, Boxed::new(alloc, operand)?)
+                Ok(Expr::Unary(*f, Boxed::new(alloc, operand)?))
             }
             Expr::Binary(f, left, right) => {
-                let left = self.replaced(alloc, left.get())?;
-                let right = self.replaced(alloc, right.get())?;
-                Expr::Binary(*f, Boxed::new(alloc, left)?, Boxed::new(alloc, right)?)
+                let left = Boxed::new(alloc, self.replaced(alloc, left.get())?)?;
+                let right = Boxed::new(alloc, self.replaced(alloc, right.get())?)?;
+                Ok(Expr::Binary(*f, left, right))
             }
-        };
-        Ok(made)
+        }
     }
 
     /// A trigger that reads so. Err: memory was refused.

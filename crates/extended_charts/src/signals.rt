@@ -1,10 +1,10 @@
 //! Signals: variables that are false in each tick until they are emitted.
 
-ghost use Rattle.std.specs.Prelude.{◌≡◌, IfOk};
-ghost use Rattle.extended_charts.specs.Signals.{emission, reset, resets, signal_region, with_signals};
+ghost use Rattle.std.specs.Prelude.{◌≡◌, [], ◌∷◌, ◌++◌, IfOk, OnOk};
+ghost use Rattle.extended_charts.specs.Signals.{emission, reset, resets, signal_states, signal_region, with_signals};
 
-use crate::extended::{ExtendedChart, ExtendedRegion};
-use crate::making::{all_passing, alone, has_some, passing};
+use crate::extended::{ExtendedChart, ExtendedRegion, ExtendedState};
+use crate::making::{count, has_some, passing, put_all_passing};
 use chart_elements::next;
 use core_charts::Effect;
 use sc_graph::VariableId;
@@ -18,21 +18,21 @@ use std::alloc::{AllocError, Global};
 pub fn with_signals(alloc: Global, chart: ExtendedChart) -> Result<ExtendedChart, AllocError>
     ensures { IfOk result (λ made. made ≡ with_signals chart) }
 {
+    let mut chart = chart;
+    put_signals(alloc, &mut chart)?;
+    Ok(chart)
+}
+
+// The chart is behind a reference, so that no `?` has to drop its parts.
+fn put_signals(alloc: Global, chart: &mut ExtendedChart) -> Result<(), AllocError>
+    ensures { OnOk result (chart.new ≡ with_signals chart.old) }
+{
     if !has_some(chart.signals.as_slice()) {
-        return Ok(chart);
+        return Ok(());
     }
-    let region = signal_region(alloc, chart.signals.as_slice())?;
-    let mut regions = chart.regions;
-    regions.push(region)?;
-    Ok(ExtendedChart {
-        name: chart.name,
-        variables: chart.variables,
-        signals: Items::new(alloc),
-        befores: chart.befores,
-        constants: chart.constants,
-        counts: chart.counts,
-        regions,
-    })
+    put_signal_region(alloc, chart.signals.as_slice(), &mut chart.regions)?;
+    chart.signals = Items::new(alloc);
+    Ok(())
 }
 
 /// The effect that emits a signal. Err: memory was refused.
@@ -57,28 +57,42 @@ pub fn reset(signal: VariableId) -> Effect
     }
 }
 
-fn resets(alloc: Global, signals: &[VariableId]) -> Result<Items<Effect>, AllocError>
-    ensures { IfOk result (λ made. made ≡ resets signals.now) }
+fn put_resets(signals: &[VariableId], made: &mut Items<Effect>) -> Result<(), AllocError>
+    ensures { OnOk result (made.new ≡ made.old ++ resets signals.now) }
 {
-    let mut made = Items::new(alloc);
     for signal in signals {
         made.push(reset(*signal))?;
     }
-    Ok(made)
+    Ok(())
 }
 
-// The region that makes the signals false as each tick begins, but the first.
-fn signal_region(alloc: Global, signals: &[VariableId]) -> Result<ExtendedRegion, AllocError>
-    ensures { IfOk result (λ made. made ≡ signal_region signals.now) }
+// Puts the states that wait for the next tick, make the signals false, and begin anew.
+fn put_signal_states(
+    alloc: Global,
+    signals: &[VariableId],
+    made: &mut Items<ExtendedState>,
+) -> Result<(), AllocError>
+    ensures { OnOk result (made.new ≡ made.old ++ signal_states signals.now) }
 {
-    let Ok(count) = u32::try_from(signals.len()) else {
-        return Err(AllocError);
-    };
-    let resets = resets(alloc, signals)?;
-    let mut states = alone(alloc, passing(alloc, false, 0, Items::new(alloc), 1)?)?;
-    states.append(all_passing(alloc, 1, resets.as_slice())?)?;
-    states.push(passing(alloc, true, next(count)?, Items::new(alloc), 0)?)?;
-    Ok(ExtendedRegion {
+    let last = next(count(signals)?)?;
+    let mut resets = Items::new(alloc);
+    put_resets(signals, &mut resets)?;
+    made.push(passing(alloc, false, 0, Items::new(alloc), 1)?)?;
+    put_all_passing(alloc, 1, resets.as_slice(), made)?;
+    made.push(passing(alloc, true, last, Items::new(alloc), 0)?)
+}
+
+// Puts the region that makes the signals false as each tick begins, but the first.
+fn put_signal_region(
+    alloc: Global,
+    signals: &[VariableId],
+    made: &mut Items<ExtendedRegion>,
+) -> Result<(), AllocError>
+    ensures { OnOk result (made.new ≡ made.old ++ signal_region signals.now ∷ []) }
+{
+    let mut states = Items::new(alloc);
+    put_signal_states(alloc, signals, &mut states)?;
+    made.push(ExtendedRegion {
         name: plain("signals__1"),
         states,
     })

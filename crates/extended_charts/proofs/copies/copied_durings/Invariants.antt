@@ -1,5 +1,0 @@
-use Rattle.std.proofs.Common.{◌≡◌, ◌++◌, drop}
-use Rattle.extended_charts.proofs.copies.copied_durings.Given as goal
-
-abbrev pub invariant-loop-during : goal.invariant-loop-during
-invariant-loop-during l = l.copy ++ drop l.during-index l.durings ≡ l.durings
