@@ -1,6 +1,7 @@
 -- The ticks since a state was entered: one more region adds 1 to the time in each tick; a state that asks notes the time as
 -- the first of its entry actions; and in its triggers the time now less that stands for the ticks since.
-use Rattle.std.specs.Prelude.{ℕ, suc, pos, ◌+◌, Bool, true, false, Option, Some, None, List, [], ◌∷◌, ◌++◌, map, length, codes, ◌==◌, if◌then◌else◌}
+use Rattle.std.specs.Prelude.{ℕ, suc, pos, ◌+◌, ◌==◌, Bool, true, false, Option, Some, None, List, [], ◌∷◌, ◌++◌, map, sum_by, length, codes}
+use Rattle.std.specs.Prelude.{if◌then◌else◌}
 use Rattle.std.specs.List.{list_any}
 use Rattle.sc_values.specs.declared.value.Value.TheVariants as value
 use Rattle.sc_values.specs.declared.value.Kind.TheVariants as of_kind
@@ -20,6 +21,7 @@ use Rattle.extended_charts.specs.declared.reading.Reading.{Reading}
 use Rattle.extended_charts.specs.declared.reading.Reading.TheVariants as reading
 use Rattle.extended_charts.specs.Reading.{elapsed, replaced_trigger}
 use Rattle.extended_charts.specs.Making.{one, local, integers, copy, always, made_state, region}
+use Rattle.extended_charts.specs.Walks.{walk}
 
 -- ---- who asks
 
@@ -43,20 +45,16 @@ pub record TimedState : Type 0 where
   pub made : (now at : ℕ) → ExtendedState
 
 abbrev pub clocks_in : List TimedRegion → ℕ
-clocks_in [] = 0
-clocks_in (r ∷ regions) = r.clocks + clocks_in regions
+clocks_in regions = sum_by (λ (r : TimedRegion). r.clocks) regions
 
 abbrev pub clocks_among : List TimedState → ℕ
-clocks_among [] = 0
-clocks_among (s ∷ states) = s.clocks + clocks_among states
+clocks_among states = sum_by (λ (s : TimedState). s.clocks) states
 
 abbrev pub all_regions : (now at : ℕ) → List TimedRegion → List ExtendedRegion
-all_regions now at [] = []
-all_regions now at (r ∷ regions) = r.made now at ∷ all_regions now (at + r.clocks) regions
+all_regions now at regions = walk (λ (r : TimedRegion). r.clocks) (λ r x. r.made now x ∷ []) at regions
 
 abbrev pub all_states : (now at : ℕ) → List TimedState → List ExtendedState
-all_states now at [] = []
-all_states now at (s ∷ states) = s.made now at ∷ all_states now (at + s.clocks) states
+all_states now at states = walk (λ (s : TimedState). s.clocks) (λ s x. s.made now x ∷ []) at states
 
 abbrev pub noting : Bool → (now at : ℕ) → List Effect
 noting true now at = copy at now ∷ []

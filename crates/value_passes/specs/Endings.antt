@@ -3,7 +3,7 @@
 -- termination, which tells by a variable that it was taken. One more region makes the during actions, and ends behind those
 -- of the tick in which that variable is true. The termination of the superstate itself then needs no trigger.
 use Rattle.std.specs.Prelude.{ℕ, zero, suc, ◌+◌, ◌==◌, Bool, true, false, ◌&&◌, ◌||◌, Option, Some, None, List, [], ◌∷◌, ◌++◌, map, length, codes}
-use Rattle.std.specs.Prelude.{if◌then◌else◌}
+use Rattle.std.specs.Prelude.{sum_by, if◌then◌else◌}
 use Rattle.std.specs.List.{list_any}
 use Rattle.sc_values.specs.declared.value.Value.TheVariants as value
 use Rattle.sc_values.specs.declared.value.Kind.TheVariants as of_kind
@@ -23,6 +23,7 @@ use Rattle.extended_charts.specs.declared.extended.ExtendedRegion.TheViews.{roll
 use Rattle.extended_charts.specs.declared.extended.ExtendedRegion.TheFolds.{fold-ExtendedRegion, fold-ExtendedState}
 use Rattle.sc_text.specs.MadeNames.{numbered}
 use Rattle.extended_charts.specs.Making.{has_some, one, local, always, made_state, passing, region}
+use Rattle.extended_charts.specs.Walks.{walk}
 use Rattle.extended_charts.specs.Signals.{reset}
 use Rattle.extended_charts.specs.Holds.{condition, untested, ended}
 use Rattle.extended_charts.specs.Durings.{steps, immediate_ones}
@@ -109,20 +110,16 @@ pub record EndingState : Type 0 where
   pub made : (x : ℕ) → ExtendedState
 
 abbrev pub endings_in : List EndingRegion → ℕ
-endings_in [] = 0
-endings_in (r ∷ regions) = r.endings + endings_in regions
+endings_in regions = sum_by (λ (r : EndingRegion). r.endings) regions
 
 abbrev pub endings_among : List EndingState → ℕ
-endings_among [] = 0
-endings_among (s ∷ states) = s.endings + endings_among states
+endings_among states = sum_by (λ (s : EndingState). s.endings) states
 
 abbrev pub all_regions : (x : ℕ) → List EndingRegion → List ExtendedRegion
-all_regions x [] = []
-all_regions x (r ∷ regions) = r.made x ∷ all_regions (x + r.endings) regions
+all_regions x regions = walk (λ (r : EndingRegion). r.endings) (λ r y. r.made y ∷ []) x regions
 
 abbrev pub all_states : (x : ℕ) → List EndingState → List ExtendedState
-all_states x [] = []
-all_states x (s ∷ states) = s.made x ∷ all_states (x + s.endings) states
+all_states x states = walk (λ (s : EndingState). s.endings) (λ s y. s.made y ∷ []) x states
 
 -- whether a state with these actions is left by a termination
 abbrev pub is_ending : List During → List Transition → Bool

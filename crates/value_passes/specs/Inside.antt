@@ -1,36 +1,32 @@
 -- What private functions make: what is put into a state whose name and marks stand already, and into a chart that has a name
 -- alone; and the ways of a count.
-use Rattle.std.specs.Prelude.{ℕ, Bool, true, ◌+◌, Some, List, [], ◌∷◌, ◌++◌, map}
+use Rattle.std.specs.Prelude.{ℕ, Bool, true, false, ◌+◌, Some, List, [], ◌∷◌, ◌++◌, map, codes}
 use Rattle.sc_values.specs.declared.expression.Expr.{Expr}
 use Rattle.sc_values.specs.declared.expression.Expr.TheVariants as expr
 use Rattle.core_charts.specs.declared.region.Transition.{Transition}
 use Rattle.extended_charts.specs.declared.extended.ExtendedChart.{ExtendedChart}
+use Rattle.extended_charts.specs.declared.extended.ExtendedRegion.{ExtendedRegion}
 use Rattle.extended_charts.specs.declared.extended.ExtendedState.{ExtendedState}
 use Rattle.extended_charts.specs.declared.extended.ExtendedRegion.TheViews.{out-ExtendedState, roll-ExtendedState}
 use Rattle.extended_charts.specs.declared.reading.Reading.{Reading}
 use Rattle.extended_charts.specs.declared.reading.Reading.TheVariants as reading
 use Rattle.extended_charts.specs.Reading.{replaced}
-use Rattle.extended_charts.specs.Making.{one, always}
+use Rattle.extended_charts.specs.Making.{one, always, made_state}
 use Rattle.extended_charts.specs.Durings.{ways_on}
-use Rattle.value_passes.specs.Clocks.{ask_time, noting, timed_by, timed_region, all_regions, one_more}
+use Rattle.value_passes.specs.Clocks.{ask_time, noting, timed_by, timed_transition, timed_region, all_regions, one_more}
 use Rattle.value_passes.specs.Constants.{valued_effect, valued_during, valued_transition, valued_region}
 use Rattle.value_passes.specs.Counts.{total_of, entered_of, tellings, counted_region, none_yet}
 use Rattle.value_passes.specs.Endings as endings
 use Rattle.value_passes.specs.Endings.{is_ending, beginning, left_durings, inside, left_transitions, ending_in_region}
 
--- the state with nothing in it
-abbrev pub bare : ExtendedState → ExtendedState
-bare s =
-    roll-ExtendedState (record (out-ExtendedState s) { entry = []; exit = []; during = []; regions = []; transitions = [] })
-
 abbrev pub fill_valued : Reading → (s valued : ExtendedState) → ExtendedState
 fill_valued r s valued =
     roll-ExtendedState (record (out-ExtendedState valued) {
-      entry = map (valued_effect r) (out-ExtendedState s).entry;
-      exit = map (valued_effect r) (out-ExtendedState s).exit;
-      during = map (valued_during r) (out-ExtendedState s).during;
+      entry = (out-ExtendedState valued).entry ++ map (valued_effect r) (out-ExtendedState s).entry;
+      exit = (out-ExtendedState valued).exit ++ map (valued_effect r) (out-ExtendedState s).exit;
+      during = (out-ExtendedState valued).during ++ map (valued_during r) (out-ExtendedState s).during;
       regions = (out-ExtendedState valued).regions ++ map (valued_region r) (out-ExtendedState s).regions;
-      transitions = map (valued_transition r) (out-ExtendedState s).transitions;
+      transitions = (out-ExtendedState valued).transitions ++ map (valued_transition r) (out-ExtendedState s).transitions;
     })
 
 abbrev pub fill_chart : Reading → (c valued : ExtendedChart) → ExtendedChart
@@ -39,49 +35,58 @@ fill_chart r c valued =
       variables = c.variables;
       signals = c.signals;
       befores = c.befores;
-      counts = map (replaced r) c.counts;
+      counts = valued.counts ++ map (replaced r) c.counts;
       regions = valued.regions ++ map (valued_region r) c.regions;
     }
+
+-- the state that adds 1 to the time
+abbrev pub clock_state : (now : ℕ) → ExtendedState
+clock_state now = made_state (codes "tick__1") true [] (always false (one_more now ∷ []) 0 ∷ [])
 
 abbrev pub fill_timed : (now at : ℕ) → (s timed : ExtendedState) → ExtendedState
 fill_timed now at s timed =
     roll-ExtendedState (record (out-ExtendedState timed) {
-      entry = noting (ask_time (out-ExtendedState s).transitions) now at ++ (out-ExtendedState s).entry;
-      exit = (out-ExtendedState s).exit;
+      entry =
+          ((out-ExtendedState timed).entry ++ noting (ask_time (out-ExtendedState s).transitions) now at)
+          ++ (out-ExtendedState s).entry;
+      exit = (out-ExtendedState timed).exit ++ (out-ExtendedState s).exit;
       regions =
           (out-ExtendedState timed).regions ++
           all_regions now (at + one (ask_time (out-ExtendedState s).transitions)) (map timed_region (out-ExtendedState s).regions);
-      transitions = map (timed_by (reading.Elapsed now at)) (out-ExtendedState s).transitions;
+      transitions = (out-ExtendedState timed).transitions ++ map (timed_transition now at) (out-ExtendedState s).transitions;
     })
 
 abbrev pub fill_counted : (first counts : ℕ) → (s counted : ExtendedState) → ExtendedState
 fill_counted first n s counted =
     roll-ExtendedState (record (out-ExtendedState counted) {
-      entry = tellings first n (out-ExtendedState s).transitions ++ (out-ExtendedState s).entry;
-      exit = (out-ExtendedState s).exit;
+      entry =
+          ((out-ExtendedState counted).entry ++ tellings first n (out-ExtendedState s).transitions) ++ (out-ExtendedState s).entry;
+      exit = (out-ExtendedState counted).exit ++ (out-ExtendedState s).exit;
       regions = (out-ExtendedState counted).regions ++ map (counted_region first n) (out-ExtendedState s).regions;
-      transitions = map (timed_by (reading.Counted first n)) (out-ExtendedState s).transitions;
+      transitions =
+          (out-ExtendedState counted).transitions ++ map (timed_by (reading.Counted first n)) (out-ExtendedState s).transitions;
     })
 
--- the way on of a count whose state was entered, and those where it was not
+-- the way on of a count whose state was entered
 abbrev pub anew : (count target : ℕ) → Transition
 anew count target =
     record (always true (none_yet (total_of count) ∷ []) target) { trigger = Some (expr.Load (entered_of count)) }
 
-abbrev pub counted_ways : (count : ℕ) → (condition : Expr) → (target : ℕ) → List Transition
-counted_ways count condition target = ways_on (Some condition) (one_more (total_of count) ∷ []) target
+-- the regions of a state, one level deeper where it is left by a termination
+abbrev pub deeper : (ends : Bool) → (done x : ℕ) → ExtendedState → List ExtendedRegion
+deeper ends done x s =
+    inside ends done (out-ExtendedState s).during (out-ExtendedState s).transitions
+    (endings.all_regions (x + one ends) (map ending_in_region (out-ExtendedState s).regions))
 
 -- a state, where it is left by a termination or not
 abbrev fill_where : (ends : Bool) → (x : ℕ) → (s changed : ExtendedState) → ExtendedState
 fill_where ends x s changed =
     roll-ExtendedState (record (out-ExtendedState changed) {
-      entry = beginning ends x ++ (out-ExtendedState s).entry;
-      exit = (out-ExtendedState s).exit;
-      during = left_durings ends (out-ExtendedState s).during;
-      regions =
-          inside ends x (out-ExtendedState s).during (out-ExtendedState s).transitions
-          (endings.all_regions (x + one ends) (map ending_in_region (out-ExtendedState s).regions));
-      transitions = left_transitions ends (out-ExtendedState s).transitions;
+      entry = ((out-ExtendedState changed).entry ++ beginning ends x) ++ (out-ExtendedState s).entry;
+      exit = (out-ExtendedState changed).exit ++ (out-ExtendedState s).exit;
+      during = (out-ExtendedState changed).during ++ left_durings ends (out-ExtendedState s).during;
+      regions = (out-ExtendedState changed).regions ++ deeper ends x x s;
+      transitions = (out-ExtendedState changed).transitions ++ left_transitions ends (out-ExtendedState s).transitions;
     })
 
 abbrev pub fill_ending : (x : ℕ) → (s changed : ExtendedState) → ExtendedState

@@ -57,11 +57,14 @@ ring count stored handed =
     passing true (suc count + count) [] 0 ∷ []
 
 -- in a chart with so many variables
-abbrev pub register_region : (variables : ℕ) → (befores : List ℕ) → ExtendedRegion
-register_region variables befores =
-    region (codes "registers__1") (ring (length befores)
+abbrev pub register_states : (variables : ℕ) → (befores : List ℕ) → List ExtendedState
+register_states variables befores =
+    ring (length befores)
     (storing (variables + length befores) befores)
-    (handing variables (variables + length befores) befores))
+    (handing variables (variables + length befores) befores)
+
+abbrev pub register_region : (variables : ℕ) → (befores : List ℕ) → ExtendedRegion
+register_region variables befores = region (codes "registers__1") (register_states variables befores)
 
 abbrev pub registered : ExtendedChart → ExtendedChart
 registered c =

@@ -2,16 +2,15 @@
 
 ghost use Rattle.std.specs.Prelude.{◌≡◌, [], ◌∷◌, ◌++◌, IfOk, OnOk, map};
 ghost use Rattle.value_passes.specs.Clocks.{asks_time, ask_time, clocks_in, all_regions, all_states};
-ghost use Rattle.value_passes.specs.Clocks.{noting, timed_by, timed_region, timed_state};
+ghost use Rattle.value_passes.specs.Clocks.{noting, timed_by, timed_transition, timed_region, timed_state};
 ghost use Rattle.value_passes.specs.Clocks.{one_more, clock_region, with_clocks};
-ghost use Rattle.value_passes.specs.Inside.{fill_timed};
+ghost use Rattle.value_passes.specs.Inside.{clock_state, fill_timed};
 
-use crate::bare::bare;
 use chart_elements::next;
 use core_charts::{Effect, Transition, copied_effects};
 use extended_charts::{
-    ELAPSED, ExtendedChart, ExtendedRegion, ExtendedState, Reading, alone, always, copy, integers,
-    local, made_state, one, sum, variable,
+    ELAPSED, ExtendedChart, ExtendedRegion, ExtendedState, Reading, alone, always, bare, copy,
+    local, made_state, one, put_integers, sum, variable,
 };
 use sc_graph::VariableId;
 use sc_text::plain;
@@ -41,12 +40,12 @@ fn put_clocks(alloc: Global, chart: &mut ExtendedChart) -> Result<(), AllocError
     let first = next(u32::from(now))?;
     let mut regions = Items::new(alloc);
     put_regions(alloc, now, first, chart.regions.as_slice(), &mut regions)?;
-    regions.push(clock_region(alloc, now)?)?;
+    put_clock_region(alloc, now, &mut regions)?;
     chart.regions = regions;
     chart
         .variables
         .push(local(plain("now__1"), Kind::Int, None))?;
-    chart.variables.append(integers(alloc, "at__", count)?)
+    put_integers("at__", count, &mut chart.variables)
 }
 
 // Whether a trigger of these asks for the ticks since the state was entered.
@@ -184,12 +183,13 @@ fn fill_timed(
     let asks = ask_time(own);
     let at_entry = variable(at as usize)?;
     let inside = sum(at, one(asks))?;
-    let reading = Reading::Elapsed { now, at: at_entry };
-    timed.entry = noting(alloc, asks, now, at_entry)?;
+    put_noting(asks, now, at_entry, &mut timed.entry)?;
     timed
         .entry
         .append(copied_effects(alloc, state.entry.as_slice())?)?;
-    timed.exit = copied_effects(alloc, state.exit.as_slice())?;
+    timed
+        .exit
+        .append(copied_effects(alloc, state.exit.as_slice())?)?;
     put_regions(
         alloc,
         now,
@@ -197,52 +197,68 @@ fn fill_timed(
         state.regions.as_slice(),
         &mut timed.regions,
     )?;
-    timed.transitions = timed_transitions(alloc, &reading, own)?;
-    Ok(())
+    put_elapsed(alloc, now, at_entry, own, &mut timed.transitions)
 }
 
-fn noting(
-    alloc: Global,
+// Puts what notes the time at which a state that asks was entered.
+fn put_noting(
     asks: bool,
     now: VariableId,
     at: VariableId,
-) -> Result<Items<Effect>, AllocError>
-    ensures { IfOk result (λ made. made ≡ noting asks now at) }
+    made: &mut Items<Effect>,
+) -> Result<(), AllocError>
+    ensures { OnOk result (made.new ≡ made.old ++ noting asks now at) }
 {
     if asks {
-        alone(alloc, copy(at, now))
+        made.push(copy(at, now))
     } else {
-        Ok(Items::new(alloc))
+        Ok(())
     }
 }
 
-/// Transitions whose triggers read so. Err: memory was refused.
-pub(crate) fn timed_transitions(
+// Puts transitions that read the time now less that at the entry.
+fn put_elapsed(
+    alloc: Global,
+    now: VariableId,
+    at: VariableId,
+    transitions: &[Transition],
+    made: &mut Items<Transition>,
+) -> Result<(), AllocError>
+    ensures { OnOk result (made.new ≡ made.old ++ map (timed_transition now at) transitions.now) }
+{
+    let reading = Reading::Elapsed { now, at };
+    put_timed(alloc, &reading, transitions, made)
+}
+
+/// Puts transitions whose triggers read so. Err: memory was refused.
+pub(crate) fn put_timed(
     alloc: Global,
     reading: &Reading,
     transitions: &[Transition],
-) -> Result<Items<Transition>, AllocError>
-    ensures { IfOk result (λ made. made ≡ map (timed_by reading.now) transitions.now) }
+    made: &mut Items<Transition>,
+) -> Result<(), AllocError>
+    ensures { OnOk result (made.new ≡ made.old ++ map (timed_by reading.now) transitions.now) }
 {
-    let mut made = Items::new(alloc);
     for transition in transitions {
-        made.push(timed_transition(alloc, reading, transition)?)?;
+        made.push(timed_by(alloc, reading, transition)?)?;
     }
-    Ok(made)
+    Ok(())
 }
 
-fn timed_transition(
+fn timed_by(
     alloc: Global,
     reading: &Reading,
     transition: &Transition,
 ) -> Result<Transition, AllocError>
     ensures { IfOk result (λ made. made ≡ timed_by reading.now transition.now) }
 {
+    let trigger = reading.replaced_trigger(alloc, &transition.trigger)?;
+    let effects = copied_effects(alloc, transition.effects.as_slice())?;
     Ok(Transition {
         kind: transition.kind,
         immediate: transition.immediate,
-        trigger: reading.replaced_trigger(alloc, &transition.trigger)?,
-        effects: copied_effects(alloc, transition.effects.as_slice())?,
+        trigger,
+        effects,
         target: transition.target,
     })
 }
@@ -259,21 +275,27 @@ pub(crate) fn one_more(alloc: Global, now: VariableId) -> Result<Effect, AllocEr
     })
 }
 
-// The region that adds 1 to the time in each tick but the first.
-fn clock_region(alloc: Global, now: VariableId) -> Result<ExtendedRegion, AllocError>
-    ensures { IfOk result (λ made. made ≡ clock_region now) }
+// Puts the region that adds 1 to the time in each tick but the first.
+fn put_clock_region(
+    alloc: Global,
+    now: VariableId,
+    made: &mut Items<ExtendedRegion>,
+) -> Result<(), AllocError>
+    ensures { OnOk result (made.new ≡ made.old ++ clock_region now ∷ []) }
+{
+    let tick = clock_state(alloc, now)?;
+    let states = alone(alloc, tick)?;
+    made.push(ExtendedRegion {
+        name: plain("clock__1"),
+        states,
+    })
+}
+
+fn clock_state(alloc: Global, now: VariableId) -> Result<ExtendedState, AllocError>
+    ensures { IfOk result (λ made. made ≡ clock_state now) }
 {
     let effects = alone(alloc, one_more(alloc, now)?)?;
     let transitions = alone(alloc, always(false, effects, 0))?;
-    let tick = made_state(
-        alloc,
-        plain("tick__1"),
-        true,
-        Items::new(alloc),
-        transitions,
-    );
-    Ok(ExtendedRegion {
-        name: plain("clock__1"),
-        states: alone(alloc, tick)?,
-    })
+    let name = plain("tick__1");
+    Ok(made_state(alloc, name, true, Items::new(alloc), transitions))
 }

@@ -7,10 +7,9 @@ ghost use Rattle.extended_charts.specs.Reading.{replaced};
 ghost use Rattle.value_passes.specs.Constants.{valued_region, valued_state, valued_chart, without_constants};
 ghost use Rattle.value_passes.specs.Inside.{fill_valued, fill_chart};
 
-use crate::bare::bare;
 use core_charts::{Effect, Transition};
 use extended_charts::{
-    Constant, Declared, During, ExtendedChart, ExtendedRegion, ExtendedState, Reading,
+    Constant, Declared, During, ExtendedChart, ExtendedRegion, ExtendedState, Reading, bare,
     copied_declarations,
 };
 use sc_graph::VariableId;
@@ -22,9 +21,7 @@ use std::alloc::{AllocError, Global};
 pub fn without_constants(alloc: Global, chart: &ExtendedChart) -> Result<ExtendedChart, AllocError>
     ensures { IfOk result (λ made. made ≡ without_constants chart.now) }
 {
-    let variables = chart.variables.as_slice();
-    let befores = chart.befores.as_slice();
-    let named = named_values(alloc, variables, befores, chart.constants.as_slice())?;
+    let named = named_values(alloc, chart)?;
     let reading = Reading::Values(named);
     valued_chart(alloc, &reading, chart)
 }
@@ -61,7 +58,7 @@ fn fill_chart(
     valued.variables = copied_declarations(alloc, chart.variables.as_slice())?;
     valued.signals = Items::from_slice(alloc, chart.signals.as_slice())?;
     valued.befores = Items::from_slice(alloc, chart.befores.as_slice())?;
-    valued.counts = valued_counts(alloc, reading, chart.counts.as_slice())?;
+    put_valued_counts(alloc, reading, chart.counts.as_slice(), &mut valued.counts)?;
     put_regions(
         alloc,
         reading,
@@ -71,69 +68,74 @@ fn fill_chart(
 }
 
 // The value of each number of an expression that has one.
-fn named_values(
-    alloc: Global,
-    variables: &[Declared],
-    befores: &[VariableId],
-    constants: &[Constant],
-) -> Result<Items<Option<Value>>, AllocError>
-    ensures { IfOk result (λ made. made ≡ named_values variables.now befores.now constants.now) }
-{
-    let mut named = unvalued(alloc, variables)?;
-    named.append(unvalued(alloc, befores)?)?;
-    named.append(constant_values(alloc, constants)?)?;
-    Ok(named)
-}
-
-fn unvalued<T>(alloc: Global, items: &[T]) -> Result<Items<Option<Value>>, AllocError>
-    ensures { IfOk result (λ made. made ≡ unvalued items.now) }
+fn named_values(alloc: Global, chart: &ExtendedChart) -> Result<Items<Option<Value>>, AllocError>
+    ensures { IfOk result (λ made. made
+        ≡ named_values chart.now.variables chart.now.befores chart.now.constants) }
 {
     let mut made = Items::new(alloc);
+    put_named_values(chart, &mut made)?;
+    Ok(made)
+}
+
+fn put_named_values(
+    chart: &ExtendedChart,
+    made: &mut Items<Option<Value>>,
+) -> Result<(), AllocError>
+    ensures { OnOk result (made.new
+        ≡ made.old ++ named_values chart.now.variables chart.now.befores chart.now.constants) }
+{
+    put_unvalued(chart.variables.as_slice(), made)?;
+    put_unvalued(chart.befores.as_slice(), made)?;
+    put_constant_values(chart.constants.as_slice(), made)
+}
+
+fn put_unvalued<T>(items: &[T], made: &mut Items<Option<Value>>) -> Result<(), AllocError>
+    ensures { OnOk result (made.new ≡ made.old ++ unvalued items.now) }
+{
     for _ in items {
         made.push(None)?;
     }
-    Ok(made)
+    Ok(())
 }
 
-fn constant_values(
-    alloc: Global,
+fn put_constant_values(
     constants: &[Constant],
-) -> Result<Items<Option<Value>>, AllocError>
-    ensures { IfOk result (λ made. made ≡ named_values [] [] constants.now) }
+    made: &mut Items<Option<Value>>,
+) -> Result<(), AllocError>
+    ensures { OnOk result (made.new ≡ made.old ++ named_values [] [] constants.now) }
 {
-    let mut made = Items::new(alloc);
     for constant in constants {
         made.push(Some(constant.value))?;
     }
-    Ok(made)
+    Ok(())
 }
 
-fn valued_counts(
+fn put_valued_counts(
     alloc: Global,
     reading: &Reading,
     counts: &[Expr],
-) -> Result<Items<Expr>, AllocError>
-    ensures { IfOk result (λ made. made ≡ map (replaced reading.now) counts.now) }
+    made: &mut Items<Expr>,
+) -> Result<(), AllocError>
+    ensures { OnOk result (made.new ≡ made.old ++ map (replaced reading.now) counts.now) }
 {
-    let mut made = Items::new(alloc);
     for condition in counts {
         made.push(reading.replaced(alloc, condition)?)?;
     }
-    Ok(made)
+    Ok(())
 }
 
-fn valued_effects(
+fn put_valued_effects(
     alloc: Global,
     reading: &Reading,
     effects: &[Effect],
-) -> Result<Items<Effect>, AllocError>
-    ensures { IfOk result (λ made. made ≡ map (valued_effect reading.now) effects.now) }
+    made: &mut Items<Effect>,
+) -> Result<(), AllocError>
+    ensures { OnOk result (made.new ≡ made.old ++ map (valued_effect reading.now) effects.now) }
 {
-    let mut made = Items::new(alloc);
     for effect in effects {
         made.push(valued_effect(alloc, reading, effect)?)?;
     }
-    Ok(made)
+    Ok(())
 }
 
 fn valued_effect(alloc: Global, reading: &Reading, effect: &Effect) -> Result<Effect, AllocError>
@@ -145,42 +147,56 @@ fn valued_effect(alloc: Global, reading: &Reading, effect: &Effect) -> Result<Ef
     })
 }
 
-fn valued_durings(
+fn valued_effects(
+    alloc: Global,
+    reading: &Reading,
+    effects: &[Effect],
+) -> Result<Items<Effect>, AllocError>
+    ensures { IfOk result (λ made. made ≡ map (valued_effect reading.now) effects.now) }
+{
+    let mut made = Items::new(alloc);
+    put_valued_effects(alloc, reading, effects, &mut made)?;
+    Ok(made)
+}
+
+fn put_valued_durings(
     alloc: Global,
     reading: &Reading,
     durings: &[During],
-) -> Result<Items<During>, AllocError>
-    ensures { IfOk result (λ made. made ≡ map (valued_during reading.now) durings.now) }
+    made: &mut Items<During>,
+) -> Result<(), AllocError>
+    ensures { OnOk result (made.new ≡ made.old ++ map (valued_during reading.now) durings.now) }
 {
-    let mut made = Items::new(alloc);
     for during in durings {
         made.push(valued_during(alloc, reading, during)?)?;
     }
-    Ok(made)
+    Ok(())
 }
 
 fn valued_during(alloc: Global, reading: &Reading, during: &During) -> Result<During, AllocError>
     ensures { IfOk result (λ made. made ≡ valued_during reading.now during.now) }
 {
+    let trigger = reading.replaced_trigger(alloc, &during.trigger)?;
+    let effects = valued_effects(alloc, reading, during.effects.as_slice())?;
     Ok(During {
         immediate: during.immediate,
-        trigger: reading.replaced_trigger(alloc, &during.trigger)?,
-        effects: valued_effects(alloc, reading, during.effects.as_slice())?,
+        trigger,
+        effects,
     })
 }
 
-fn valued_transitions(
+fn put_valued_transitions(
     alloc: Global,
     reading: &Reading,
     transitions: &[Transition],
-) -> Result<Items<Transition>, AllocError>
-    ensures { IfOk result (λ made. made ≡ map (valued_transition reading.now) transitions.now) }
+    made: &mut Items<Transition>,
+) -> Result<(), AllocError>
+    ensures { OnOk result (made.new ≡ made.old ++ map (valued_transition reading.now) transitions.now) }
 {
-    let mut made = Items::new(alloc);
     for transition in transitions {
         made.push(valued_transition(alloc, reading, transition)?)?;
     }
-    Ok(made)
+    Ok(())
 }
 
 fn valued_transition(
@@ -190,11 +206,13 @@ fn valued_transition(
 ) -> Result<Transition, AllocError>
     ensures { IfOk result (λ made. made ≡ valued_transition reading.now transition.now) }
 {
+    let trigger = reading.replaced_trigger(alloc, &transition.trigger)?;
+    let effects = valued_effects(alloc, reading, transition.effects.as_slice())?;
     Ok(Transition {
         kind: transition.kind,
         immediate: transition.immediate,
-        trigger: reading.replaced_trigger(alloc, &transition.trigger)?,
-        effects: valued_effects(alloc, reading, transition.effects.as_slice())?,
+        trigger,
+        effects,
         target: transition.target,
     })
 }
@@ -271,15 +289,19 @@ fn fill_valued(
 ) -> Result<(), AllocError>
     ensures { OnOk result (valued.new ≡ fill_valued reading.now state.now valued.old) }
 {
-    valued.entry = valued_effects(alloc, reading, state.entry.as_slice())?;
-    valued.exit = valued_effects(alloc, reading, state.exit.as_slice())?;
-    valued.during = valued_durings(alloc, reading, state.during.as_slice())?;
+    put_valued_effects(alloc, reading, state.entry.as_slice(), &mut valued.entry)?;
+    put_valued_effects(alloc, reading, state.exit.as_slice(), &mut valued.exit)?;
+    put_valued_durings(alloc, reading, state.during.as_slice(), &mut valued.during)?;
     put_regions(
         alloc,
         reading,
         state.regions.as_slice(),
         &mut valued.regions,
     )?;
-    valued.transitions = valued_transitions(alloc, reading, state.transitions.as_slice())?;
-    Ok(())
+    put_valued_transitions(
+        alloc,
+        reading,
+        state.transitions.as_slice(),
+        &mut valued.transitions,
+    )
 }

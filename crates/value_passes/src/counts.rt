@@ -1,20 +1,21 @@
 //! Counts: in how many ticks a condition was true since a state was entered.
 
 ghost use Rattle.std.specs.Prelude.{◌≡◌, [], ◌∷◌, ◌++◌, IfOk, OnOk, map};
+ghost use Rattle.value_passes.specs.Clocks.{timed_by};
+ghost use Rattle.extended_charts.specs.declared.reading.Reading.TheVariants as reading;
 ghost use Rattle.value_passes.specs.Counts.{total_of, entered_of, next_count, own_variables, count_variables};
 ghost use Rattle.value_passes.specs.Counts.{asked_in, asked_by, telling, tellings};
 ghost use Rattle.value_passes.specs.Counts.{counted_region, counted_state, beginnings, none_yet, counting_ways};
 ghost use Rattle.value_passes.specs.Counts.{counting, all_counting, count_states, count_region, with_counts};
-ghost use Rattle.value_passes.specs.Inside.{fill_counted, anew, counted_ways};
+ghost use Rattle.value_passes.specs.Inside.{fill_counted, anew};
 
-use crate::bare::bare;
-use crate::clocks::{one_more, timed_transitions};
+use crate::clocks::{one_more, put_timed};
 use chart_elements::next;
 use core_charts::{Effect, Transition, TransitionKind, copied_effects};
 use extended_charts::{
-    Declared, ExtendedChart, ExtendedRegion, ExtendedState, Reading, all_passing, alone, copy,
-    count, count_variable, emission, has_some, is_count, local, made_state, passing, reset, sum,
-    variable, ways_on,
+    Declared, ExtendedChart, ExtendedRegion, ExtendedState, Reading, alone, bare, copy, count,
+    count_variable, emission, has_some, is_count, local, made_state, passing, put_all_passing,
+    put_ways_on, reset, sum, variable,
 };
 use sc_graph::VariableId;
 use sc_text::{numbered, plain};
@@ -43,11 +44,9 @@ fn put_counts(alloc: Global, chart: &mut ExtendedChart) -> Result<(), AllocError
     let counts = variable(chart.counts.len())?;
     let mut regions = Items::new(alloc);
     put_regions(alloc, first, counts, chart.regions.as_slice(), &mut regions)?;
-    regions.push(count_region(alloc, first, chart.counts.as_slice())?)?;
+    put_count_region(alloc, first, chart.counts.as_slice(), &mut regions)?;
     chart.regions = regions;
-    chart
-        .variables
-        .append(count_variables(alloc, chart.counts.as_slice())?)?;
+    put_count_variables(chart.counts.as_slice(), &mut chart.variables)?;
     chart.counts = Items::new(alloc);
     Ok(())
 }
@@ -70,28 +69,23 @@ fn next_count(count: VariableId) -> Result<VariableId, AllocError>
     variable(count as usize + 3)
 }
 
-fn own_variables(alloc: Global, number: u32) -> Result<Items<Declared>, AllocError>
-    ensures { IfOk result (λ made. made ≡ own_variables number) }
+fn put_own_variables(number: u32, made: &mut Items<Declared>) -> Result<(), AllocError>
+    ensures { OnOk result (made.new ≡ made.old ++ own_variables number) }
 {
-    let mut made = alone(
-        alloc,
-        local(numbered("count__", number as u64), Kind::Int, None),
-    )?;
+    made.push(local(numbered("count__", number as u64), Kind::Int, None))?;
     made.push(local(numbered("total__", number as u64), Kind::Int, None))?;
-    made.push(local(numbered("entered__", number as u64), Kind::Bool, None))?;
-    Ok(made)
+    made.push(local(numbered("entered__", number as u64), Kind::Bool, None))
 }
 
-fn count_variables(alloc: Global, counts: &[Expr]) -> Result<Items<Declared>, AllocError>
-    ensures { IfOk result (λ made. made ≡ count_variables 1 counts.now) }
+fn put_count_variables(counts: &[Expr], made: &mut Items<Declared>) -> Result<(), AllocError>
+    ensures { OnOk result (made.new ≡ made.old ++ count_variables 1 counts.now) }
 {
-    let mut made = Items::new(alloc);
     let mut number = 1;
     for condition in counts {
-        made.append(own_variables(alloc, number)?)?;
+        put_own_variables(number, made)?;
         number = next(number)?;
     }
-    Ok(made)
+    Ok(())
 }
 
 // The first count that an expression reads.
@@ -118,38 +112,39 @@ fn asked_by(counts: u16, trigger: &Option<Expr>) -> Option<u16>
     }
 }
 
-// The count is told that its state is entered.
-fn telling(
+// Puts what tells the count that its state is entered.
+fn put_telling(
     alloc: Global,
     first: VariableId,
     counts: u16,
     asked: Option<u16>,
-) -> Result<Items<Effect>, AllocError>
-    ensures { IfOk result (λ made. made ≡ telling first counts asked) }
+    made: &mut Items<Effect>,
+) -> Result<(), AllocError>
+    ensures { OnOk result (made.new ≡ made.old ++ telling first counts asked) }
 {
     match asked {
         Some(x) => {
             let entered = entered_of(count_variable(first, counts, x)?)?;
-            alone(alloc, emission(alloc, entered)?)
+            made.push(emission(alloc, entered)?)
         }
-        None => Ok(Items::new(alloc)),
+        None => Ok(()),
     }
 }
 
-fn tellings(
+fn put_tellings(
     alloc: Global,
     first: VariableId,
     counts: u16,
     transitions: &[Transition],
-) -> Result<Items<Effect>, AllocError>
-    ensures { IfOk result (λ made. made ≡ tellings first counts transitions.now) }
+    made: &mut Items<Effect>,
+) -> Result<(), AllocError>
+    ensures { OnOk result (made.new ≡ made.old ++ tellings first counts transitions.now) }
 {
-    let mut made = Items::new(alloc);
     for transition in transitions {
         let asked = asked_by(counts, &transition.trigger);
-        made.append(telling(alloc, first, counts, asked)?)?;
+        put_telling(alloc, first, counts, asked, made)?;
     }
-    Ok(made)
+    Ok(())
 }
 
 // Puts what is made of regions behind others.
@@ -231,12 +226,13 @@ fn fill_counted(
     ensures { OnOk result (counted.new ≡ fill_counted first counts state.now counted.old) }
 {
     let own = state.transitions.as_slice();
-    let reading = Reading::Counted { first, counts };
-    counted.entry = tellings(alloc, first, counts, own)?;
+    put_tellings(alloc, first, counts, own, &mut counted.entry)?;
     counted
         .entry
         .append(copied_effects(alloc, state.entry.as_slice())?)?;
-    counted.exit = copied_effects(alloc, state.exit.as_slice())?;
+    counted
+        .exit
+        .append(copied_effects(alloc, state.exit.as_slice())?)?;
     put_regions(
         alloc,
         first,
@@ -244,26 +240,39 @@ fn fill_counted(
         state.regions.as_slice(),
         &mut counted.regions,
     )?;
-    counted.transitions = timed_transitions(alloc, &reading, own)?;
-    Ok(())
+    put_counted(alloc, first, counts, own, &mut counted.transitions)
 }
 
-// What is done as a tick begins.
-fn beginnings(
+// Puts transitions that read the variables of the counts.
+fn put_counted(
     alloc: Global,
     first: VariableId,
-    counts: &[Expr],
-) -> Result<Items<Effect>, AllocError>
-    ensures { IfOk result (λ made. made ≡ beginnings first counts.now) }
+    counts: u16,
+    transitions: &[Transition],
+    made: &mut Items<Transition>,
+) -> Result<(), AllocError>
+    ensures { OnOk result
+        (made.new ≡ made.old ++ map (timed_by (reading.Counted first counts)) transitions.now) }
 {
-    let mut made = Items::new(alloc);
+    let reading = Reading::Counted { first, counts };
+    put_timed(alloc, &reading, transitions, made)
+}
+
+// Puts what is done as a tick begins.
+fn put_beginnings(
+    first: VariableId,
+    counts: &[Expr],
+    made: &mut Items<Effect>,
+) -> Result<(), AllocError>
+    ensures { OnOk result (made.new ≡ made.old ++ beginnings first counts.now) }
+{
     let mut variable = first;
     for condition in counts {
         made.push(copy(variable, total_of(variable)?))?;
         made.push(reset(entered_of(variable)?))?;
         variable = next_count(variable)?;
     }
-    Ok(made)
+    Ok(())
 }
 
 fn none_yet(total: VariableId) -> Effect
@@ -280,7 +289,8 @@ fn anew(alloc: Global, count: VariableId, target: u32) -> Result<Transition, All
     ensures { IfOk result (λ made. made ≡ anew count target) }
 {
     let entered = entered_of(count)?;
-    let effects = alone(alloc, none_yet(total_of(count)?))?;
+    let total = total_of(count)?;
+    let effects = alone(alloc, none_yet(total))?;
     Ok(Transition {
         kind: TransitionKind::Go,
         immediate: true,
@@ -290,31 +300,22 @@ fn anew(alloc: Global, count: VariableId, target: u32) -> Result<Transition, All
     })
 }
 
-// The ways on where it was not: this tick is counted, where the condition is true.
-fn counted_ways(
+// Puts the ways on of a count: none is counted where the state was entered, and else this tick, where the condition is
+// true.
+fn put_counting_ways(
     alloc: Global,
     count: VariableId,
     condition: &Expr,
     target: u32,
-) -> Result<Items<Transition>, AllocError>
-    ensures { IfOk result (λ made. made ≡ counted_ways count condition.now target) }
+    made: &mut Items<Transition>,
+) -> Result<(), AllocError>
+    ensures { OnOk result (made.new ≡ made.old ++ counting_ways count condition.now target) }
 {
-    let counted = alone(alloc, one_more(alloc, total_of(count)?)?)?;
+    made.push(anew(alloc, count, target)?)?;
+    let total = total_of(count)?;
+    let counted = alone(alloc, one_more(alloc, total)?)?;
     let trigger = Some(condition.copied(alloc)?);
-    ways_on(alloc, &trigger, counted.as_slice(), target)
-}
-
-fn counting_ways(
-    alloc: Global,
-    count: VariableId,
-    condition: &Expr,
-    target: u32,
-) -> Result<Items<Transition>, AllocError>
-    ensures { IfOk result (λ made. made ≡ counting_ways count condition.now target) }
-{
-    let mut made = alone(alloc, anew(alloc, count, target)?)?;
-    made.append(counted_ways(alloc, count, condition, target)?)?;
-    Ok(made)
+    put_ways_on(alloc, &trigger, counted.as_slice(), target, made)
 }
 
 // The state of this place, which counts and leads to the place behind it.
@@ -327,26 +328,21 @@ fn counting(
     ensures { IfOk result (λ made. made ≡ counting place count condition.now) }
 {
     let behind = next(place)?;
-    let ways = counting_ways(alloc, count, condition, behind)?;
-    let regions = Items::new(alloc);
-    Ok(made_state(
-        alloc,
-        numbered("step__", place as u64),
-        place == 0,
-        regions,
-        ways,
-    ))
+    let name = numbered("step__", place as u64);
+    let mut ways = Items::new(alloc);
+    put_counting_ways(alloc, count, condition, behind, &mut ways)?;
+    Ok(made_state(alloc, name, place == 0, Items::new(alloc), ways))
 }
 
-fn all_counting(
+fn put_all_counting(
     alloc: Global,
     first_place: u32,
     first: VariableId,
     counts: &[Expr],
-) -> Result<Items<ExtendedState>, AllocError>
-    ensures { IfOk result (λ made. made ≡ all_counting first_place first counts.now) }
+    made: &mut Items<ExtendedState>,
+) -> Result<(), AllocError>
+    ensures { OnOk result (made.new ≡ made.old ++ all_counting first_place first counts.now) }
 {
-    let mut made = Items::new(alloc);
     let mut place = first_place;
     let mut variable = first;
     for condition in counts {
@@ -354,36 +350,40 @@ fn all_counting(
         place = next(place)?;
         variable = next_count(variable)?;
     }
-    Ok(made)
+    Ok(())
 }
 
-fn count_states(
+fn put_count_states(
     alloc: Global,
     begun: &[Effect],
     first: VariableId,
     counts: &[Expr],
-) -> Result<Items<ExtendedState>, AllocError>
-    ensures { IfOk result (λ made. made ≡ count_states begun.now first counts.now) }
+    made: &mut Items<ExtendedState>,
+) -> Result<(), AllocError>
+    ensures { OnOk result (made.new ≡ made.old ++ count_states begun.now first counts.now) }
 {
     let behind = count(begun)?;
     let last = sum(behind, count(counts)?)?;
-    let mut made = all_passing(alloc, 0, begun)?;
-    made.append(all_counting(alloc, behind, first, counts)?)?;
-    made.push(passing(alloc, false, last, Items::new(alloc), 0)?)?;
-    Ok(made)
+    put_all_passing(alloc, 0, begun, made)?;
+    put_all_counting(alloc, behind, first, counts, made)?;
+    made.push(passing(alloc, false, last, Items::new(alloc), 0)?)
 }
 
-// The region that counts.
-fn count_region(
+// Puts the region that counts.
+fn put_count_region(
     alloc: Global,
     first: VariableId,
     counts: &[Expr],
-) -> Result<ExtendedRegion, AllocError>
-    ensures { IfOk result (λ made. made ≡ count_region first counts.now) }
+    made: &mut Items<ExtendedRegion>,
+) -> Result<(), AllocError>
+    ensures { OnOk result (made.new ≡ made.old ++ count_region first counts.now ∷ []) }
 {
-    let begun = beginnings(alloc, first, counts)?;
-    Ok(ExtendedRegion {
+    let mut begun = Items::new(alloc);
+    put_beginnings(first, counts, &mut begun)?;
+    let mut states = Items::new(alloc);
+    put_count_states(alloc, begun.as_slice(), first, counts, &mut states)?;
+    made.push(ExtendedRegion {
         name: plain("counts__1"),
-        states: count_states(alloc, begun.as_slice(), first, counts)?,
+        states,
     })
 }

@@ -5,17 +5,17 @@ ghost use Rattle.value_passes.specs.Endings.{is_ending, telling, body, body_regi
 ghost use Rattle.value_passes.specs.Endings.{ending_states, ending_region, endings_in, all_regions, all_states};
 ghost use Rattle.value_passes.specs.Endings.{beginning, left_durings, inside, left_transitions, all_at_once};
 ghost use Rattle.value_passes.specs.Endings.{ending_in_region, ending_in_state, endings_told, with_endings};
+ghost use Rattle.extended_charts.specs.declared.extended.ExtendedRegion.TheViews.{out-ExtendedState};
 ghost use Rattle.extended_charts.specs.Holds.{ended};
-ghost use Rattle.value_passes.specs.Inside.{fill_ending};
+ghost use Rattle.value_passes.specs.Inside.{deeper, fill_ending};
 
-use crate::bare::bare;
 use crate::beginnings::{all_at_once, is_joined};
 use chart_elements::next;
 use core_charts::{Effect, Transition, TransitionKind, copied_effects, copied_transitions};
 use extended_charts::{
-    Declared, During, ExtendedChart, ExtendedRegion, ExtendedState, all_untested, alone, always,
-    condition, copied_durings, count, ended, has_some, immediate_ones, local, made_state, one,
-    passing, reset, steps, sum, variable,
+    Declared, During, ExtendedChart, ExtendedRegion, ExtendedState, alone, always, bare, condition,
+    count, ended, has_some, local, made_state, one, passing, put_copied_durings,
+    put_immediate_ones, put_steps, put_untested, reset, sum, variable,
 };
 use sc_graph::VariableId;
 use sc_text::{numbered, plain};
@@ -45,18 +45,17 @@ fn put_endings(alloc: Global, chart: &mut ExtendedChart) -> Result<(), AllocErro
     let mut regions = Items::new(alloc);
     put_regions(alloc, first, chart.regions.as_slice(), &mut regions)?;
     chart.regions = regions;
-    chart.variables.append(endings_told(alloc, count)?)
+    put_endings_told(count, &mut chart.variables)
 }
 
-// As many variables that tell whether something has ended.
-fn endings_told(alloc: Global, count: u32) -> Result<Items<Declared>, AllocError>
-    ensures { IfOk result (λ made. made ≡ endings_told count) }
+// Puts as many variables that tell whether something has ended.
+fn put_endings_told(count: u32, made: &mut Items<Declared>) -> Result<(), AllocError>
+    ensures { OnOk result (made.new ≡ made.old ++ endings_told count) }
 {
-    let mut made = Items::new(alloc);
     for before in 0..count {
         made.push(local(numbered("done__", (before + 1) as u64), Kind::Bool, None))?;
     }
-    Ok(made)
+    Ok(())
 }
 
 // What is inside has ended.
@@ -85,17 +84,19 @@ fn body(
     Ok(made_state(alloc, plain("body__1"), true, regions, transitions))
 }
 
-fn body_region(
+fn put_body_region(
     alloc: Global,
     done: VariableId,
     trigger: Option<Expr>,
     regions: Items<ExtendedRegion>,
-) -> Result<ExtendedRegion, AllocError>
-    ensures { IfOk result (λ made. made ≡ body_region done trigger regions) }
+    made: &mut Items<ExtendedRegion>,
+) -> Result<(), AllocError>
+    ensures { OnOk result (made.new ≡ made.old ++ body_region done trigger regions ∷ []) }
 {
-    let mut states = alone(alloc, body(alloc, done, trigger, regions)?)?;
+    let body = body(alloc, done, trigger, regions)?;
+    let mut states = alone(alloc, body)?;
     states.push(ended(alloc))?;
-    Ok(ExtendedRegion {
+    made.push(ExtendedRegion {
         name: plain("body__1"),
         states,
     })
@@ -119,72 +120,63 @@ fn tested(
     Ok(made_state(alloc, name, place == 0, Items::new(alloc), transitions))
 }
 
-// What is done in the tick of the entry.
-fn first_states(
+// Puts what is done in the tick of the entry.
+fn put_first_states(
     alloc: Global,
     done: VariableId,
     end: u32,
     first: &[During],
     at_once: bool,
-) -> Result<Items<ExtendedState>, AllocError>
-    ensures { IfOk result (λ made. made ≡ first_states done end first.now at_once) }
+    made: &mut Items<ExtendedState>,
+) -> Result<(), AllocError>
+    ensures { OnOk result (made.new ≡ made.old ++ first_states done end first.now at_once) }
 {
-    let mut made = steps(alloc, 0, first)?;
+    put_steps(alloc, 0, first, made)?;
     if at_once {
         let place = count(first)?;
-        made.push(tested(alloc, done, place, end, next(place)?)?)?;
+        made.push(tested(alloc, done, place, end, next(place)?)?)
+    } else {
+        Ok(())
     }
-    Ok(made)
 }
 
-// The state that tests whether what is inside has ended, and the end behind it.
-fn last_states(
-    alloc: Global,
-    done: VariableId,
-    place: u32,
-    end: u32,
-    wait: u32,
-) -> Result<Items<ExtendedState>, AllocError>
-    ensures { IfOk result (λ made. made ≡ tested done place end wait ∷ ended ∷ []) }
-{
-    let mut made = alone(alloc, tested(alloc, done, place, end, wait)?)?;
-    made.push(ended(alloc))?;
-    Ok(made)
-}
-
-fn ending_states(
+fn put_ending_states(
     alloc: Global,
     done: VariableId,
     wait: u32,
     first: &[During],
     all: &[During],
     at_once: bool,
-) -> Result<Items<ExtendedState>, AllocError>
-    ensures { IfOk result (λ made. made ≡ ending_states done wait first.now all.now at_once) }
+    made: &mut Items<ExtendedState>,
+) -> Result<(), AllocError>
+    ensures { OnOk result (made.new ≡ made.old ++ ending_states done wait first.now all.now at_once) }
 {
     let again = next(wait)?;
     let last = sum(again, count(all)?)?;
     let end = next(last)?;
-    let mut made = first_states(alloc, done, end, first, at_once)?;
+    put_first_states(alloc, done, end, first, at_once, made)?;
     made.push(passing(alloc, false, wait, Items::new(alloc), again)?)?;
-    made.append(steps(alloc, again, all)?)?;
-    made.append(last_states(alloc, done, last, end, wait)?)?;
-    Ok(made)
+    put_steps(alloc, again, all, made)?;
+    made.push(tested(alloc, done, last, end, wait)?)?;
+    made.push(ended(alloc))
 }
 
-fn ending_region(
+fn put_ending_region(
     alloc: Global,
     done: VariableId,
     durings: &[During],
     at_once: bool,
-) -> Result<ExtendedRegion, AllocError>
-    ensures { IfOk result (λ made. made ≡ ending_region done durings.now at_once) }
+    made: &mut Items<ExtendedRegion>,
+) -> Result<(), AllocError>
+    ensures { OnOk result (made.new ≡ made.old ++ ending_region done durings.now at_once ∷ []) }
 {
-    let immediate = immediate_ones(alloc, durings)?;
+    let mut immediate = Items::new(alloc);
+    put_immediate_ones(alloc, durings, &mut immediate)?;
     let first = immediate.as_slice();
     let wait = sum(count(first)?, one(at_once))?;
-    let states = ending_states(alloc, done, wait, first, durings, at_once)?;
-    Ok(ExtendedRegion {
+    let mut states = Items::new(alloc);
+    put_ending_states(alloc, done, wait, first, durings, at_once, &mut states)?;
+    made.push(ExtendedRegion {
         name: plain("during__1"),
         states,
     })
@@ -197,59 +189,61 @@ fn is_ending(durings: &[During], transitions: &[Transition]) -> bool
     has_some(durings) && is_joined(transitions)
 }
 
-// What is inside has not ended as the superstate is entered.
-fn beginning(alloc: Global, ends: bool, done: VariableId) -> Result<Items<Effect>, AllocError>
-    ensures { IfOk result (λ made. made ≡ beginning ends done) }
+// Puts that what is inside has not ended as the superstate is entered.
+fn put_beginning(ends: bool, done: VariableId, made: &mut Items<Effect>) -> Result<(), AllocError>
+    ensures { OnOk result (made.new ≡ made.old ++ beginning ends done) }
+{
+    if ends { made.push(reset(done)) } else { Ok(()) }
+}
+
+fn put_left_durings(
+    alloc: Global,
+    ends: bool,
+    durings: &[During],
+    made: &mut Items<During>,
+) -> Result<(), AllocError>
+    ensures { OnOk result (made.new ≡ made.old ++ left_durings ends durings.now) }
 {
     if ends {
-        alone(alloc, reset(done))
+        Ok(())
     } else {
-        Ok(Items::new(alloc))
+        put_copied_durings(alloc, durings, made)
     }
 }
 
-fn left_durings(alloc: Global, ends: bool, durings: &[During]) -> Result<Items<During>, AllocError>
-    ensures { IfOk result (λ made. made ≡ left_durings ends durings.now) }
-{
-    if ends {
-        Ok(Items::new(alloc))
-    } else {
-        copied_durings(alloc, durings)
-    }
-}
-
-// What such a state has instead of these regions.
-fn inside(
+// Puts what a state has instead of these regions, by whether it is such a one.
+fn put_inside(
     alloc: Global,
     ends: bool,
     done: VariableId,
-    durings: &[During],
-    transitions: &[Transition],
+    state: &ExtendedState,
     regions: Items<ExtendedRegion>,
-) -> Result<Items<ExtendedRegion>, AllocError>
-    ensures { IfOk result (λ made. made ≡ inside ends done durings.now transitions.now regions) }
+    made: &mut Items<ExtendedRegion>,
+) -> Result<(), AllocError>
+    ensures { OnOk result (made.new ≡ made.old
+        ++ inside ends done (out-ExtendedState state.now).during (out-ExtendedState state.now).transitions regions) }
 {
     if !ends {
-        return Ok(regions);
+        return made.append(regions);
     }
     let at_once = all_at_once(regions.as_slice());
-    let trigger = condition(alloc, transitions)?;
-    let mut made = alone(alloc, body_region(alloc, done, trigger, regions)?)?;
-    made.push(ending_region(alloc, done, durings, at_once)?)?;
-    Ok(made)
+    let trigger = condition(alloc, state.transitions.as_slice())?;
+    put_body_region(alloc, done, trigger, regions, made)?;
+    put_ending_region(alloc, done, state.during.as_slice(), at_once, made)
 }
 
-fn left_transitions(
+fn put_left_transitions(
     alloc: Global,
     ends: bool,
     transitions: &[Transition],
-) -> Result<Items<Transition>, AllocError>
-    ensures { IfOk result (λ made. made ≡ left_transitions ends transitions.now) }
+    made: &mut Items<Transition>,
+) -> Result<(), AllocError>
+    ensures { OnOk result (made.new ≡ made.old ++ left_transitions ends transitions.now) }
 {
     if ends {
-        all_untested(alloc, transitions)
+        put_untested(alloc, transitions, made)
     } else {
-        copied_transitions(alloc, transitions)
+        made.append(copied_transitions(alloc, transitions)?)
     }
 }
 
@@ -362,20 +356,35 @@ fn fill_ending(
 ) -> Result<(), AllocError>
     ensures { OnOk result (changed.new ≡ fill_ending x state.now changed.old) }
 {
-    let durings = state.during.as_slice();
     let own = state.transitions.as_slice();
-    let ends = is_ending(durings, own);
+    let ends = is_ending(state.during.as_slice(), own);
     let done = variable(x as usize)?;
-    let deeper = sum(x, one(ends))?;
-    let mut regions = Items::new(alloc);
-    put_regions(alloc, deeper, state.regions.as_slice(), &mut regions)?;
-    changed.regions = inside(alloc, ends, done, durings, own, regions)?;
-    changed.entry = beginning(alloc, ends, done)?;
+    put_beginning(ends, done, &mut changed.entry)?;
     changed
         .entry
         .append(copied_effects(alloc, state.entry.as_slice())?)?;
-    changed.exit = copied_effects(alloc, state.exit.as_slice())?;
-    changed.during = left_durings(alloc, ends, durings)?;
-    changed.transitions = left_transitions(alloc, ends, own)?;
-    Ok(())
+    changed
+        .exit
+        .append(copied_effects(alloc, state.exit.as_slice())?)?;
+    put_left_durings(alloc, ends, state.during.as_slice(), &mut changed.during)?;
+    put_deeper(alloc, ends, done, x, state, &mut changed.regions)?;
+    put_left_transitions(alloc, ends, own, &mut changed.transitions)
+}
+
+// Puts the regions of a state, one level deeper where it is such a one.
+#[cycle(ending)]
+fn put_deeper(
+    alloc: Global,
+    ends: bool,
+    done: VariableId,
+    x: u32,
+    state: &ExtendedState,
+    made: &mut Items<ExtendedRegion>,
+) -> Result<(), AllocError>
+    ensures { OnOk result (made.new ≡ made.old ++ deeper ends done x state.now) }
+{
+    let inner = sum(x, one(ends))?;
+    let mut regions = Items::new(alloc);
+    put_regions(alloc, inner, state.regions.as_slice(), &mut regions)?;
+    put_inside(alloc, ends, done, state, regions, made)
 }

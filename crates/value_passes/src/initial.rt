@@ -1,11 +1,11 @@
 //! Initial values: where a variable has one other than `false` and 0, states set them before all regions.
 
-ghost use Rattle.std.specs.Prelude.{◌≡◌, IfOk, OnOk};
+ghost use Rattle.std.specs.Prelude.{◌≡◌, ◌++◌, IfOk, OnOk};
 ghost use Rattle.value_passes.specs.Initial.{is_default, setting, settings, framed, with_settings};
 
 use core_charts::Effect;
 use extended_charts::{
-    Declared, ExtendedChart, ExtendedRegion, all_passing, alone, has_some, literal, made_state,
+    Declared, ExtendedChart, ExtendedRegion, has_some, literal, made_state, put_all_passing,
     variable,
 };
 use sc_graph::VariableId;
@@ -29,36 +29,39 @@ pub fn with_settings(alloc: Global, chart: ExtendedChart) -> Result<ExtendedChar
 fn put_settings(alloc: Global, chart: &mut ExtendedChart) -> Result<(), AllocError>
     ensures { OnOk result (chart.new ≡ with_settings chart.old) }
 {
-    let settings = settings(alloc, chart.variables.as_slice())?;
-    let regions = mem::replace(&mut chart.regions, Items::new(alloc));
-    chart.regions = framed(alloc, settings.as_slice(), regions)?;
+    let mut settings = Items::new(alloc);
+    put_all_settings(alloc, chart.variables.as_slice(), &mut settings)?;
+    frame(alloc, settings.as_slice(), &mut chart.regions)
+}
+
+// Puts the assignments of the initial values, of those that a variable does not hold anyway.
+fn put_all_settings(
+    alloc: Global,
+    variables: &[Declared],
+    made: &mut Items<Effect>,
+) -> Result<(), AllocError>
+    ensures { OnOk result (made.new ≡ made.old ++ settings 0 variables.now) }
+{
+    for (x, declared) in variables.iter().enumerate() {
+        put_setting(alloc, variable(x)?, declared.initial, made)?;
+    }
     Ok(())
 }
 
-// The assignments of the initial values, of those that a variable does not hold anyway.
-fn settings(alloc: Global, variables: &[Declared]) -> Result<Items<Effect>, AllocError>
-    ensures { IfOk result (λ made. made ≡ settings 0 variables.now) }
-{
-    let mut made = Items::new(alloc);
-    for (x, declared) in variables.iter().enumerate() {
-        made.append(setting(alloc, variable(x)?, declared.initial)?)?;
-    }
-    Ok(made)
-}
-
-fn setting(
+fn put_setting(
     alloc: Global,
     variable: VariableId,
     initial: Option<Value>,
-) -> Result<Items<Effect>, AllocError>
-    ensures { IfOk result (λ made. made ≡ setting variable initial) }
+    made: &mut Items<Effect>,
+) -> Result<(), AllocError>
+    ensures { OnOk result (made.new ≡ made.old ++ setting variable initial) }
 {
     match initial {
         Some(value) if !is_default(value) => {
             let value = literal(alloc, value)?;
-            alone(alloc, Effect { variable, value })
+            made.push(Effect { variable, value })
         }
-        _ => Ok(Items::new(alloc)),
+        _ => Ok(()),
     }
 }
 
@@ -71,24 +74,23 @@ fn is_default(value: Value) -> bool
     }
 }
 
-// Regions before which these assignments are made.
-fn framed(
+// Puts these assignments before regions, where there are some.
+fn frame(
     alloc: Global,
     settings: &[Effect],
-    regions: Items<ExtendedRegion>,
-) -> Result<Items<ExtendedRegion>, AllocError>
-    ensures { IfOk result (λ made. made ≡ framed settings.now regions) }
+    regions: &mut Items<ExtendedRegion>,
+) -> Result<(), AllocError>
+    ensures { OnOk result (regions.new ≡ framed settings.now regions.old) }
 {
     if !has_some(settings) {
-        return Ok(regions);
+        return Ok(());
     }
-    let mut states = all_passing(alloc, 0, settings)?;
-    states.push(made_state(alloc, plain("whole__1"), false, regions, Items::new(alloc)))?;
-    alone(
-        alloc,
-        ExtendedRegion {
-            name: plain("whole__1"),
-            states,
-        },
-    )
+    let mut states = Items::new(alloc);
+    put_all_passing(alloc, 0, settings, &mut states)?;
+    let inside = mem::replace(regions, Items::new(alloc));
+    states.push(made_state(alloc, plain("whole__1"), false, inside, Items::new(alloc)))?;
+    regions.push(ExtendedRegion {
+        name: plain("whole__1"),
+        states,
+    })
 }

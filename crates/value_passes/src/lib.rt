@@ -3,7 +3,6 @@
 //! state with during actions has ended.
 #![tactic(auto)]
 
-mod bare;
 mod beginnings;
 mod clocks;
 mod constants;

@@ -1,14 +1,14 @@
 //! What variables were at the end of the tick before.
 
-ghost use Rattle.std.specs.Prelude.{◌≡◌, IfOk, OnOk, slice_get};
+ghost use Rattle.std.specs.Prelude.{◌≡◌, [], ◌∷◌, ◌++◌, IfOk, OnOk, slice_get};
 ghost use Rattle.value_passes.specs.Registers.{kind_of, initial_of, before_variables, registers};
-ghost use Rattle.value_passes.specs.Registers.{storing, handing, ring, register_region, with_registers};
+ghost use Rattle.value_passes.specs.Registers.{storing, handing, ring, register_states, register_region, with_registers};
 
 use chart_elements::next;
 use core_charts::Effect;
 use extended_charts::{
-    Declared, ExtendedChart, ExtendedRegion, ExtendedState, all_passing, copy, has_some, local,
-    passing, variable,
+    Declared, ExtendedChart, ExtendedRegion, ExtendedState, copy, count, has_some, local, passing,
+    put_all_passing, sum, variable,
 };
 use sc_graph::VariableId;
 use sc_text::{numbered, plain};
@@ -35,10 +35,10 @@ fn put_registers(alloc: Global, chart: &mut ExtendedChart) -> Result<(), AllocEr
     }
     let befores = chart.befores.as_slice();
     let declared = chart.variables.as_slice();
-    let region = register_region(alloc, declared.len(), befores)?;
-    chart.regions.push(region)?;
-    let mut made = before_variables(alloc, declared, befores)?;
-    made.append(registers(alloc, declared, befores)?)?;
+    put_register_region(alloc, declared.len(), befores, &mut chart.regions)?;
+    let mut made = Items::new(alloc);
+    put_before_variables(declared, befores, &mut made)?;
+    put_register_variables(declared, befores, &mut made)?;
     chart.variables.append(made)?;
     chart.befores = Items::new(alloc);
     Ok(())
@@ -62,14 +62,13 @@ fn initial_of(variables: &[Declared], x: VariableId) -> Option<Value>
     }
 }
 
-fn before_variables(
-    alloc: Global,
+fn put_before_variables(
     variables: &[Declared],
     befores: &[VariableId],
-) -> Result<Items<Declared>, AllocError>
-    ensures { IfOk result (λ made. made ≡ before_variables variables.now 1 befores.now) }
+    made: &mut Items<Declared>,
+) -> Result<(), AllocError>
+    ensures { OnOk result (made.new ≡ made.old ++ before_variables variables.now 1 befores.now) }
 {
-    let mut made = Items::new(alloc);
     let mut number = 1;
     for x in befores {
         let kind = kind_of(variables, *x);
@@ -80,17 +79,16 @@ fn before_variables(
         ))?;
         number = next(number)?;
     }
-    Ok(made)
+    Ok(())
 }
 
-fn registers(
-    alloc: Global,
+fn put_register_variables(
     variables: &[Declared],
     befores: &[VariableId],
-) -> Result<Items<Declared>, AllocError>
-    ensures { IfOk result (λ made. made ≡ registers variables.now 1 befores.now) }
+    made: &mut Items<Declared>,
+) -> Result<(), AllocError>
+    ensures { OnOk result (made.new ≡ made.old ++ registers variables.now 1 befores.now) }
 {
-    let mut made = Items::new(alloc);
     let mut number = 1;
     for x in befores {
         made.push(local(
@@ -100,32 +98,34 @@ fn registers(
         ))?;
         number = next(number)?;
     }
-    Ok(made)
+    Ok(())
 }
 
-// Each register becomes what its variable is.
-fn storing(alloc: Global, first: usize, befores: &[VariableId]) -> Result<Items<Effect>, AllocError>
-    ensures { IfOk result (λ made. made ≡ storing first befores.now) }
+// Puts that each register becomes what its variable is.
+fn put_storing(
+    first: usize,
+    befores: &[VariableId],
+    made: &mut Items<Effect>,
+) -> Result<(), AllocError>
+    ensures { OnOk result (made.new ≡ made.old ++ storing first befores.now) }
 {
-    let mut made = Items::new(alloc);
     let mut register = first;
     for x in befores {
         made.push(copy(variable(register)?, *x))?;
         register += 1;
     }
-    Ok(made)
+    Ok(())
 }
 
-// As many variables become what their registers are.
-fn handing(
-    alloc: Global,
+// Puts that as many variables become what their registers are.
+fn put_handing(
     first: usize,
     registers: usize,
     befores: &[VariableId],
-) -> Result<Items<Effect>, AllocError>
-    ensures { IfOk result (λ made. made ≡ handing first registers befores.now) }
+    made: &mut Items<Effect>,
+) -> Result<(), AllocError>
+    ensures { OnOk result (made.new ≡ made.old ++ handing first registers befores.now) }
 {
-    let mut made = Items::new(alloc);
     let mut before = first;
     let mut register = registers;
     for _ in befores {
@@ -133,44 +133,56 @@ fn handing(
         before += 1;
         register += 1;
     }
-    Ok(made)
+    Ok(())
 }
 
-fn register_region(
+fn put_register_region(
     alloc: Global,
     variables: usize,
     befores: &[VariableId],
-) -> Result<ExtendedRegion, AllocError>
-    ensures { IfOk result (λ made. made ≡ register_region variables befores.now) }
+    made: &mut Items<ExtendedRegion>,
+) -> Result<(), AllocError>
+    ensures { OnOk result (made.new ≡ made.old ++ register_region variables befores.now ∷ []) }
 {
-    let Ok(count) = u32::try_from(befores.len()) else {
-        return Err(AllocError);
-    };
-    let first = variable(variables)? as usize;
-    let registers = first + befores.len();
-    let stored = storing(alloc, registers, befores)?;
-    let handed = handing(alloc, first, registers, befores)?;
-    Ok(ExtendedRegion {
+    let mut states = Items::new(alloc);
+    put_register_states(alloc, variables, befores, &mut states)?;
+    made.push(ExtendedRegion {
         name: plain("registers__1"),
-        states: ring(alloc, count, stored.as_slice(), handed.as_slice())?,
+        states,
     })
 }
 
-fn ring(
+fn put_register_states(
+    alloc: Global,
+    variables: usize,
+    befores: &[VariableId],
+    made: &mut Items<ExtendedState>,
+) -> Result<(), AllocError>
+    ensures { OnOk result (made.new ≡ made.old ++ register_states variables befores.now) }
+{
+    let count = count(befores)?;
+    let first = variable(variables)? as usize;
+    let registers = first + befores.len();
+    let mut stored = Items::new(alloc);
+    put_storing(registers, befores, &mut stored)?;
+    let mut handed = Items::new(alloc);
+    put_handing(first, registers, befores, &mut handed)?;
+    put_ring(alloc, count, stored.as_slice(), handed.as_slice(), made)
+}
+
+fn put_ring(
     alloc: Global,
     count: u32,
     stored: &[Effect],
     handed: &[Effect],
-) -> Result<Items<ExtendedState>, AllocError>
-    ensures { IfOk result (λ made. made ≡ ring count stored.now handed.now) }
+    made: &mut Items<ExtendedState>,
+) -> Result<(), AllocError>
+    ensures { OnOk result (made.new ≡ made.old ++ ring count stored.now handed.now) }
 {
     let behind = next(count)?;
-    let mut made = all_passing(alloc, 0, stored)?;
+    let last = sum(behind, count)?;
+    put_all_passing(alloc, 0, stored, made)?;
     made.push(passing(alloc, false, count, Items::new(alloc), behind)?)?;
-    made.append(all_passing(alloc, behind, handed)?)?;
-    let Some(last) = behind.checked_add(count) else {
-        return Err(AllocError);
-    };
-    made.push(passing(alloc, true, last, Items::new(alloc), 0)?)?;
-    Ok(made)
+    put_all_passing(alloc, behind, handed, made)?;
+    made.push(passing(alloc, true, last, Items::new(alloc), 0)?)
 }
