@@ -1,7 +1,8 @@
 -- Exit actions. A transition makes those of the state that it leaves before its own effects. What is active inside a
 -- superstate makes its own first: each region in it notes in which of its states with exit actions it is, and a transition
 -- of the superstate leads through a state for each of these regions, which makes the exit actions of that state.
-use Rattle.std.specs.Prelude.{ℕ, suc, pos, ◌+◌, Bool, true, false, Option, Some, None, List, [], ◌∷◌, ◌++◌, map, length, codes, if◌then◌else◌}
+use Rattle.std.specs.Prelude.{ℕ, suc, pos, ◌+◌, Bool, true, false, Option, Some, None, List, [], ◌∷◌, ◌++◌, map, sum_by, length, codes}
+use Rattle.std.specs.Prelude.{if◌then◌else◌}
 use Rattle.sc_values.specs.declared.value.Value.TheVariants as value
 use Rattle.sc_values.specs.declared.operator.BinaryOperator.TheVariants as operator
 use Rattle.sc_values.specs.declared.expression.Expr.{Expr}
@@ -17,6 +18,7 @@ use Rattle.extended_charts.specs.declared.extended.ExtendedRegion.TheFolds.{fold
 use Rattle.entry_passes.specs.declared.leaving.Leaving.{Leaving}
 use Rattle.sc_text.specs.MadeNames.{numbered}
 use Rattle.extended_charts.specs.Making.{has_some, always, made_state, region, integers, one}
+use Rattle.extended_charts.specs.Walks.{walk}
 
 -- ---- where a region is
 
@@ -115,12 +117,10 @@ abbrev pub notes : LeftRegion → ℕ
 notes r = r.inside + one (has_some r.exits)
 
 abbrev pub notes_in : List LeftRegion → ℕ
-notes_in [] = 0
-notes_in (r ∷ regions) = notes r + notes_in regions
+notes_in regions = sum_by notes regions
 
 abbrev pub notes_among : List LeftState → ℕ
-notes_among [] = 0
-notes_among (s ∷ states) = s.inside + notes_among states
+notes_among states = sum_by (λ (s : LeftState). s.inside) states
 
 -- of the states that have some
 abbrev pub exits_of : List LeftState → List (List Effect)
@@ -128,12 +128,10 @@ exits_of [] = []
 exits_of (s ∷ states) = if has_some s.exit then s.exit ∷ exits_of states else exits_of states
 
 abbrev pub leavings_in : (x : ℕ) → List LeftRegion → List Leaving
-leavings_in x [] = []
-leavings_in x (r ∷ regions) = r.leavings x ++ leavings_in (x + notes r) regions
+leavings_in x regions = walk notes (λ (r : LeftRegion) y. r.leavings y) x regions
 
 abbrev pub leavings_among : (x : ℕ) → List LeftState → List Leaving
-leavings_among x [] = []
-leavings_among x (s ∷ states) = s.leavings x ++ leavings_among (x + s.inside) states
+leavings_among x states = walk (λ (s : LeftState). s.inside) (λ s y. s.leavings y) x states
 
 -- of the region itself, behind those of the regions in it
 abbrev pub own_leaving : (x : ℕ) → (exits : List (List Effect)) → List Leaving
@@ -145,8 +143,8 @@ own_note x false = None
 
 -- regions of a superstate
 abbrev pub all_regions : (x : ℕ) → List LeftRegion → List ExtendedRegion
-all_regions x [] = []
-all_regions x (r ∷ regions) = r.made (own_note (x + r.inside) (has_some r.exits)) x ∷ all_regions (x + notes r) regions
+all_regions x regions =
+    walk notes (λ (r : LeftRegion) y. r.made (own_note (y + r.inside) (has_some r.exits)) y ∷ []) x regions
 
 abbrev pub all_states : (own : Option ℕ) → (number x place : ℕ) → List LeftState → List ExtendedState
 all_states own number x place [] = []
@@ -202,12 +200,10 @@ left_state = fold-ExtendedState LeftRegion LeftState region_step state_step
 -- ---- charts: their own regions are not left from outside, and do not note where they are
 
 abbrev pub all_inside : List LeftRegion → ℕ
-all_inside [] = 0
-all_inside (r ∷ regions) = r.inside + all_inside regions
+all_inside regions = sum_by (λ (r : LeftRegion). r.inside) regions
 
 abbrev pub outer_regions : (x : ℕ) → List LeftRegion → List ExtendedRegion
-outer_regions x [] = []
-outer_regions x (r ∷ regions) = r.made None x ∷ outer_regions (x + r.inside) regions
+outer_regions x regions = walk (λ (r : LeftRegion). r.inside) (λ r y. r.made None y ∷ []) x regions
 
 -- the chart whose transitions make the exit actions
 abbrev pub with_exits : ExtendedChart → ExtendedChart

@@ -25,6 +25,7 @@ use Rattle.extended_charts.specs.declared.extended.ExtendedRegion.TheOpen.{Exten
 use Rattle.extended_charts.specs.declared.extended.ExtendedRegion.TheViews.{roll-ExtendedState}
 use Rattle.extended_charts.specs.declared.extended.ExtendedRegion.TheFolds.{fold-ExtendedRegion, fold-ExtendedState}
 use Rattle.extended_charts.specs.Making.{has_some, local, copy, always, made_state, region}
+use Rattle.extended_charts.specs.Walks.{walk}
 use Rattle.extended_charts.specs.Signals.{reset}
 use Rattle.entry_passes.specs.Exits.{set, is_at}
 
@@ -131,9 +132,9 @@ past_own (Some h) x = suc x
 past_own None x = x
 
 abbrev pub all_regions : (history : Option ℕ) → (x : ℕ) → List PastRegion → List ExtendedRegion
-all_regions history x [] = []
-all_regions history x (r ∷ regions) =
-    r.made (own_past history x) (past_own history x) ∷ all_regions history (past_own history x + length r.kept) regions
+all_regions history x regions =
+    walk (λ (r : PastRegion). past_own history (length r.kept)) (λ r y. r.made (own_past history y) (past_own history y) ∷ [])
+    x regions
 
 abbrev pub all_states : Standing → (recalled : List ℕ) → (place x : ℕ) → List PastState → List ExtendedState
 all_states at recalled place x [] = []

@@ -12,11 +12,6 @@ use Rattle.entry_passes.specs.Exits.{LeftRegion, own_note, parting, left_transit
 use Rattle.entry_passes.specs.Histories as histories
 use Rattle.entry_passes.specs.Histories.{entering, led, history_of, resumption, past_region}
 
--- the state with nothing in it
-abbrev pub bare : ExtendedState → ExtendedState
-bare s =
-    roll-ExtendedState (record (out-ExtendedState s) { entry = []; exit = []; during = []; regions = []; transitions = [] })
-
 -- the transition that leads to this place behind, where what it makes is made
 abbrev pub led_to : (place : ℕ) → Transition → Transition
 led_to place t = record t { effects = []; target = place }
@@ -53,8 +48,8 @@ fill_past at is_recalled place x s past =
       entry =
           (((out-ExtendedState past).entry ++ histories.noted at.own place) ++ entering at.asked is_recalled)
           ++ (out-ExtendedState s).entry;
-      exit = (out-ExtendedState s).exit;
-      during = (out-ExtendedState s).during;
+      exit = (out-ExtendedState past).exit ++ (out-ExtendedState s).exit;
+      during = (out-ExtendedState past).during ++ (out-ExtendedState s).during;
       regions =
           (out-ExtendedState past).regions
           ++ histories.all_regions (history_of at.asked is_recalled) x (map past_region (out-ExtendedState s).regions);

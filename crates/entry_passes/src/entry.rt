@@ -5,7 +5,7 @@ ghost use Rattle.entry_passes.specs.Entry.{width, entrances, nowhere, led, stand
 ghost use Rattle.entry_passes.specs.Entry.{entered, without_entry};
 
 use core_charts::{Effect, Region, State, Transition, copied_effects};
-use extended_charts::{ExtendedRegion, ExtendedState, alone, always, has_some};
+use extended_charts::{ExtendedRegion, ExtendedState, alone, always, has_some, sum};
 use sc_text::numbered;
 use sqlite_items::Items;
 use std::alloc::{AllocError, Global};
@@ -66,8 +66,8 @@ fn put_states(
     let mut place = 0;
     for state in states {
         put_laid(alloc, at, number, place, state, made)?;
-        number = past(number, 1)?;
-        place = past(place, width(state))?;
+        number = sum(number, 1)?;
+        place = sum(place, width(state))?;
     }
     Ok(())
 }
@@ -127,7 +127,7 @@ fn put_entering(
     if !has_some(entry) {
         return Ok(());
     }
-    let behind = past(place, 1)?;
+    let behind = sum(place, 1)?;
     let transitions = alone(alloc, always(true, copied_effects(alloc, entry)?, behind))?;
     made.push(State {
         name: numbered("enter__", number as u64),
@@ -149,16 +149,6 @@ fn width(state: &ExtendedState) -> u32
     }
 }
 
-// The place behind so many states. Err: no memory holds them.
-fn past(place: u32, width: u32) -> Result<u32, AllocError>
-    ensures { IfOk result (λ behind. behind ≡ place + width) }
-{
-    match place.checked_add(width) {
-        Some(behind) => Ok(behind),
-        None => Err(AllocError),
-    }
-}
-
 // Puts the place at which each state is entered.
 fn put_entrances(states: &[ExtendedState], made: &mut Items<u32>) -> Result<(), AllocError>
     ensures { OnOk result (made.new ≡ made.old ++ entrances (map entered states.now) 0) }
@@ -166,7 +156,7 @@ fn put_entrances(states: &[ExtendedState], made: &mut Items<u32>) -> Result<(), 
     let mut place = 0;
     for state in states {
         made.push(place)?;
-        place = past(place, width(state))?;
+        place = sum(place, width(state))?;
     }
     Ok(())
 }

@@ -5,14 +5,14 @@ ghost use Rattle.entry_passes.specs.Exits.{noted, parting, own_note, left_region
 ghost use Rattle.entry_passes.specs.Exits.{all_states, all_behind, with_behind, all_inside, outer_regions, with_exits};
 ghost use Rattle.entry_passes.specs.Inside.{note_of, own_leavings, own_transitions, fill_left};
 
-use crate::bare::bare;
 use crate::departures::{put_left_behind, put_left_transitions, set};
 use crate::leaving::{
     Leaving, has_exit, have_exits, inside, notes, put_state_leavings, state_inside,
 };
 use core_charts::{Effect, Transition, copied_effects};
 use extended_charts::{
-    ExtendedChart, ExtendedRegion, ExtendedState, count, has_some, integers, one, sum, variable,
+    ExtendedChart, ExtendedRegion, ExtendedState, bare, count, has_some, one, put_integers, sum,
+    variable,
 };
 use sc_graph::VariableId;
 use sqlite_items::Items;
@@ -40,7 +40,7 @@ fn put_exits(alloc: Global, chart: &mut ExtendedChart) -> Result<(), AllocError>
     let mut regions = Items::new(alloc);
     put_outer_regions(alloc, first, chart.regions.as_slice(), &mut regions)?;
     chart.regions = regions;
-    chart.variables.append(integers(alloc, "in__", count)?)
+    put_integers("in__", count, &mut chart.variables)
 }
 
 // Puts the number of a state, where its region notes it and the state has exit actions.
@@ -90,9 +90,12 @@ fn note_of(x: u32, region: &ExtendedRegion) -> Result<Option<VariableId>, AllocE
 }
 
 // The place behind so many states. Err: no region is made of so many, since a chart has far fewer in one.
-fn place_behind(place: u32, width: u32) -> Result<u32, AllocError>
+fn place_behind(place: u32, width: usize) -> Result<u32, AllocError>
     ensures { IfOk result (λ behind. behind ≡ place + width) }
 {
+    let Ok(width) = u32::try_from(width) else {
+        return Err(AllocError);
+    };
     let behind = sum(place, width)?;
     if behind > MOST_STATES {
         Err(AllocError)
@@ -318,9 +321,7 @@ fn put_behind(
     ensures place { IfOk result (λ past. past ≡ place + length ((left_state state.now).behind own x place)) }
     ensures behind { OnOk result (made.new ≡ made.old ++ (left_state state.now).behind own x place) }
 {
-    let mut behind = Items::new(alloc);
-    put_own_behind(alloc, own, x, place, state, &mut behind)?;
-    let past = place_behind(place, count(behind.as_slice())?)?;
-    made.append(behind)?;
-    Ok(past)
+    let before = made.len();
+    put_own_behind(alloc, own, x, place, state, made)?;
+    place_behind(place, made.len() - before)
 }

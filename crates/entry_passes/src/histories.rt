@@ -6,7 +6,6 @@ ghost use Rattle.entry_passes.specs.Histories.{all_regions, all_states, recallin
 ghost use Rattle.entry_passes.specs.Histories.{made_region, past_region, past_state, with_histories};
 ghost use Rattle.entry_passes.specs.Inside.{fill_past};
 
-use crate::bare::bare;
 use crate::departures::set;
 use crate::recalls::{
     Kept, asking_count, is_by_history, is_recalled, put_kept_in, put_variables, recalled_among,
@@ -16,8 +15,8 @@ use crate::resuming::put_resuming;
 use chart_elements::next;
 use core_charts::{Effect, Transition, copied_effects};
 use extended_charts::{
-    ExtendedChart, ExtendedRegion, ExtendedState, copied_durings, copy, count, has_some, reset,
-    sum, variable,
+    ExtendedChart, ExtendedRegion, ExtendedState, bare, copy, count, has_some, put_copied_durings,
+    reset, sum, variable,
 };
 use sc_graph::VariableId;
 use sc_values::{Expr, Value};
@@ -155,7 +154,7 @@ fn own_past(history: Option<VariableId>, x: u32) -> Result<Option<Past>, AllocEr
     }
 }
 
-// The number behind that of the region's own variable.
+// So many behind the number of the region's own variable, where it has one.
 fn past_own(history: Option<VariableId>, x: u32) -> Result<u32, AllocError>
     ensures { IfOk result (λ behind. behind ≡ past_own history x) }
 {
@@ -200,7 +199,7 @@ fn put_regions(
         let own = own_past(history, x)?;
         let inside = past_own(history, x)?;
         put_region(alloc, own, inside, region, made)?;
-        x = sum(inside, region_count(alloc, region)?)?;
+        x = sum(x, past_own(history, region_count(alloc, region)?)?)?;
     }
     Ok(())
 }
@@ -307,8 +306,9 @@ fn fill_past(
     put_entering(at.asked, is_recalled, &mut past.entry)?;
     past.entry
         .append(copied_effects(alloc, state.entry.as_slice())?)?;
-    past.exit = copied_effects(alloc, state.exit.as_slice())?;
-    past.during = copied_durings(alloc, state.during.as_slice())?;
+    past.exit
+        .append(copied_effects(alloc, state.exit.as_slice())?)?;
+    put_copied_durings(alloc, state.during.as_slice(), &mut past.during)?;
     put_regions(
         alloc,
         history,

@@ -2,7 +2,6 @@
 //! actions.
 #![tactic(auto)]
 
-mod bare;
 mod departures;
 mod entry;
 mod exits;

@@ -1,7 +1,6 @@
 -- What private functions make: what is put into a state whose name and marks stand already, and into a chart that has a name
 -- alone; and the ways of a count.
 use Rattle.std.specs.Prelude.{ℕ, Bool, true, false, ◌+◌, Some, List, [], ◌∷◌, ◌++◌, map, codes}
-use Rattle.sc_values.specs.declared.expression.Expr.{Expr}
 use Rattle.sc_values.specs.declared.expression.Expr.TheVariants as expr
 use Rattle.core_charts.specs.declared.region.Transition.{Transition}
 use Rattle.extended_charts.specs.declared.extended.ExtendedChart.{ExtendedChart}
@@ -12,7 +11,6 @@ use Rattle.extended_charts.specs.declared.reading.Reading.{Reading}
 use Rattle.extended_charts.specs.declared.reading.Reading.TheVariants as reading
 use Rattle.extended_charts.specs.Reading.{replaced}
 use Rattle.extended_charts.specs.Making.{one, always, made_state}
-use Rattle.extended_charts.specs.Durings.{ways_on}
 use Rattle.value_passes.specs.Clocks.{ask_time, noting, timed_by, timed_transition, timed_region, all_regions, one_more}
 use Rattle.value_passes.specs.Constants.{valued_effect, valued_during, valued_transition, valued_region}
 use Rattle.value_passes.specs.Counts.{total_of, entered_of, tellings, counted_region, none_yet}

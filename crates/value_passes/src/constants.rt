@@ -9,10 +9,9 @@ ghost use Rattle.value_passes.specs.Inside.{fill_valued, fill_chart};
 
 use core_charts::{Effect, Transition};
 use extended_charts::{
-    Constant, Declared, During, ExtendedChart, ExtendedRegion, ExtendedState, Reading, bare,
+    Constant, During, ExtendedChart, ExtendedRegion, ExtendedState, Reading, bare,
     copied_declarations,
 };
-use sc_graph::VariableId;
 use sc_values::{Expr, Value};
 use sqlite_items::Items;
 use std::alloc::{AllocError, Global};
