@@ -1,5 +1,5 @@
 -- What the first flaw of a draft tells of the text.
-use Rattle.std.proofs.Common.{◌≡◌, ◌++◌, ℕ, Option, Some, None, List, [], inl, inr, ◌∙◌, ap, sym}
+use Rattle.std.proofs.Common.{◌≡◌, ◌++◌, ℕ, Some, None, List, [], inl, inr, ◌∙◌, ap, sym}
 use Rattle.sc_text.specs.declared.read_fault.ReadFault.{ReadFault}
 use Rattle.sc_text.specs.declared.read_fault.ReadFault.TheVariants as fault
 use Rattle.core_charts.specs.Rules.{depth_limit}

@@ -1,7 +1,9 @@
 pub mod Shapes
 pub mod Deepens
 pub mod Parts
+pub mod Same
 pub mod RowReading
+pub mod Filling
 pub mod Pieces
 pub mod Nesting
 pub mod Drafting

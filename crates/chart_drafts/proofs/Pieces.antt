@@ -3,7 +3,7 @@ use Rattle.std.proofs.Common.{◌≡◌, ℕ, ◌-◌, Bool, true, false, Option
 use Rattle.sc_values.specs.declared.value.Kind.{Kind}
 use Rattle.sc_graph.specs.declared.program.Role.{Role}
 use Rattle.grammar.specs.Grammar.{one, seq, maybe, many, spells}
-use Rattle.grammar.specs.Read.{Got, starts, next, read, with_head}
+use Rattle.grammar.specs.Read.{Outcome, Got, Failed, starts, next, choose, read, with_head}
 use Rattle.grammar.proofs.Shaped.{Shaped}
 use Rattle.grammar.proofs.Reading.{Verdict, good, bad, begins_some}
 use Rattle.grammar.proofs.Every.{reads}
@@ -17,7 +17,7 @@ use Rattle.sc_text.specs.Phrases.{Phrase}
 use Rattle.sc_text.specs.Expression.{text_tokens, after, expression}
 use Rattle.sc_text.specs.Reading.{Stops, Reads, place_of}
 use Rattle.sc_text.proofs.Shapes.{expression_is}
-use Rattle.sc_text.proofs.Steps.{one_taken, next_stops, stops_as}
+use Rattle.sc_text.proofs.Steps.{one_taken, next_stops}
 use Rattle.core_charts.specs.declared.region.TransitionKind.{TransitionKind}
 use Rattle.drafts.specs.declared.parts.Named.{Named}
 use Rattle.drafts.specs.declared.parts.TextExpression.{TextExpression}
@@ -29,12 +29,14 @@ use Rattle.drafts.specs.Parts.{or_none, expressed, declared_as}
 use Rattle.chart_drafts.specs.ChartText.{Grows, the_word, the_sign, roles, declared_role, declared_kind, last_name, name, declaration, flag, placed, effect}
 use Rattle.chart_drafts.specs.ChartText.{next_effect, some_effects, effects, trigger, outcome, moment, termination, tested_words, tested, transition_first}
 use Rattle.chart_drafts.specs.ChartText.{transition}
-use Rattle.chart_drafts.specs.PartsRead.{IsGoing}
+use Rattle.chart_drafts.specs.Inside.{IsFilling}
 use Rattle.chart_drafts.specs.Phrase.{Gives}
 use Rattle.chart_drafts.proofs.Shapes.{declaration_is, next_effect_is, termination_is, transition_is}
-use Rattle.chart_drafts.proofs.Parts.{seq_gives, made_gives, made_stops, after_gives, after_stops_second, maybe_none, maybe_some, maybe_stops, left_read}
-use Rattle.chart_drafts.proofs.Parts.{right_read, gives_as}
-use Rattle.chart_drafts.proofs.RowReading.{many_goes, listed_goes, listed_stops}
+use Rattle.chart_drafts.proofs.Parts.{seq_gives, made_gives, after_gives, after_stops_second, maybe_none, maybe_some, maybe_stops, left_read}
+use Rattle.chart_drafts.proofs.Parts.{right_read}
+use Rattle.chart_drafts.proofs.Same.{after_read}
+use Rattle.chart_drafts.proofs.RowReading.{listed_stops}
+use Rattle.chart_drafts.proofs.Filling.{many_fills, listed_fills}
 
 abbrev e0 : Grows Phrase
 e0 = expression 0
@@ -105,9 +107,9 @@ declaration_gives text a b rest r k n x y z =
     made_gives (λ x. declared_as x.0 x.1.0 x.1.1) (seq declared_role (seq declared_kind last_name)) text (r, (k, n)) rest
     (seq_gives declared_role (seq declared_kind last_name) text a rest r (k, n) x (seq_gives declared_kind last_name a b rest k n y z))
 
-pub declarations_go : (text : List Token) (most : ℕ) (found : List Declaration) → most ≡ length text → found ≡ []
-    → IsGoing (read (many declaration) text) declaration roles found (most - 0) text
-declarations_go text left found e f = many_goes declaration roles declaration_is.begins text left found e f
+pub declarations_fill : (text : List Token) (most : ℕ) (found : List Declaration) → most ≡ length text
+    → IsFilling (read (many declaration) text) declaration roles found found (most - 0) text
+declarations_fill text most found e = many_fills declaration roles declaration_is.begins text most found e
 
 -- ---- effects
 
@@ -120,12 +122,12 @@ unfolding effect
 effect_gives text a rest n e x y =
     made_gives (λ x. effect_of x.0 x.1) (seq name becomes) text (n, e) rest (seq_gives name becomes text a rest n e x y)
 
-pub effects_go : (text rest : List Token) (x : DraftEffect) (most : ℕ) (none found : List DraftEffect) → Gives (read (effect e0) text) x rest
-    → most ≡ length rest → none ≡ [] → found ≡ none ++ x ∷ [] → IsGoing (read (some_effects e0) text) (next_effect e0) (the_sign sign.Comma) found
+pub effects_fill : (text rest : List Token) (x : DraftEffect) (most : ℕ) (old found : List DraftEffect) → Gives (read (effect e0) text) x rest
+    → most ≡ length rest → found ≡ old ++ x ∷ [] → IsFilling (read (some_effects e0) text) (next_effect e0) (the_sign sign.Comma) old found
     (most - 0) rest
 unfolding some_effects
-effects_go text rest x left none found r e n f =
-    listed_goes (next_effect e0) (the_sign sign.Comma) (next_effect_is e0 (expression_is 0)).begins (effect e0) text rest x left none found r e n f
+effects_fill text rest x most old found r e f =
+    listed_fills (next_effect e0) (the_sign sign.Comma) (next_effect_is e0 (expression_is 0)).begins (effect e0) text rest x most old found r e f
 
 pub no_first_effect : (text : List Token) (end : ℕ) (f : ReadFault) → Stops end (read (effect e0) text) f → Stops end (read (some_effects e0) text) f
 unfolding some_effects
@@ -139,17 +141,21 @@ effects_missing text none e n =
     (made_gives or_none (maybe (after (the_word word.Do) (some_effects e0))) text None text
     (maybe_none (after (the_word word.Do) (some_effects e0)) (the_word word.Do) refl text e))
 
-pub effects_there : (text more rest : List Token) (xs : List DraftEffect) → starts text_tokens (the_word word.Do) text ≡ true → more ≡ drop 1 text
-    → Gives (read (some_effects e0) more) xs rest → Gives (read (effects e0) text) xs rest
-unfolding effects
-effects_there text more rest xs e d r = made_gives or_none (maybe (after (the_word word.Do) (some_effects e0))) text (Some xs) rest
-    (behind_gives (the_word word.Do) (some_effects e0) text more e d xs rest r)
+there_alone : {A : Type 0} (o : Outcome Token (List A)) → next (next o (λ a end. Got (Some a) end)) (λ x end. Got (or_none x) end) ≡ o
+there_alone (Got xs rest) = refl
+there_alone (Failed flaw rest) = refl
 
-pub effects_stop : (text more : List Token) (end : ℕ) (f : ReadFault) → starts text_tokens (the_word word.Do) text ≡ true → more ≡ drop 1 text
-    → Stops end (read (some_effects e0) more) f → Stops end (read (effects e0) text) f
+abbrev outcomes : Grows (List DraftEffect)
+outcomes = after (the_word word.Do) (some_effects e0)
+
+pub effects_read : (text more : List Token) → starts text_tokens (the_word word.Do) text ≡ true → more ≡ drop 1 text → read (effects e0) text
+    ≡ read (some_effects e0) more
 unfolding effects
-effects_stop text more end f e d s =
-    made_stops or_none (maybe (after (the_word word.Do) (some_effects e0))) text end f (behind_stops (the_word word.Do) (some_effects e0) text more e d end f s)
+effects_read text more e d =
+    ap (λ c. next (choose c (next (read outcomes text) (λ a end. Got (Some a) end)) (Got None text)) (λ x end. Got (or_none x) end)) e
+    ∙ ap (λ o. next (next o (λ a end. Got (Some a) end)) (λ x end. Got (or_none x) end))
+    (after_read (the_word word.Do) (some_effects e0) text more (one_taken (the_word word.Do) text more e d))
+    ∙ there_alone (read (some_effects e0) more)
 
 -- ---- triggers
 
@@ -189,30 +195,14 @@ tested_made text a b c rest m i t d w x y z =
     (seq_gives (flag word.Immediate) (seq (trigger e0) (outcome e0)) a b rest i (t, d) x (seq_gives (trigger e0) (outcome e0) b c rest t d y z)))
 
 module _ (text : List Token) where
-  is_termination : starts text_tokens (the_word word.Join) text ≡ true → read (transition e0) text ≡ read (termination e0) text
+  pub is_termination : starts text_tokens (the_word word.Join) text ≡ true → read (transition e0) text ≡ read (termination e0) text
   unfolding transition
   is_termination e = left_read (termination e0) (the_word word.Join) (termination_is e0 (expression_is 0)).begins text (tested e0) e
 
-  is_tested : starts text_tokens (the_word word.Join) text ≡ false → read (transition e0) text ≡ read (tested e0) text
+  pub is_tested : starts text_tokens (the_word word.Join) text ≡ false → read (transition e0) text ≡ read (tested e0) text
   unfolding transition
   is_tested e = right_read (termination e0) (the_word word.Join) (termination_is e0 (expression_is 0)).begins text (tested e0) e
 
-  pub termination_gives : (x : DraftTransition) (rest : List Token) → starts text_tokens (the_word word.Join) text ≡ true
-      → Gives (read (termination e0) text) x rest → Gives (read (transition e0) text) x rest
-  termination_gives x rest e r = gives_as _ _ x rest (is_termination e) r
-
-  pub termination_stops : (end : ℕ) (f : ReadFault) → starts text_tokens (the_word word.Join) text ≡ true → Stops end (read (termination e0) text) f
-      → Stops end (read (transition e0) text) f
-  termination_stops end f e s = stops_as end _ _ f (is_termination e) s
-
-  pub tested_gives : (x : DraftTransition) (rest : List Token) → starts text_tokens (the_word word.Join) text ≡ false → Gives (read (tested e0) text) x rest
-      → Gives (read (transition e0) text) x rest
-  tested_gives x rest e r = gives_as _ _ x rest (is_tested e) r
-
-  pub tested_stops : (end : ℕ) (f : ReadFault) → starts text_tokens (the_word word.Join) text ≡ false → Stops end (read (tested e0) text) f
-      → Stops end (read (transition e0) text) f
-  tested_stops end f e s = stops_as end _ _ f (is_tested e) s
-
-  pub transitions_go : (most : ℕ) (found : List DraftTransition) → most ≡ length text → found ≡ []
-      → IsGoing (read (many (transition e0)) text) (transition e0) transition_first found (most - 0) text
-  transitions_go left found e f = many_goes (transition e0) transition_first (transition_is e0 (expression_is 0)).begins text left found e f
+  pub transitions_fill : (most : ℕ) (found : List DraftTransition) → most ≡ length text
+      → IsFilling (read (many (transition e0)) text) (transition e0) transition_first found found (most - 0) text
+  transitions_fill most found e = many_fills (transition e0) transition_first (transition_is e0 (expression_is 0)).begins text most found e

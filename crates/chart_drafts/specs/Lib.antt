@@ -3,6 +3,7 @@ pub mod ChartText
 pub mod Flaws
 pub mod PartsRead
 pub mod Phrase
+pub mod Inside
 pub mod Laws
 pub mod Reading
 pub mod Shape

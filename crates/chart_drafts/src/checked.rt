@@ -12,20 +12,21 @@ use crate::whole::read_draft;
 use core_charts::DEPTH_LIMIT;
 use drafts::{Flaw, Scope, first_told};
 use sc_text::ReadFault;
-use sqlite_items::Items;
+use sqlite_items::{Boxed, Items};
 use std::alloc::{AllocError, Global};
 
 /// The draft of a text that spells a chart without flaws. Err: the fault of a text that has no draft, as `read_draft`
 /// tells it; else the first flaw of its draft; or memory was refused.
-#[tactic(auto, using(crate::proofs::Checking::undrafted, crate::proofs::Checking::flawed, crate::proofs::Checking::sound))]
+#[tactic(auto, using(crate::proofs::Checking::undrafted))]
 pub fn read_checked(alloc: Global, text: &str) -> Result<DraftChart, ReadFault>
     ensures ok { IfOk result (λ draft. IsSound text.now draft) }
     ensures fault { IfErr result (λ fault. IsTextFault text.now fault) }
 {
-    let draft = read_draft(alloc, text)?;
-    match first_flaw(alloc, &draft)? {
+    // A box, since a draft would be dropped part by part at each way out.
+    let draft = Boxed::new(alloc, read_draft(alloc, text)?)?;
+    match first_flaw(alloc, draft.get())? {
         Some(flaw) => Err(ReadFault::Text(flaw.broken, flaw.at)),
-        None => Ok(draft),
+        None => Ok(draft.into_inner()),
     }
 }
 

@@ -7,7 +7,7 @@ ghost use Rattle.drafts.specs.Flaws.{flaw_if, is_full, is_repeated};
 ghost use Rattle.drafts.specs.Told.{told_behind};
 ghost use Rattle.chart_drafts.specs.declared.draft.DraftRegion.TheViews.{out-DraftRegion, out-DraftState};
 ghost use Rattle.chart_drafts.specs.Flaws.{is_filled, final_flaws, transition_flaws, state_names, state_flaws};
-ghost use Rattle.chart_drafts.specs.Flaws.{initial_flaws, region_names, nested_flaws};
+ghost use Rattle.chart_drafts.specs.Flaws.{initial_flaws, region_names, region_flaws, nested_flaws};
 
 use crate::draft::{DraftRegion, DraftState};
 use crate::names::Names;
@@ -22,7 +22,7 @@ use std::alloc::{AllocError, Global};
 /// Tells the flaws of the regions of one superstate, which nest so many levels deep at most. Err: memory was
 /// refused.
 #[cycle(flaws)]
-#[tactic(auto, using(crate::proofs::Flawed::nested_past, crate::proofs::Flawed::nested_is, crate::proofs::Flawed::regions_over))]
+#[tactic(auto, using(crate::proofs::Flawed::nested_past))]
 pub(crate) fn region_flaws(
     alloc: Global,
     scope: &Scope,
@@ -37,6 +37,24 @@ pub(crate) fn region_flaws(
         return deeper_flaws(alloc, regions, found);
     }
     let names = Names::of(alloc, region_names(alloc, regions)?)?;
+    each_region_flaws(alloc, scope, levels - 1, &names, regions, found)
+}
+
+// The same, by the names of the regions, inside which so many levels more may nest.
+#[cycle(flaws)]
+#[tactic(auto, using(crate::proofs::Flawed::regions_over))]
+fn each_region_flaws(
+    alloc: Global,
+    scope: &Scope,
+    levels: u8,
+    names: &Names,
+    regions: &[DraftRegion],
+    found: &mut Items<Flaw>,
+) -> Result<(), AllocError>
+    ensures { OnOk result (found.new ≡ told_behind found.old
+        (region_flaws scope.now.variables.now (nested_flaws scope.now.variables.now levels) names.now.names 0
+        regions.now)) }
+{
     for (at, region) in regions.iter().enumerate() {
         let named = region.named;
         let is_repeated = names.is_repeated(at, named.name);
@@ -45,14 +63,13 @@ pub(crate) fn region_flaws(
         note_told(alloc, found, is_past, FaultKind::Limit, named.at)?;
         initial_flaws(alloc, region, found)?;
         let states = region.states.as_slice();
-        state_flaws(alloc, scope, levels - 1, states, found)?;
+        state_flaws(alloc, scope, levels, states, found)?;
     }
     Ok(())
 }
 
 // Tells the flaws of the states of a region, whose own regions nest so many levels deep at most.
 #[cycle(flaws)]
-#[tactic(auto, using(crate::proofs::Flawed::states_over))]
 fn state_flaws(
     alloc: Global,
     scope: &Scope,
@@ -65,10 +82,28 @@ fn state_flaws(
         (state_names states.now) 0 states.now)) }
 {
     let names = Names::of(alloc, state_names(alloc, states)?)?;
+    each_state_flaws(alloc, scope, levels, &names, states, found)
+}
+
+// The same, by the names of the states.
+#[cycle(flaws)]
+#[tactic(auto, using(crate::proofs::Flawed::states_over))]
+fn each_state_flaws(
+    alloc: Global,
+    scope: &Scope,
+    levels: u8,
+    names: &Names,
+    states: &[DraftState],
+    found: &mut Items<Flaw>,
+) -> Result<(), AllocError>
+    ensures { OnOk result (found.new ≡ told_behind found.old
+        (state_flaws scope.now.variables.now (nested_flaws scope.now.variables.now levels) names.now.names 0
+        states.now)) }
+{
     for (at, state) in states.iter().enumerate() {
-        place_flaws(alloc, &names, at, state, found)?;
+        place_flaws(alloc, names, at, state, found)?;
         final_flaws(alloc, state, found)?;
-        own_transition_flaws(alloc, scope, &names, state, found)?;
+        own_transition_flaws(alloc, scope, names, state, found)?;
         region_flaws(alloc, scope, levels, state.regions.as_slice(), found)?;
     }
     Ok(())

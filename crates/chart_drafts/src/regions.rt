@@ -7,6 +7,7 @@ ghost use Rattle.sc_text.specs.Reading.{Stops};
 ghost use Rattle.chart_drafts.specs.ChartText.{state_first, listed, inside, body, state, states, region, braced};
 ghost use Rattle.chart_drafts.specs.ChartText.{within};
 ghost use Rattle.chart_drafts.specs.Phrase.{Gives};
+ghost use Rattle.chart_drafts.specs.Inside.{Fills, FillsBoth};
 
 use crate::ahead::{Ahead, skip_sign};
 use crate::draft::{DraftRegion, DraftState, DraftTransition};
@@ -17,33 +18,34 @@ use sc_text::{ReadFault, Sign, Token, Word};
 use sqlite_items::Items;
 use std::alloc::Global;
 
-/// Regions of one superstate, inside which so many more levels of regions may stand.
+/// Puts the regions of one superstate behind others, inside which so many more levels of regions may stand.
 #[cycle(regions)]
-#[tactic(auto, using(crate::proofs::Nesting::regions_go, crate::proofs::Nesting::no_first_region, crate::proofs::RowReading::going_ends, crate::proofs::RowReading::going_over, crate::proofs::RowReading::going_stops, crate::proofs::RowReading::going_on))]
+#[tactic(auto, using(crate::proofs::Nesting::no_first_region))]
 pub(crate) fn regions(
     alloc: Global,
     depth: u8,
     ahead: &mut Ahead,
     end: usize,
-) -> Result<Items<DraftRegion>, ReadFault>
+    found: &mut Items<DraftRegion>,
+) -> Result<(), ReadFault>
     ensures { MatchResult result
-        (λ x. Gives (read (listed (region (expression 0) (within (expression 0) depth))
-        (region (expression 0) (within (expression 0) depth))) ahead.old.tokens.now) x ahead.new.tokens.now)
+        (λ _. Fills (read (listed (region (expression 0) (within (expression 0) depth))
+        (region (expression 0) (within (expression 0) depth))) ahead.old.tokens.now)
+        found.old found.new ahead.new.tokens.now)
         (λ fault. Stops end (read (listed (region (expression 0) (within (expression 0) depth))
         (region (expression 0) (within (expression 0) depth))) ahead.old.tokens.now) fault) }
 {
-    let mut found = Items::new(alloc);
     let first = region(alloc, depth, ahead, end)?;
     found.push(first)?;
     let most = ahead.tokens.len();
     for used in 0..most {
         if !word_follows(ahead.tokens, Word::Region) {
-            return Ok(found);
+            return Ok(());
         }
         let next = region(alloc, depth, ahead, end)?;
         found.push(next)?;
     }
-    Ok(found)
+    Ok(())
 }
 
 #[cycle(regions)]
@@ -55,55 +57,57 @@ fn region(alloc: Global, depth: u8, ahead: &mut Ahead, end: usize) -> Result<Dra
         (λ fault. Stops end (read (region (expression 0) (within (expression 0) depth)) ahead.old.tokens.now) fault) }
 {
     let named = title(ahead, end, Word::Region)?;
-    let states = braced_states(alloc, depth, ahead, end)?;
+    let mut states = Items::new(alloc);
+    braced_states(alloc, depth, ahead, end, &mut states)?;
     Ok(DraftRegion { named, states })
 }
 
 #[cycle(regions)]
-#[tactic(auto, using(crate::proofs::Parts::after_stops_first, crate::proofs::Nesting::braced_stops_inside, crate::proofs::Nesting::braced_stops_last, crate::proofs::Nesting::braced_gives))]
+#[tactic(auto, using(crate::proofs::Parts::after_stops_first, crate::proofs::Nesting::braced_stops_inside))]
 fn braced_states(
     alloc: Global,
     depth: u8,
     ahead: &mut Ahead,
     end: usize,
-) -> Result<Items<DraftState>, ReadFault>
+    found: &mut Items<DraftState>,
+) -> Result<(), ReadFault>
     ensures { MatchResult result
-        (λ x. Gives (read (braced (states (expression 0) (within
-        (expression 0) depth))) ahead.old.tokens.now) x ahead.new.tokens.now)
+        (λ _. Fills (read (braced (states (expression 0) (within
+        (expression 0) depth))) ahead.old.tokens.now) found.old found.new ahead.new.tokens.now)
         (λ fault. Stops end (read (braced (states (expression 0)
         (within (expression 0) depth))) ahead.old.tokens.now) fault) }
 {
     skip_sign(ahead, end, Sign::OpenBrace)?;
-    let states = states(alloc, depth, ahead, end)?;
-    skip_sign(ahead, end, Sign::CloseBrace)?;
-    Ok(states)
+    states(alloc, depth, ahead, end, found)?;
+    skip_sign(ahead, end, Sign::CloseBrace)
 }
 
 #[cycle(regions)]
-#[tactic(auto, using(crate::proofs::Nesting::states_go, crate::proofs::Nesting::no_first_state, crate::proofs::RowReading::going_ends, crate::proofs::RowReading::going_over, crate::proofs::RowReading::going_stops, crate::proofs::RowReading::going_on))]
+#[tactic(auto, using(crate::proofs::Nesting::no_first_state))]
 fn states(
     alloc: Global,
     depth: u8,
     ahead: &mut Ahead,
     end: usize,
-) -> Result<Items<DraftState>, ReadFault>
+    found: &mut Items<DraftState>,
+) -> Result<(), ReadFault>
     ensures { MatchResult result
-        (λ x. Gives (read
-        (states (expression 0) (within (expression 0) depth)) ahead.old.tokens.now) x ahead.new.tokens.now)
+        (λ _. Fills (read
+        (states (expression 0) (within (expression 0) depth)) ahead.old.tokens.now)
+        found.old found.new ahead.new.tokens.now)
         (λ fault. Stops end (read (states (expression 0) (within (expression 0) depth)) ahead.old.tokens.now) fault) }
 {
-    let mut found = Items::new(alloc);
     let first = state(alloc, depth, ahead, end)?;
     found.push(first)?;
     let most = ahead.tokens.len();
     for used in 0..most {
         if !state_follows(ahead.tokens) {
-            return Ok(found);
+            return Ok(());
         }
         let next = state(alloc, depth, ahead, end)?;
         found.push(next)?;
     }
-    Ok(found)
+    Ok(())
 }
 
 /// Whether a state is next.
@@ -126,7 +130,9 @@ fn state(alloc: Global, depth: u8, ahead: &mut Ahead, end: usize) -> Result<Draf
     let is_initial = flag(ahead, Word::Initial);
     let is_final = flag(ahead, Word::Final);
     let named = title(ahead, end, Word::State)?;
-    let (regions, transitions) = body(alloc, depth, ahead, end)?;
+    let mut regions = Items::new(alloc);
+    let mut transitions = Items::new(alloc);
+    body(alloc, depth, ahead, end, &mut regions, &mut transitions)?;
     Ok(DraftState {
         is_initial,
         is_final,
@@ -138,49 +144,50 @@ fn state(alloc: Global, depth: u8, ahead: &mut Ahead, end: usize) -> Result<Draf
 
 // What is in a state, or the semicolon where nothing is.
 #[cycle(regions)]
-#[tactic(auto, using(crate::proofs::Nesting::simple_gives, crate::proofs::Nesting::brace_stops, crate::proofs::Nesting::inside_stops, crate::proofs::Nesting::inside_gives))]
+#[tactic(auto, using(crate::proofs::Nesting::simple_fills, crate::proofs::Nesting::brace_stops))]
 fn body(
     alloc: Global,
     depth: u8,
     ahead: &mut Ahead,
     end: usize,
-) -> Result<(Items<DraftRegion>, Items<DraftTransition>), ReadFault>
+    regions: &mut Items<DraftRegion>,
+    transitions: &mut Items<DraftTransition>,
+) -> Result<(), ReadFault>
     ensures { MatchResult result
-        (λ x. Gives (read
-        (body (expression 0) (within (expression 0) depth)) ahead.old.tokens.now) x ahead.new.tokens.now)
+        (λ _. FillsBoth (read (body (expression 0) (within (expression 0) depth)) ahead.old.tokens.now)
+        regions.old regions.new transitions.old transitions.new ahead.new.tokens.now)
         (λ fault. Stops end (read (body (expression 0) (within (expression 0) depth)) ahead.old.tokens.now) fault) }
 {
     if sign_follows(ahead.tokens, Sign::Semicolon) {
         ahead.tokens = behind(ahead.tokens);
-        return Ok((Items::new(alloc), Items::new(alloc)));
+        return Ok(());
     }
     skip_sign(ahead, end, Sign::OpenBrace)?;
-    let (regions, transitions) = inside(alloc, depth, ahead, end)?;
-    Ok((regions, transitions))
+    inside(alloc, depth, ahead, end, regions, transitions)
 }
 
 // The regions and the transitions of a state, up to the brace that closes it.
 #[cycle(regions)]
-#[tactic(auto, using(crate::proofs::Nesting::bare_gives, crate::proofs::Nesting::bare_stops, crate::proofs::Nesting::too_deep_stops, crate::proofs::Nesting::regions_stop, crate::proofs::Nesting::leaving_stops, crate::proofs::Nesting::nested_gives))]
+#[tactic(auto, using(crate::proofs::Nesting::too_deep_stops, crate::proofs::Nesting::regions_stop))]
 fn inside(
     alloc: Global,
     depth: u8,
     ahead: &mut Ahead,
     end: usize,
-) -> Result<(Items<DraftRegion>, Items<DraftTransition>), ReadFault>
+    found: &mut Items<DraftRegion>,
+    transitions: &mut Items<DraftTransition>,
+) -> Result<(), ReadFault>
     ensures { MatchResult result
-        (λ x. Gives (read
-        (inside (expression 0) (within (expression 0) depth)) ahead.old.tokens.now) x ahead.new.tokens.now)
+        (λ _. FillsBoth (read (inside (expression 0) (within (expression 0) depth)) ahead.old.tokens.now)
+        found.old found.new transitions.old transitions.new ahead.new.tokens.now)
         (λ fault. Stops end (read (inside (expression 0) (within (expression 0) depth)) ahead.old.tokens.now) fault) }
 {
     if !word_follows(ahead.tokens, Word::Region) {
-        let transitions = leaving(alloc, ahead, end)?;
-        return Ok((Items::new(alloc), transitions));
+        return leaving(alloc, ahead, end, transitions);
     }
     if depth == 0 {
         return Err(too_deep(ahead.tokens, end));
     }
-    let regions = regions(alloc, depth - 1, ahead, end)?;
-    let transitions = leaving(alloc, ahead, end)?;
-    Ok((regions, transitions))
+    regions(alloc, depth - 1, ahead, end, found)?;
+    leaving(alloc, ahead, end, transitions)
 }

@@ -10,6 +10,7 @@ ghost use Rattle.chart_drafts.specs.ChartText.{effects, target, trigger, outcome
 ghost use Rattle.chart_drafts.specs.ChartText.{termination, tested, transition_first};
 ghost use Rattle.chart_drafts.specs.ChartText.{transition, leaving};
 ghost use Rattle.chart_drafts.specs.Phrase.{Gives};
+ghost use Rattle.chart_drafts.specs.Inside.{Fills};
 
 use crate::ahead::{Ahead, skip_sign};
 use crate::draft::{DraftEffect, DraftTransition};
@@ -23,27 +24,25 @@ use sc_text::{ReadFault, Sign, Token, Word, expression};
 use sqlite_items::Items;
 use std::alloc::Global;
 
-/// The declarations of a chart.
-#[tactic(auto, using(crate::proofs::Pieces::declarations_go, crate::proofs::RowReading::going_ends, crate::proofs::RowReading::going_over, crate::proofs::RowReading::going_stops, crate::proofs::RowReading::going_on))]
+/// Puts the declarations of a chart behind others.
 pub(crate) fn declarations(
-    alloc: Global,
     ahead: &mut Ahead,
     end: usize,
-) -> Result<Items<Declaration>, ReadFault>
+    found: &mut Items<Declaration>,
+) -> Result<(), ReadFault>
     ensures { MatchResult result
-        (λ x. Gives (read (many declaration) ahead.old.tokens.now) x ahead.new.tokens.now)
+        (λ _. Fills (read (many declaration) ahead.old.tokens.now) found.old found.new ahead.new.tokens.now)
         (λ fault. Stops end (read (many declaration) ahead.old.tokens.now) fault) }
 {
-    let mut found = Items::new(alloc);
     let most = ahead.tokens.len();
     for used in 0..most {
         if !role_follows(ahead.tokens) {
-            return Ok(found);
+            return Ok(());
         }
         let next = declaration(ahead, end)?;
         found.push(next)?;
     }
-    Ok(found)
+    Ok(())
 }
 
 #[tactic(auto, using(crate::proofs::Pieces::declaration_gives, crate::proofs::Parts::made_stops, crate::proofs::Parts::seq_stops_first, crate::proofs::Parts::seq_stops_second), unfolding(crate::specs::ChartText::declaration))]
@@ -72,7 +71,7 @@ pub fn placed(alloc: Global, ahead: &mut Ahead, end: usize) -> Result<TextExpres
 }
 
 /// What a variable becomes.
-#[tactic(auto, using(crate::proofs::Parts::after_stops_first, crate::proofs::Parts::after_stops_second, crate::proofs::Parts::after_gives))]
+#[tactic(auto, using(crate::proofs::Parts::after_stops_first))]
 pub fn value(alloc: Global, ahead: &mut Ahead, end: usize) -> Result<TextExpression, ReadFault>
     ensures { MatchResult result
         (λ x. Gives (read (after (the_sign Sign.Becomes) (placed
@@ -80,8 +79,7 @@ pub fn value(alloc: Global, ahead: &mut Ahead, end: usize) -> Result<TextExpress
         (λ fault. Stops end (read (after (the_sign Sign.Becomes) (placed (expression 0))) ahead.old.tokens.now) fault) }
 {
     skip_sign(ahead, end, Sign::Becomes)?;
-    let value = placed(alloc, ahead, end)?;
-    Ok(value)
+    placed(alloc, ahead, end)
 }
 
 #[tactic(auto, using(crate::proofs::Pieces::effect_gives, crate::proofs::Parts::made_stops, crate::proofs::Parts::seq_stops_first, crate::proofs::Parts::seq_stops_second), unfolding(crate::specs::ChartText::effect))]
@@ -95,19 +93,18 @@ fn effect(alloc: Global, ahead: &mut Ahead, end: usize) -> Result<DraftEffect, R
     Ok(DraftEffect { variable, value })
 }
 
-#[tactic(auto, using(crate::proofs::Parts::after_stops_first, crate::proofs::Parts::after_stops_second, crate::proofs::Parts::after_gives), unfolding(crate::specs::ChartText::next_effect))]
+#[tactic(auto, using(crate::proofs::Parts::after_stops_first), unfolding(crate::specs::ChartText::next_effect))]
 fn next_effect(alloc: Global, ahead: &mut Ahead, end: usize) -> Result<DraftEffect, ReadFault>
     ensures { MatchResult result
         (λ x. Gives (read (next_effect (expression 0)) ahead.old.tokens.now) x ahead.new.tokens.now)
         (λ fault. Stops end (read (next_effect (expression 0)) ahead.old.tokens.now) fault) }
 {
     skip_sign(ahead, end, Sign::Comma)?;
-    let effect = effect(alloc, ahead, end)?;
-    Ok(effect)
+    effect(alloc, ahead, end)
 }
 
 /// The assignments behind the word `do`.
-#[tactic(auto, using(crate::proofs::Pieces::effects_go, crate::proofs::Pieces::no_first_effect, crate::proofs::RowReading::going_ends, crate::proofs::RowReading::going_over, crate::proofs::RowReading::going_stops, crate::proofs::RowReading::going_on))]
+#[tactic(auto, using(crate::proofs::Filling::fills_alone))]
 pub fn some_effects(
     alloc: Global,
     ahead: &mut Ahead,
@@ -118,20 +115,35 @@ pub fn some_effects(
         (λ fault. Stops end (read (some_effects (expression 0)) ahead.old.tokens.now) fault) }
 {
     let mut found = Items::new(alloc);
+    put_effects(alloc, ahead, end, &mut found)?;
+    Ok(found)
+}
+
+#[tactic(auto, using(crate::proofs::Pieces::no_first_effect))]
+fn put_effects(
+    alloc: Global,
+    ahead: &mut Ahead,
+    end: usize,
+    found: &mut Items<DraftEffect>,
+) -> Result<(), ReadFault>
+    ensures { MatchResult result
+        (λ _. Fills (read (some_effects (expression 0)) ahead.old.tokens.now) found.old found.new ahead.new.tokens.now)
+        (λ fault. Stops end (read (some_effects (expression 0)) ahead.old.tokens.now) fault) }
+{
     let first = effect(alloc, ahead, end)?;
     found.push(first)?;
     let most = ahead.tokens.len();
     for used in 0..most {
         if !sign_follows(ahead.tokens, Sign::Comma) {
-            return Ok(found);
+            return Ok(());
         }
         let next = next_effect(alloc, ahead, end)?;
         found.push(next)?;
     }
-    Ok(found)
+    Ok(())
 }
 
-#[tactic(auto, using(crate::proofs::Pieces::effects_missing, crate::proofs::Pieces::effects_there, crate::proofs::Pieces::effects_stop))]
+#[tactic(auto, using(crate::proofs::Pieces::effects_missing))]
 fn effects(alloc: Global, ahead: &mut Ahead, end: usize) -> Result<Items<DraftEffect>, ReadFault>
     ensures { MatchResult result
         (λ x. Gives (read (effects (expression 0)) ahead.old.tokens.now) x ahead.new.tokens.now)
@@ -141,23 +153,21 @@ fn effects(alloc: Global, ahead: &mut Ahead, end: usize) -> Result<Items<DraftEf
         return Ok(Items::new(alloc));
     }
     ahead.tokens = behind(ahead.tokens);
-    let effects = some_effects(alloc, ahead, end)?;
-    Ok(effects)
+    some_effects(alloc, ahead, end)
 }
 
-#[tactic(auto, using(crate::proofs::Parts::after_stops_first, crate::proofs::Parts::after_stops_second, crate::proofs::Parts::after_gives), unfolding(crate::specs::ChartText::target))]
+#[tactic(auto, using(crate::proofs::Parts::after_stops_first), unfolding(crate::specs::ChartText::target))]
 fn target(ahead: &mut Ahead, end: usize) -> Result<Named, ReadFault>
     ensures { MatchResult result
         (λ x. Gives (read target ahead.old.tokens.now) x ahead.new.tokens.now)
         (λ fault. Stops end (read target ahead.old.tokens.now) fault) }
 {
     skip_sign(ahead, end, Sign::Arrow)?;
-    let target = last_name(ahead, end)?;
-    Ok(target)
+    last_name(ahead, end)
 }
 
 /// The condition of a transition, where it has one.
-#[tactic(auto, using(crate::proofs::Pieces::trigger_missing, crate::proofs::Pieces::trigger_there, crate::proofs::Pieces::trigger_stops))]
+#[tactic(auto, using(crate::proofs::Pieces::trigger_stops))]
 pub fn trigger(
     alloc: Global,
     ahead: &mut Ahead,
@@ -234,18 +244,15 @@ fn tested(alloc: Global, ahead: &mut Ahead, end: usize) -> Result<DraftTransitio
     })
 }
 
-#[tactic(auto, using(crate::proofs::Pieces::termination_stops, crate::proofs::Pieces::termination_gives, crate::proofs::Pieces::tested_stops, crate::proofs::Pieces::tested_gives))]
 fn transition(alloc: Global, ahead: &mut Ahead, end: usize) -> Result<DraftTransition, ReadFault>
     ensures { MatchResult result
         (λ x. Gives (read (transition (expression 0)) ahead.old.tokens.now) x ahead.new.tokens.now)
         (λ fault. Stops end (read (transition (expression 0)) ahead.old.tokens.now) fault) }
 {
     if word_follows(ahead.tokens, Word::Join) {
-        let ends = termination(alloc, ahead, end)?;
-        return Ok(ends);
+        return termination(alloc, ahead, end);
     }
-    let leads = tested(alloc, ahead, end)?;
-    Ok(leads)
+    tested(alloc, ahead, end)
 }
 
 // Whether a transition is next.
@@ -255,40 +262,40 @@ fn transition_follows(tokens: &[Token]) -> bool
     word_follows(tokens, Word::Join) || tested_word_follows(tokens)
 }
 
-#[tactic(auto, using(crate::proofs::Pieces::transitions_go, crate::proofs::RowReading::going_ends, crate::proofs::RowReading::going_over, crate::proofs::RowReading::going_stops, crate::proofs::RowReading::going_on))]
 fn transitions(
     alloc: Global,
     ahead: &mut Ahead,
     end: usize,
-) -> Result<Items<DraftTransition>, ReadFault>
+    found: &mut Items<DraftTransition>,
+) -> Result<(), ReadFault>
     ensures { MatchResult result
-        (λ x. Gives (read (many (transition (expression 0))) ahead.old.tokens.now) x ahead.new.tokens.now)
+        (λ _. Fills (read (many (transition (expression 0))) ahead.old.tokens.now)
+        found.old found.new ahead.new.tokens.now)
         (λ fault. Stops end (read (many (transition (expression 0))) ahead.old.tokens.now) fault) }
 {
-    let mut found = Items::new(alloc);
     let most = ahead.tokens.len();
     for used in 0..most {
         if !transition_follows(ahead.tokens) {
-            return Ok(found);
+            return Ok(());
         }
         let next = transition(alloc, ahead, end)?;
         found.push(next)?;
     }
-    Ok(found)
+    Ok(())
 }
 
-/// The transitions of a state, up to the brace that closes it.
-#[tactic(auto, using(crate::proofs::Parts::before_stops_first, crate::proofs::Parts::before_stops_second, crate::proofs::Parts::before_gives), unfolding(crate::specs::ChartText::leaving))]
+/// Puts the transitions of a state behind others, up to the brace that closes it.
+#[tactic(auto, using(crate::proofs::Parts::before_stops_first), unfolding(crate::specs::ChartText::leaving))]
 pub(crate) fn leaving(
     alloc: Global,
     ahead: &mut Ahead,
     end: usize,
-) -> Result<Items<DraftTransition>, ReadFault>
+    found: &mut Items<DraftTransition>,
+) -> Result<(), ReadFault>
     ensures { MatchResult result
-        (λ x. Gives (read (leaving (expression 0)) ahead.old.tokens.now) x ahead.new.tokens.now)
+        (λ _. Fills (read (leaving (expression 0)) ahead.old.tokens.now) found.old found.new ahead.new.tokens.now)
         (λ fault. Stops end (read (leaving (expression 0)) ahead.old.tokens.now) fault) }
 {
-    let transitions = transitions(alloc, ahead, end)?;
-    skip_sign(ahead, end, Sign::CloseBrace)?;
-    Ok(transitions)
+    transitions(alloc, ahead, end, found)?;
+    skip_sign(ahead, end, Sign::CloseBrace)
 }

@@ -9,6 +9,7 @@ ghost use Rattle.core_charts.specs.Rules.{inner_depth_limit};
 ghost use Rattle.chart_drafts.specs.ChartText.{listed, declaration, region, braced, within, chart_text};
 ghost use Rattle.chart_drafts.specs.Reading.{IsDraft, IsDraftFault};
 ghost use Rattle.chart_drafts.specs.Phrase.{Gives};
+ghost use Rattle.chart_drafts.specs.Inside.{FillsBoth};
 
 use crate::ahead::{Ahead, skip_sign};
 use crate::draft::{DraftChart, DraftRegion};
@@ -27,14 +28,13 @@ pub(crate) const INNER_LEVELS: u8 = 31;
 /// The draft of a text: what its tokens spell by the grammar. Err: the first place where no token stands; else
 /// the first token that can't go on, or with which only charts go on that are nested too deep, or the end of the
 /// text, where none may end; or memory was refused.
-#[tactic(auto, using(crate::proofs::Drafting::scanned, crate::proofs::Drafting::drafted, crate::proofs::Drafting::stopped))]
+#[tactic(auto, using(crate::proofs::Drafting::scanned))]
 pub fn read_draft(alloc: Global, text: &str) -> Result<DraftChart, ReadFault>
     ensures ok { IfOk result (λ draft. IsDraft text.now draft) }
     ensures fault { IfErr result (λ fault. IsDraftFault text.now fault) }
 {
     let tokens = tokens(alloc, Language::Chart, text)?;
-    let draft = whole(alloc, tokens.as_slice(), text.len())?;
-    Ok(draft)
+    whole(alloc, tokens.as_slice(), text.len())
 }
 
 // A chart that ends where the tokens do.
@@ -52,14 +52,16 @@ fn whole(alloc: Global, tokens: &[Token], end: usize) -> Result<DraftChart, Read
     Ok(draft)
 }
 
-#[tactic(auto, using(crate::proofs::Nesting::chart_gives, crate::proofs::Nesting::title_stops, crate::proofs::Nesting::parts_stop))]
+#[tactic(auto, using(crate::proofs::Nesting::title_stops, crate::proofs::Nesting::parts_stop))]
 fn chart(alloc: Global, ahead: &mut Ahead, end: usize) -> Result<DraftChart, ReadFault>
     ensures { MatchResult result
         (λ x. Gives (read (chart_text 0) ahead.old.tokens.now) x ahead.new.tokens.now)
         (λ fault. Stops end (read (chart_text 0) ahead.old.tokens.now) fault) }
 {
     let named = title(ahead, end, Word::Chart)?;
-    let (variables, regions) = braced_parts(alloc, ahead, end)?;
+    let mut variables = Items::new(alloc);
+    let mut regions = Items::new(alloc);
+    braced_parts(alloc, ahead, end, &mut variables, &mut regions)?;
     Ok(DraftChart {
         named,
         variables,
@@ -67,43 +69,45 @@ fn chart(alloc: Global, ahead: &mut Ahead, end: usize) -> Result<DraftChart, Rea
     })
 }
 
-#[tactic(auto, using(crate::proofs::Parts::after_stops_first, crate::proofs::Nesting::braced_stops_inside, crate::proofs::Nesting::braced_stops_last, crate::proofs::Nesting::braced_gives))]
+#[tactic(auto, using(crate::proofs::Parts::after_stops_first, crate::proofs::Nesting::braced_stops_inside))]
 fn braced_parts(
     alloc: Global,
     ahead: &mut Ahead,
     end: usize,
-) -> Result<(Items<Declaration>, Items<DraftRegion>), ReadFault>
+    variables: &mut Items<Declaration>,
+    regions: &mut Items<DraftRegion>,
+) -> Result<(), ReadFault>
     ensures { MatchResult result
-        (λ x. Gives (read (braced (seq (many declaration)
+        (λ _. FillsBoth (read (braced (seq (many declaration)
         (listed (region (expression 0) (within (expression 0) inner_depth_limit))
         (region (expression 0) (within (expression 0) inner_depth_limit)))))
-        ahead.old.tokens.now) x ahead.new.tokens.now)
+        ahead.old.tokens.now) variables.old variables.new regions.old regions.new ahead.new.tokens.now)
         (λ fault. Stops end (read (braced (seq (many declaration)
         (listed (region (expression 0) (within (expression 0) inner_depth_limit))
         (region (expression 0) (within (expression 0) inner_depth_limit))))) ahead.old.tokens.now) fault) }
 {
     skip_sign(ahead, end, Sign::OpenBrace)?;
-    let (variables, regions) = parts(alloc, ahead, end)?;
-    skip_sign(ahead, end, Sign::CloseBrace)?;
-    Ok((variables, regions))
+    parts(alloc, ahead, end, variables, regions)?;
+    skip_sign(ahead, end, Sign::CloseBrace)
 }
 
-#[tactic(auto, using(crate::proofs::Parts::seq_stops_first, crate::proofs::Parts::seq_stops_second, crate::proofs::Parts::seq_gives))]
+#[tactic(auto, using(crate::proofs::Parts::seq_stops_first))]
 fn parts(
     alloc: Global,
     ahead: &mut Ahead,
     end: usize,
-) -> Result<(Items<Declaration>, Items<DraftRegion>), ReadFault>
+    variables: &mut Items<Declaration>,
+    found: &mut Items<DraftRegion>,
+) -> Result<(), ReadFault>
     ensures { MatchResult result
-        (λ x. Gives (read (seq (many declaration)
+        (λ _. FillsBoth (read (seq (many declaration)
         (listed (region (expression 0) (within (expression 0) inner_depth_limit))
         (region (expression 0) (within (expression 0) inner_depth_limit))))
-        ahead.old.tokens.now) x ahead.new.tokens.now)
+        ahead.old.tokens.now) variables.old variables.new found.old found.new ahead.new.tokens.now)
         (λ fault. Stops end (read (seq (many declaration)
         (listed (region (expression 0) (within (expression 0) inner_depth_limit))
         (region (expression 0) (within (expression 0) inner_depth_limit)))) ahead.old.tokens.now) fault) }
 {
-    let variables = declarations(alloc, ahead, end)?;
-    let regions = regions(alloc, INNER_LEVELS, ahead, end)?;
-    Ok((variables, regions))
+    declarations(ahead, end, variables)?;
+    regions(alloc, INNER_LEVELS, ahead, end, found)
 }

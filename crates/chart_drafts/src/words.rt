@@ -80,15 +80,14 @@ pub fn last_name(ahead: &mut Ahead, end: usize) -> Result<Named, ReadFault>
 }
 
 /// A word and the name behind it.
-#[tactic(auto, using(crate::proofs::Parts::after_stops_first, crate::proofs::Parts::after_stops_second, crate::proofs::Parts::after_gives))]
+#[tactic(auto, using(crate::proofs::Parts::after_stops_first))]
 pub fn title(ahead: &mut Ahead, end: usize, word: Word) -> Result<Named, ReadFault>
     ensures { MatchResult result
         (λ x. Gives (read (after (the_word word) name) ahead.old.tokens.now) x ahead.new.tokens.now)
         (λ fault. Stops end (read (after (the_word word) name) ahead.old.tokens.now) fault) }
 {
     skip_word(ahead, end, word)?;
-    let named = name(ahead, end)?;
-    Ok(named)
+    name(ahead, end)
 }
 
 /// What a variable is declared as.

@@ -1,21 +1,24 @@
-use Rattle.std.proofs.Common.{rules, ◌≡◌, true, refl}
+use Rattle.std.proofs.Common.{rules, ◌≡◌, true, false, refl}
 use Rattle.grammar.specs.Read.{read, starts}
 use Rattle.sc_text.specs.declared.read_fault.ReadFault.{ReadFault}
 use Rattle.sc_text.specs.declared.word.Word.TheVariants as word
+use Rattle.sc_text.specs.declared.sign.Sign.TheVariants as sign
 use Rattle.sc_text.specs.Expression.{text_tokens, expression}
 use Rattle.sc_text.specs.Reading.{Stops}
-use Rattle.chart_drafts.specs.ChartText.{the_word, listed, state_first, state, states, region, within}
-use Rattle.chart_drafts.proofs.Nesting.{regions_go, states_go}
-use Rattle.chart_drafts.proofs.RowReading.{going_ends, going_stops, going_on}
+use Rattle.chart_drafts.specs.Inside.{FillsBoth}
+use Rattle.chart_drafts.specs.ChartText.{the_word, the_sign, listed, state_first, state, states, region, within}
+use Rattle.chart_drafts.proofs.Nesting.{regions_fill, states_fill, inside_read, braced_fills, braced_fills_stops, bare_fills, bare_stops, nested_fills, leaving_stops}
+use Rattle.chart_drafts.proofs.Filling.{filling_ends, filling_over, filling_stops, filling_on}
+use Rattle.chart_drafts.proofs.Same.{reading_so, either_way}
 use Rattle.chart_drafts.proofs.regions.+regions.Goals as goal
 
 pub regions-loop-used-init : goal.regions-loop-used-init
-regions-loop-used-init t c = regions_go _ _ _ _ _ _ _ c.in_ok-first.ensures refl c.new-found.ensures c.in_ok-push.ensures.ok
+regions-loop-used-init t c = regions_fill _ _ _ _ _ _ _ c.in_ok-first.ensures refl c.in_ok-push.ensures.ok
 
 pub regions-returns-then-not-word_follows : goal.regions-returns-then-not-word_follows
 regions-returns-then-not-word_follows t c =
     let over = c.if-not-word_follows.true in
-    going_ends (region (expression 0) (within (expression 0) c.args.depth)) (the_word word.Region) _ _ _ _ c.loop-used.invariant
+    filling_ends (region (expression 0) (within (expression 0) c.args.depth)) (the_word word.Region) _ _ _ _ _ c.loop-used.invariant
     (search (rules, over, c.word_follows.ensures))
 
 pub regions-returns-in_err-next : goal.regions-returns-in_err-next
@@ -26,7 +29,7 @@ regions-returns-in_err-next t c =
     → Stops c.args.end (read
     (listed (region (expression 0) (within (expression 0) c.args.depth)) (region (expression 0) (within (expression 0) c.args.depth)))
     c.args.ahead.now.tokens.now) f =
-    λ f. going_stops (region (expression 0) (within (expression 0) c.args.depth)) (the_word word.Region) _ _ _ _ _ c.args.end f c.loop-used-test.true
+    λ f. filling_stops (region (expression 0) (within (expression 0) c.args.depth)) (the_word word.Region) _ _ _ _ _ _ c.args.end f c.loop-used-test.true
     c.loop-used.invariant more in
     search (rules, stops)
 
@@ -34,16 +37,16 @@ pub regions-loop-used-preserved : goal.regions-loop-used-preserved
 regions-loop-used-preserved t c =
     let on = c.if-not-word_follows.false in
     let more : starts text_tokens (the_word word.Region) c.loop-used.ahead.tokens.now ≡ true = search (rules, on, c.word_follows.ensures) in
-    going_on (region (expression 0) (within (expression 0) c.args.depth)) (the_word word.Region) _ _ _ _ _ _ _ _ c.loop-used-test.true c.loop-used.invariant
+    filling_on (region (expression 0) (within (expression 0) c.args.depth)) (the_word word.Region) _ _ _ _ _ _ _ _ _ c.loop-used-test.true c.loop-used.invariant
     more c.in_ok-next.ensures c.in_ok-push-2.ensures.ok
 
 pub states-loop-used-init : goal.states-loop-used-init
-states-loop-used-init t c = states_go _ _ _ _ _ _ _ c.in_ok-first.ensures refl c.new-found.ensures c.in_ok-push.ensures.ok
+states-loop-used-init t c = states_fill _ _ _ _ _ _ _ c.in_ok-first.ensures refl c.in_ok-push.ensures.ok
 
 pub states-returns-then-not-state_follows : goal.states-returns-then-not-state_follows
 states-returns-then-not-state_follows t c =
     let over = c.if-not-state_follows.true in
-    going_ends (state (expression 0) (within (expression 0) c.args.depth)) state_first _ _ _ _ c.loop-used.invariant
+    filling_ends (state (expression 0) (within (expression 0) c.args.depth)) state_first _ _ _ _ _ c.loop-used.invariant
     (search (rules, over, c.state_follows.ensures))
 
 pub states-returns-in_err-next : goal.states-returns-in_err-next
@@ -52,7 +55,8 @@ states-returns-in_err-next t c =
     let more : starts text_tokens state_first c.loop-used.ahead.tokens.now ≡ true = search (rules, on, c.state_follows.ensures) in
     let stops : (f : ReadFault) → Stops c.args.end (read (state (expression 0) (within (expression 0) c.args.depth)) c.loop-used.ahead.tokens.now) f
     → Stops c.args.end (read (states (expression 0) (within (expression 0) c.args.depth)) c.args.ahead.now.tokens.now) f =
-    λ f. going_stops (state (expression 0) (within (expression 0) c.args.depth)) state_first _ _ _ _ _ c.args.end f c.loop-used-test.true c.loop-used.invariant
+    λ f. filling_stops (state (expression 0) (within (expression 0) c.args.depth)) state_first _ _ _ _ _ _ c.args.end f c.loop-used-test.true
+    c.loop-used.invariant
     more in
     search (rules, stops)
 
@@ -60,5 +64,43 @@ pub states-loop-used-preserved : goal.states-loop-used-preserved
 states-loop-used-preserved t c =
     let on = c.if-not-state_follows.false in
     let more : starts text_tokens state_first c.loop-used.ahead.tokens.now ≡ true = search (rules, on, c.state_follows.ensures) in
-    going_on (state (expression 0) (within (expression 0) c.args.depth)) state_first _ _ _ _ _ _ _ _ c.loop-used-test.true c.loop-used.invariant more
+    filling_on (state (expression 0) (within (expression 0) c.args.depth)) state_first _ _ _ _ _ _ _ _ _ c.loop-used-test.true c.loop-used.invariant more
     c.in_ok-next.ensures c.in_ok-push-2.ensures.ok
+
+pub regions-returns : goal.regions-returns
+regions-returns t c =
+    filling_over (region (expression 0) (within (expression 0) c.args.depth)) (the_word word.Region) _ _ _ _ _ _ c.loop-used-test.false c.loop-used.invariant
+
+pub states-returns : goal.states-returns
+states-returns t c =
+    filling_over (state (expression 0) (within (expression 0) c.args.depth)) state_first _ _ _ _ _ _ c.loop-used-test.false c.loop-used.invariant
+
+pub braced_states-returns : goal.braced_states-returns
+braced_states-returns t c =
+    either_way _ c.skip_sign-2.ensures
+    (λ x. braced_fills (states (expression 0) (within (expression 0) c.args.depth)) c.args.ahead.now.tokens.now _ _ _ _ c.in_ok-skip_sign.ensures
+    c.in_ok-states.ensures _)
+    (λ f. braced_fills_stops (states (expression 0) (within (expression 0) c.args.depth)) c.args.ahead.now.tokens.now _ _ _ _ c.in_ok-skip_sign.ensures
+    c.in_ok-states.ensures _ f)
+
+pub body-returns : goal.body-returns
+body-returns t c =
+    let on = c.if-sign_follows.false in
+    let braced : starts text_tokens (the_sign sign.Semicolon) c.args.ahead.now.tokens.now ≡ false = search (rules, on, c.sign_follows.ensures) in
+    reading_so (λ o. FillsBoth o c.args.regions.now c.inside.new.found c.args.transitions.now c.inside.new.transitions c.inside.new.ahead.tokens.now) _ _
+    c.args.end _ (inside_read c.args.depth c.args.ahead.now.tokens.now _ braced c.in_ok-skip_sign.ensures)
+    c.inside.ensures
+
+pub inside-returns-then-not-word_follows : goal.inside-returns-then-not-word_follows
+inside-returns-then-not-word_follows t c =
+    let over = c.if-not-word_follows.true in
+    let bare : starts text_tokens (the_word word.Region) c.args.ahead.now.tokens.now ≡ false = search (rules, over, c.word_follows.ensures) in
+    either_way _ c.leaving.ensures (λ x. bare_fills _ _ _ _ _ _ bare) (λ f. bare_stops _ _ _ f bare)
+
+pub inside-returns : goal.inside-returns
+inside-returns t c =
+    let on = c.if-not-word_follows.false in
+    let begins : starts text_tokens (the_word word.Region) c.args.ahead.now.tokens.now ≡ true = search (rules, on, c.word_follows.ensures) in
+    let some = c.if-depth-eq0.false in
+    either_way _ c.leaving-2.ensures (λ x. nested_fills _ _ _ _ _ begins some c.in_ok-regions.ensures _ _ _)
+    (λ f. leaving_stops _ _ _ _ _ begins some c.in_ok-regions.ensures _ f)

@@ -3,7 +3,7 @@ use Rattle.grammar.specs.Read.{read}
 use Rattle.sc_text.specs.declared.word.Word.TheVariants as word
 use Rattle.sc_text.specs.Expression.{expression}
 use Rattle.chart_drafts.specs.ChartText.{the_word, listed, state_first, state, states, region, within}
-use Rattle.chart_drafts.specs.PartsRead.{IsGoing}
+use Rattle.chart_drafts.specs.Inside.{IsFilling}
 use Rattle.chart_drafts.proofs.regions.+regions.Given as goal
 
 abbrev pub decreases-regions : goal.decreases-regions
@@ -29,10 +29,11 @@ decreases-inside l = 8 * l.depth
 
 abbrev pub invariant-regions-loop-used : goal.invariant-regions-loop-used
 invariant-regions-loop-used l =
-    IsGoing (read (listed (region (expression 0) (within (expression 0) l.fn.depth)) (region (expression 0) (within (expression 0) l.fn.depth)))
-    l.fn.ahead.tokens.now) (region (expression 0) (within (expression 0) l.fn.depth)) (the_word word.Region) l.found (l.most - l.used) l.ahead.tokens.now
+    IsFilling (read (listed (region (expression 0) (within (expression 0) l.fn.depth)) (region (expression 0) (within (expression 0) l.fn.depth)))
+    l.fn.ahead.tokens.now) (region (expression 0) (within (expression 0) l.fn.depth)) (the_word word.Region) l.fn.found l.found (l.most - l.used)
+    l.ahead.tokens.now
 
 abbrev pub invariant-states-loop-used : goal.invariant-states-loop-used
 invariant-states-loop-used l =
-    IsGoing (read (states (expression 0) (within (expression 0) l.fn.depth)) l.fn.ahead.tokens.now) (state (expression 0) (within (expression 0) l.fn.depth))
-    state_first l.found (l.most - l.used) l.ahead.tokens.now
+    IsFilling (read (states (expression 0) (within (expression 0) l.fn.depth)) l.fn.ahead.tokens.now) (state (expression 0) (within (expression 0) l.fn.depth))
+    state_first l.fn.found l.found (l.most - l.used) l.ahead.tokens.now

@@ -3,10 +3,10 @@ use Rattle.grammar.specs.Read.{read}
 use Rattle.sc_text.specs.declared.sign.Sign.TheVariants as sign
 use Rattle.sc_text.specs.Expression.{expression}
 use Rattle.chart_drafts.specs.ChartText.{the_sign, next_effect, some_effects}
-use Rattle.chart_drafts.specs.PartsRead.{IsGoing}
-use Rattle.chart_drafts.proofs.transitions.some_effects.Given as goal
+use Rattle.chart_drafts.specs.Inside.{IsFilling}
+use Rattle.chart_drafts.proofs.transitions.put_effects.Given as goal
 
 abbrev pub invariant-loop-used : goal.invariant-loop-used
 invariant-loop-used l =
-    IsGoing (read (some_effects (expression 0)) l.fn.ahead.tokens.now) (next_effect (expression 0)) (the_sign sign.Comma) l.found
+    IsFilling (read (some_effects (expression 0)) l.fn.ahead.tokens.now) (next_effect (expression 0)) (the_sign sign.Comma) l.fn.found l.found
     (l.most - l.used) l.ahead.tokens.now

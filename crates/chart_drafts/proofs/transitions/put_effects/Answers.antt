@@ -5,17 +5,17 @@ use Rattle.sc_text.specs.declared.sign.Sign.TheVariants as sign
 use Rattle.sc_text.specs.Expression.{text_tokens, expression}
 use Rattle.sc_text.specs.Reading.{Stops}
 use Rattle.chart_drafts.specs.ChartText.{the_sign, next_effect, some_effects}
-use Rattle.chart_drafts.proofs.Pieces.{effects_go}
-use Rattle.chart_drafts.proofs.RowReading.{going_ends, going_stops, going_on}
-use Rattle.chart_drafts.proofs.transitions.some_effects.Goals as goal
+use Rattle.chart_drafts.proofs.Pieces.{effects_fill}
+use Rattle.chart_drafts.proofs.Filling.{filling_ends, filling_over, filling_stops, filling_on}
+use Rattle.chart_drafts.proofs.transitions.put_effects.Goals as goal
 
 pub loop-used-init : goal.loop-used-init
-loop-used-init c = effects_go _ _ _ _ _ _ c.in_ok-first.ensures refl c.new-found.ensures c.in_ok-push.ensures.ok
+loop-used-init c = effects_fill _ _ _ _ _ _ c.in_ok-first.ensures refl c.in_ok-push.ensures.ok
 
 pub returns-then-not-sign_follows : goal.returns-then-not-sign_follows
 returns-then-not-sign_follows c =
     let over = c.if-not-sign_follows.true in
-    going_ends (next_effect (expression 0)) (the_sign sign.Comma) _ _ _ _ c.loop-used.invariant (search (rules, over, c.sign_follows.ensures))
+    filling_ends (next_effect (expression 0)) (the_sign sign.Comma) _ _ _ _ _ c.loop-used.invariant (search (rules, over, c.sign_follows.ensures))
 
 pub returns-in_err-next : goal.returns-in_err-next
 returns-in_err-next c =
@@ -23,12 +23,15 @@ returns-in_err-next c =
     let more : starts text_tokens (the_sign sign.Comma) c.loop-used.ahead.tokens.now ≡ true = search (rules, on, c.sign_follows.ensures) in
     let stops : (f : ReadFault) → Stops c.args.end (read (next_effect (expression 0)) c.loop-used.ahead.tokens.now) f
     → Stops c.args.end (read (some_effects (expression 0)) c.args.ahead.now.tokens.now) f =
-    λ f. going_stops (next_effect (expression 0)) (the_sign sign.Comma) _ _ _ _ _ c.args.end f c.loop-used-test.true c.loop-used.invariant more in
+    λ f. filling_stops (next_effect (expression 0)) (the_sign sign.Comma) _ _ _ _ _ _ c.args.end f c.loop-used-test.true c.loop-used.invariant more in
     search (rules, stops)
 
 pub loop-used-preserved : goal.loop-used-preserved
 loop-used-preserved c =
     let on = c.if-not-sign_follows.false in
     let more : starts text_tokens (the_sign sign.Comma) c.loop-used.ahead.tokens.now ≡ true = search (rules, on, c.sign_follows.ensures) in
-    going_on (next_effect (expression 0)) (the_sign sign.Comma) _ _ _ _ _ _ _ _ c.loop-used-test.true c.loop-used.invariant more c.in_ok-next.ensures
+    filling_on (next_effect (expression 0)) (the_sign sign.Comma) _ _ _ _ _ _ _ _ _ c.loop-used-test.true c.loop-used.invariant more c.in_ok-next.ensures
     c.in_ok-push-2.ensures.ok
+
+pub returns : goal.returns
+returns c = filling_over (next_effect (expression 0)) (the_sign sign.Comma) _ _ _ _ _ _ c.loop-used-test.false c.loop-used.invariant

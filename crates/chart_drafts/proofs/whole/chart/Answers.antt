@@ -1,0 +1,8 @@
+use Rattle.chart_drafts.proofs.Nesting.{chart_gives}
+use Rattle.chart_drafts.proofs.whole.chart.Goals as goal
+
+pub returns : goal.returns
+returns c =
+    chart_gives c.args.ahead.now.tokens.now c.title.new.ahead.tokens.now c.braced_parts.new.ahead.tokens.now c.in_ok-named.named c.new-variables.result
+    c.braced_parts.new.variables c.new-regions.result c.braced_parts.new.regions c.in_ok-named.ensures c.in_ok-braced_parts.ensures c.new-variables.ensures
+    c.new-regions.ensures

@@ -1,0 +1,15 @@
+use Rattle.grammar.specs.Grammar.{many}
+use Rattle.core_charts.specs.Rules.{inner_depth_limit}
+use Rattle.chart_drafts.specs.ChartText.{declaration}
+use Rattle.chart_drafts.proofs.Filling.{seq_fills, seq_fills_stops}
+use Rattle.chart_drafts.proofs.Nesting.{regions_of}
+use Rattle.chart_drafts.proofs.Same.{either_way}
+use Rattle.chart_drafts.proofs.whole.parts.Goals as goal
+
+pub returns : goal.returns
+returns c =
+    either_way _ c.regions.ensures
+    (λ x. seq_fills (many declaration) (regions_of inner_depth_limit) c.args.ahead.now.tokens.now c.declarations.new.ahead.tokens.now c.args.variables.now
+    c.declarations.new.found c.in_ok-declarations.ensures c.regions.new.ahead.tokens.now c.args.found.now c.regions.new.found)
+    (λ f. seq_fills_stops (many declaration) (regions_of inner_depth_limit) c.args.ahead.now.tokens.now c.declarations.new.ahead.tokens.now
+    c.args.variables.now c.declarations.new.found c.in_ok-declarations.ensures c.args.end f)
