@@ -72,15 +72,14 @@ fn parameter(ahead: &mut Ahead, end: usize) -> Result<Parameter, ReadFault>
     })
 }
 
-#[tactic(auto, using(chart_drafts::proofs::Parts::after_stops_first, chart_drafts::proofs::Parts::after_stops_second, chart_drafts::proofs::Parts::after_gives), unfolding(crate::specs::Phrases::next_parameter))]
+#[tactic(auto, using(chart_drafts::proofs::Parts::after_stops_first), unfolding(crate::specs::Phrases::next_parameter))]
 fn next_parameter(ahead: &mut Ahead, end: usize) -> Result<Parameter, ReadFault>
     ensures { MatchResult result
         (λ x. Gives (read next_parameter ahead.old.tokens.now) x ahead.new.tokens.now)
         (λ fault. Stops end (read next_parameter ahead.old.tokens.now) fault) }
 {
     skip_sign(ahead, end, Sign::Comma)?;
-    let next = parameter(ahead, end)?;
-    Ok(next)
+    parameter(ahead, end)
 }
 
 #[tactic(auto, using(crate::proofs::HeadParts::parameters_go, crate::proofs::HeadParts::no_first_parameter, chart_drafts::proofs::RowReading::going_ends, chart_drafts::proofs::RowReading::going_over, chart_drafts::proofs::RowReading::going_stops, chart_drafts::proofs::RowReading::going_on))]
@@ -108,7 +107,7 @@ fn some_parameters(
 }
 
 // The parameters, or none where none is next.
-#[tactic(auto, using(crate::proofs::HeadParts::parameters_missing, crate::proofs::HeadParts::parameters_there, crate::proofs::HeadParts::parameters_stop))]
+#[tactic(auto, using(crate::proofs::HeadParts::parameters_missing))]
 fn parameters(alloc: Global, ahead: &mut Ahead, end: usize) -> Result<Items<Parameter>, ReadFault>
     ensures { MatchResult result
         (λ x. Gives (read parameters ahead.old.tokens.now) x ahead.new.tokens.now)
@@ -117,8 +116,7 @@ fn parameters(alloc: Global, ahead: &mut Ahead, end: usize) -> Result<Items<Para
     if !parameter_follows(ahead.tokens) {
         return Ok(Items::new(alloc));
     }
-    let parameters = some_parameters(alloc, ahead, end)?;
-    Ok(parameters)
+    some_parameters(alloc, ahead, end)
 }
 
 #[tactic(auto, using(chart_drafts::proofs::Parts::before_stops_first, chart_drafts::proofs::Parts::before_stops_second, chart_drafts::proofs::Parts::before_gives), unfolding(crate::specs::Phrases::last_parameters))]
@@ -136,7 +134,7 @@ fn last_parameters(
     Ok(parameters)
 }
 
-#[tactic(auto, using(chart_drafts::proofs::Parts::after_stops_first, chart_drafts::proofs::Parts::after_stops_second, chart_drafts::proofs::Parts::after_gives), unfolding(crate::specs::Phrases::all_parameters))]
+#[tactic(auto, using(chart_drafts::proofs::Parts::after_stops_first), unfolding(crate::specs::Phrases::all_parameters))]
 fn all_parameters(
     alloc: Global,
     ahead: &mut Ahead,
@@ -147,8 +145,7 @@ fn all_parameters(
         (λ fault. Stops end (read all_parameters ahead.old.tokens.now) fault) }
 {
     skip_sign(ahead, end, Sign::OpenParenthesis)?;
-    let parameters = last_parameters(alloc, ahead, end)?;
-    Ok(parameters)
+    last_parameters(alloc, ahead, end)
 }
 
 #[tactic(auto, using(crate::proofs::HeadParts::head_gives, chart_drafts::proofs::Parts::made_stops, chart_drafts::proofs::Parts::seq_stops_first, chart_drafts::proofs::Parts::seq_stops_second), unfolding(crate::specs::Phrases::head))]

@@ -61,15 +61,14 @@ fn argument(ahead: &mut Ahead, end: usize) -> Result<Token, ReadFault>
     }
 }
 
-#[tactic(auto, using(chart_drafts::proofs::Parts::after_stops_first, chart_drafts::proofs::Parts::after_stops_second, chart_drafts::proofs::Parts::after_gives), unfolding(crate::specs::Phrases::next_argument))]
+#[tactic(auto, using(chart_drafts::proofs::Parts::after_stops_first), unfolding(crate::specs::Phrases::next_argument))]
 fn next_argument(ahead: &mut Ahead, end: usize) -> Result<Token, ReadFault>
     ensures { MatchResult result
         (λ x. Gives (read next_argument ahead.old.tokens.now) x ahead.new.tokens.now)
         (λ fault. Stops end (read next_argument ahead.old.tokens.now) fault) }
 {
     skip_sign(ahead, end, Sign::Comma)?;
-    let next = argument(ahead, end)?;
-    Ok(next)
+    argument(ahead, end)
 }
 
 #[tactic(auto, using(crate::proofs::UseParts::arguments_go, crate::proofs::UseParts::no_first_argument, chart_drafts::proofs::RowReading::going_ends, chart_drafts::proofs::RowReading::going_over, chart_drafts::proofs::RowReading::going_stops, chart_drafts::proofs::RowReading::going_on))]
@@ -93,7 +92,7 @@ fn some_arguments(alloc: Global, ahead: &mut Ahead, end: usize) -> Result<Items<
 }
 
 // The arguments, or none where none is next.
-#[tactic(auto, using(crate::proofs::UseParts::arguments_missing, crate::proofs::UseParts::arguments_there, crate::proofs::UseParts::arguments_stop))]
+#[tactic(auto, using(crate::proofs::UseParts::arguments_missing))]
 fn arguments(alloc: Global, ahead: &mut Ahead, end: usize) -> Result<Items<Token>, ReadFault>
     ensures { MatchResult result
         (λ x. Gives (read arguments ahead.old.tokens.now) x ahead.new.tokens.now)
@@ -102,8 +101,7 @@ fn arguments(alloc: Global, ahead: &mut Ahead, end: usize) -> Result<Items<Token
     if !argument_follows(ahead.tokens) {
         return Ok(Items::new(alloc));
     }
-    let arguments = some_arguments(alloc, ahead, end)?;
-    Ok(arguments)
+    some_arguments(alloc, ahead, end)
 }
 
 #[tactic(auto, using(chart_drafts::proofs::Parts::before_stops_first, chart_drafts::proofs::Parts::before_stops_second, chart_drafts::proofs::Parts::before_gives), unfolding(crate::specs::Phrases::last_arguments))]
@@ -117,15 +115,14 @@ fn last_arguments(alloc: Global, ahead: &mut Ahead, end: usize) -> Result<Items<
     Ok(arguments)
 }
 
-#[tactic(auto, using(chart_drafts::proofs::Parts::after_stops_first, chart_drafts::proofs::Parts::after_stops_second, chart_drafts::proofs::Parts::after_gives), unfolding(crate::specs::Phrases::all_arguments))]
+#[tactic(auto, using(chart_drafts::proofs::Parts::after_stops_first), unfolding(crate::specs::Phrases::all_arguments))]
 fn all_arguments(alloc: Global, ahead: &mut Ahead, end: usize) -> Result<Items<Token>, ReadFault>
     ensures { MatchResult result
         (λ x. Gives (read all_arguments ahead.old.tokens.now) x ahead.new.tokens.now)
         (λ fault. Stops end (read all_arguments ahead.old.tokens.now) fault) }
 {
     skip_sign(ahead, end, Sign::OpenParenthesis)?;
-    let arguments = last_arguments(alloc, ahead, end)?;
-    Ok(arguments)
+    last_arguments(alloc, ahead, end)
 }
 
 /// A use behind its word, with the semicolon that ends it.
