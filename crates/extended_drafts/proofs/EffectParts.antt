@@ -17,11 +17,12 @@ use Rattle.drafts.specs.declared.parts.TextExpression.{TextExpression}
 use Rattle.drafts.specs.Parts.{or_none}
 use Rattle.chart_drafts.specs.declared.draft.DraftEffect.{DraftEffect}
 use Rattle.chart_drafts.specs.ChartText.{Grows, the_word, the_sign, name, placed}
-use Rattle.chart_drafts.specs.PartsRead.{IsGoing}
+use Rattle.extended_drafts.specs.Inside.{IsPutting, put_one}
+use Rattle.extended_drafts.proofs.Putting.{put_first, one_put}
 use Rattle.chart_drafts.specs.Phrase.{Gives}
 use Rattle.chart_drafts.proofs.Parts.{seq_gives, made_gives, made_stops, maybe_none, left_read}
 use Rattle.chart_drafts.proofs.Parts.{right_read, gives_as}
-use Rattle.chart_drafts.proofs.RowReading.{listed_goes, listed_stops}
+use Rattle.chart_drafts.proofs.RowReading.{listed_stops}
 use Rattle.extended_drafts.specs.declared.draft.CompoundSign.{CompoundSign}
 use Rattle.extended_drafts.specs.declared.draft.EffectEnd.{EffectEnd}
 use Rattle.extended_drafts.specs.declared.draft.EffectEnd.TheVariants as ends
@@ -29,7 +30,7 @@ use Rattle.extended_drafts.specs.Draft.{combination, effect_with}
 use Rattle.extended_drafts.specs.ExtendedText.{combining_signs, combiner, equals, combining, to_combination, combined}
 use Rattle.extended_drafts.specs.ExtendedText.{to_value, to_name, becoming, emitting, effect_end, effect, next_effect, some_effects, effects}
 use Rattle.extended_drafts.proofs.Shapes.{becoming_is, combined_is, next_effect_is}
-use Rattle.extended_drafts.proofs.Same.{after_read}
+use Rattle.chart_drafts.proofs.Same.{after_read}
 
 abbrev e0 : Grows Phrase
 e0 = expression 0
@@ -107,12 +108,13 @@ effect_gives text a rest n b x p q e =
 
 -- ---- effects
 
-pub effects_go : (text rest : List Token) (x : DraftEffect) (most : ℕ) (none found : List DraftEffect) → Gives (read (effect e0) text) x rest
-    → most ≡ length rest → none ≡ [] → found ≡ none ++ x ∷ [] → IsGoing (read (some_effects e0) text) (next_effect e0) (the_sign sign.Comma) found
+pub effects_put : (text rest : List Token) (x : DraftEffect) (most : ℕ) (old found : List DraftEffect) → Gives (read (effect e0) text) x rest
+    → most ≡ length rest → found ≡ old ++ x ∷ [] → IsPutting (read (some_effects e0) text) (next_effect e0) (the_sign sign.Comma) put_one old found
     (most - 0) rest
 unfolding some_effects
-effects_go text rest x left none found r e n f =
-    listed_goes (next_effect e0) (the_sign sign.Comma) (next_effect_is e0 (expression_is 0)).begins (effect e0) text rest x left none found r e n f
+effects_put text rest x most old found r e f =
+    put_first put_one (next_effect e0) (the_sign sign.Comma) (next_effect_is e0 (expression_is 0)).begins (effect e0) text rest most old found
+    (one_put (read (effect e0) text) x rest old found r f) e
 
 pub no_first_effect : (text : List Token) (end : ℕ) (f : ReadFault) → Stops end (read (effect e0) text) f → Stops end (read (some_effects e0) text) f
 unfolding some_effects

@@ -16,11 +16,11 @@ use Rattle.sc_text.proofs.Steps.{one_taken, stops_as}
 use Rattle.drafts.specs.declared.parts.Named.{Named}
 use Rattle.drafts.specs.declared.parts.TextExpression.{TextExpression}
 use Rattle.chart_drafts.specs.ChartText.{Grows, the_sign, roles, declared_role, declared_kind, name, last_name, placed}
-use Rattle.chart_drafts.specs.PartsRead.{IsGoing}
+use Rattle.extended_drafts.specs.Inside.{IsPutting, put_one}
 use Rattle.chart_drafts.specs.Phrase.{Gives}
 use Rattle.chart_drafts.proofs.Parts.{seq_gives, made_gives, made_stops, after_gives, after_stops_second, maybe_none, maybe_some, maybe_stops, left_read}
 use Rattle.chart_drafts.proofs.Parts.{right_read, gives_as}
-use Rattle.chart_drafts.proofs.RowReading.{many_goes}
+use Rattle.extended_drafts.proofs.Putting.{put_none}
 use Rattle.extended_drafts.specs.declared.draft.ItemBody.{ItemBody}
 use Rattle.extended_drafts.specs.declared.draft.DraftItem.{DraftItem}
 use Rattle.extended_drafts.specs.Draft.{typed_body, signal_body, plain_item, worded_item}
@@ -119,6 +119,6 @@ module _ (text : List Token) where
   unfolding item
   is_worded e = right_read (plain e0) roles (plain_is e0 (expression_is 0)).begins text (worded e0) e
 
-pub items_go : (text : List Token) (most : ℕ) (found : List DraftItem) → most ≡ length text → found ≡ []
-    → IsGoing (read (many (item e0)) text) (item e0) item_first found (most - 0) text
-items_go text most found e f = many_goes (item e0) item_first (item_is e0 (expression_is 0)).begins text most found e f
+pub items_put : (text : List Token) (most : ℕ) (old : List DraftItem) → most ≡ length text
+    → IsPutting (read (many (item e0)) text) (item e0) item_first put_one old old (most - 0) text
+items_put text most old e = put_none put_one (item e0) item_first (item_is e0 (expression_is 0)).begins text most old e

@@ -1,6 +1,6 @@
 pub mod Shapes
 pub mod Deepens
-pub mod Gathering
+pub mod Putting
 pub mod ItemParts
 pub mod EffectParts
 pub mod Pieces
@@ -10,6 +10,5 @@ pub mod Told
 pub mod Checking
 pub mod ShapedDrafts
 pub mod Leads
-pub mod Same
 pub mod SimplePlaces
 pub mod Histories

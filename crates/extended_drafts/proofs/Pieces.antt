@@ -19,20 +19,19 @@ use Rattle.chart_drafts.specs.declared.draft.DraftEffect.{DraftEffect}
 use Rattle.chart_drafts.specs.declared.draft.DraftTransition.{DraftTransition}
 use Rattle.chart_drafts.specs.Draft.{transition_of}
 use Rattle.chart_drafts.specs.ChartText.{Grows, the_word, name, flag, placed, moment, tested_words, trigger, transition_first}
-use Rattle.chart_drafts.specs.PartsRead.{IsGoing}
 use Rattle.chart_drafts.specs.Phrase.{Gives}
 use Rattle.chart_drafts.proofs.Parts.{seq_gives, made_gives, made_stops, maybe_none, maybe_some, maybe_stops, left_read}
 use Rattle.chart_drafts.proofs.Parts.{right_read, gives_as}
-use Rattle.chart_drafts.proofs.RowReading.{many_goes}
 use Rattle.extended_drafts.specs.declared.draft.DraftEntry.{DraftEntry}
 use Rattle.extended_drafts.specs.declared.draft.DraftCount.{DraftCount}
 use Rattle.extended_drafts.specs.declared.draft.DraftDelay.{DraftDelay}
 use Rattle.extended_drafts.specs.declared.draft.DraftLead.{DraftLead}
 use Rattle.extended_drafts.specs.declared.draft.DraftWay.{DraftWay}
-use Rattle.extended_drafts.specs.Draft.{entry_of, count_of, delay_of, hold_of, or_next, way_of, delayed, ended, parted}
+use Rattle.extended_drafts.specs.Draft.{entry_of, count_of, delay_of, hold_of, or_next, way_of, delayed, ended}
 use Rattle.extended_drafts.specs.ExtendedText.{outcome, last_effects, entry, entry_first, some_count, counted, some_delay, at_once, waiting, pause}
 use Rattle.extended_drafts.specs.ExtendedText.{pause_first, tested, termination, transition}
-use Rattle.extended_drafts.specs.Inside.{IsGathering}
+use Rattle.extended_drafts.specs.Inside.{IsPutting, put_one, put_way}
+use Rattle.extended_drafts.proofs.Putting.{put_none}
 use Rattle.extended_drafts.proofs.Shapes.{entry_is, some_count_is, at_once_is, either_is, termination_is, transition_is}
 
 abbrev e0 : Grows Phrase
@@ -50,9 +49,9 @@ entry_gives text a b c rest i n t d x y z w =
     (seq_gives (flag word.Immediate) (seq name (seq (trigger e0) outcomes)) text a rest i (n, (t, d)) x
     (seq_gives name (seq (trigger e0) outcomes) a b rest n (t, d) y (seq_gives (trigger e0) outcomes b c rest t d z w)))
 
-pub entries_go : (text : List Token) (most : ℕ) (found : List DraftEntry) → most ≡ length text → found ≡ []
-    → IsGoing (read (many (entry e0)) text) (entry e0) entry_first found (most - 0) text
-entries_go text most found e f = many_goes (entry e0) entry_first (entry_is e0 (expression_is 0)).begins text most found e f
+pub entries_put : (text : List Token) (most : ℕ) (old : List DraftEntry) → most ≡ length text
+    → IsPutting (read (many (entry e0)) text) (entry e0) entry_first put_one old old (most - 0) text
+entries_put text most old e = put_none put_one (entry e0) entry_first (entry_is e0 (expression_is 0)).begins text most old e
 
 -- ---- what transitions wait
 
@@ -184,11 +183,6 @@ module _ (text : List Token) where
   unfolding transition
   is_tested e = right_read (termination e0) (the_word word.Join) (termination_is e0 (expression_is 0)).begins text (tested e0) e
 
-  pub transitions_go : (most : ℕ) (found : List DraftTransition) (ways : List DraftWay) → most ≡ length text → found ≡ [] → ways ≡ []
-      → IsGathering (read (many (transition e0)) text) (transition e0) transition_first parted (found, ways) (most - 0) text
-  transitions_go most found ways e f g =
-      record {
-        found = [];
-        going = many_goes (transition e0) transition_first (transition_is e0 (expression_is 0)).begins text most [] e refl;
-        is = ap (λ l. (l, ways)) f ∙ ap (λ l. ([], l)) g;
-      }
+  pub transitions_put : (most : ℕ) (old : List DraftTransition × List DraftWay) → most ≡ length text
+      → IsPutting (read (many (transition e0)) text) (transition e0) transition_first put_way old old (most - 0) text
+  transitions_put most old e = put_none put_way (transition e0) transition_first (transition_is e0 (expression_is 0)).begins text most old e

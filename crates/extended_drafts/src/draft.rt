@@ -7,7 +7,7 @@ use sqlite_items::Items;
 
 /// What is declared behind the first word of an item. A signal has the word before its name instead of a kind, and is a
 /// truth value.
-#[derive(Debug, Drop)]
+#[derive(Drop)]
 pub struct ItemBody {
     pub kind: Kind,
     pub signal: Option<Named>,
@@ -26,7 +26,7 @@ pub struct DraftItem {
 }
 
 /// An operator and the `=` behind it, with their places, and the right operand.
-#[derive(Debug, Drop)]
+#[derive(Drop)]
 pub struct CompoundSign {
     pub operator: BinaryOperator,
     pub at: usize,
@@ -36,7 +36,7 @@ pub struct CompoundSign {
 
 /// What stands behind the first name of an effect: what it becomes, what it is combined with, or a name, before which
 /// it is a word.
-#[derive(Debug, Drop)]
+#[derive(Drop)]
 pub enum EffectEnd {
     Value(TextExpression),
     Combined(CompoundSign),
@@ -84,7 +84,7 @@ pub struct HistoryWords {
 }
 
 /// Where a transition leads, and the words before that where it is entered by its history.
-#[derive(Clone, Copy, Debug)]
+#[derive(Clone, Copy)]
 pub struct DraftLead {
     pub history: Option<HistoryWords>,
     pub target: Named,
@@ -106,7 +106,7 @@ pub struct DraftRows {
 }
 
 /// What is in a state behind its actions: its regions with their rows, its transitions, and what is new of these.
-#[derive(Debug, Drop)]
+#[derive(Drop)]
 pub struct StateBody {
     pub regions: Items<DraftRegion>,
     pub rows: DraftRows,

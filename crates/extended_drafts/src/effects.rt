@@ -5,6 +5,7 @@ ghost use Rattle.grammar.specs.Read.{read, starts};
 ghost use Rattle.sc_text.specs.Expression.{text_tokens, expression};
 ghost use Rattle.sc_text.specs.Reading.{Stops};
 ghost use Rattle.chart_drafts.specs.Phrase.{Gives};
+ghost use Rattle.extended_drafts.specs.Inside.{Puts, put_list};
 ghost use Rattle.extended_drafts.specs.Draft.{emitted, combined_by, combined, effect_with};
 ghost use Rattle.extended_drafts.specs.ExtendedText.{combining_signs, combiner, equals, combining};
 ghost use Rattle.extended_drafts.specs.ExtendedText.{effect_end, effect, next_effect, some_effects, effects, outcome};
@@ -188,7 +189,7 @@ fn next_effect(alloc: Global, ahead: &mut Ahead, end: usize) -> Result<DraftEffe
 }
 
 /// The effects behind the word `do`.
-#[tactic(auto, using(crate::proofs::EffectParts::effects_go, crate::proofs::EffectParts::no_first_effect, chart_drafts::proofs::RowReading::going_ends, chart_drafts::proofs::RowReading::going_over, chart_drafts::proofs::RowReading::going_stops, chart_drafts::proofs::RowReading::going_on))]
+#[tactic(auto, using(crate::proofs::Putting::put_alone))]
 pub(crate) fn some_effects(
     alloc: Global,
     ahead: &mut Ahead,
@@ -199,17 +200,33 @@ pub(crate) fn some_effects(
         (λ fault. Stops end (read (some_effects (expression 0)) ahead.old.tokens.now) fault) }
 {
     let mut found = Items::new(alloc);
+    put_effects(alloc, ahead, end, &mut found)?;
+    Ok(found)
+}
+
+#[tactic(auto, using(crate::proofs::EffectParts::no_first_effect))]
+fn put_effects(
+    alloc: Global,
+    ahead: &mut Ahead,
+    end: usize,
+    found: &mut Items<DraftEffect>,
+) -> Result<(), ReadFault>
+    ensures { MatchResult result
+        (λ _. Puts (read (some_effects (expression 0)) ahead.old.tokens.now) put_list found.old found.new
+        ahead.new.tokens.now)
+        (λ fault. Stops end (read (some_effects (expression 0)) ahead.old.tokens.now) fault) }
+{
     let first = effect(alloc, ahead, end)?;
     found.push(first)?;
     let most = ahead.tokens.len();
     for used in 0..most {
         if !sign_follows(ahead.tokens, Sign::Comma) {
-            return Ok(found);
+            return Ok(());
         }
         let next = next_effect(alloc, ahead, end)?;
         found.push(next)?;
     }
-    Ok(found)
+    Ok(())
 }
 
 #[tactic(auto, using(crate::proofs::EffectParts::effects_missing))]

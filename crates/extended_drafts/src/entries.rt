@@ -7,6 +7,7 @@ ghost use Rattle.sc_text.specs.Expression.{text_tokens, after, expression};
 ghost use Rattle.sc_text.specs.Reading.{Stops};
 ghost use Rattle.chart_drafts.specs.ChartText.{the_word};
 ghost use Rattle.chart_drafts.specs.Phrase.{Gives};
+ghost use Rattle.extended_drafts.specs.Inside.{Puts, put_list};
 ghost use Rattle.extended_drafts.specs.ExtendedText.{last_effects, entry, entry_first};
 
 use crate::draft::DraftEntry;
@@ -18,27 +19,26 @@ use sc_text::{ReadFault, Sign, Token, Word};
 use sqlite_items::Items;
 use std::alloc::Global;
 
-/// The actions of a state.
-#[tactic(auto, using(crate::proofs::Pieces::entries_go, chart_drafts::proofs::RowReading::going_ends, chart_drafts::proofs::RowReading::going_over, chart_drafts::proofs::RowReading::going_stops, chart_drafts::proofs::RowReading::going_on))]
+/// Puts the actions of a state behind others.
 pub(crate) fn entries(
     alloc: Global,
     ahead: &mut Ahead,
     end: usize,
-) -> Result<Items<DraftEntry>, ReadFault>
+    found: &mut Items<DraftEntry>,
+) -> Result<(), ReadFault>
     ensures { MatchResult result
-        (λ x. Gives (read (many (entry (expression 0))) ahead.old.tokens.now) x ahead.new.tokens.now)
+        (λ _. Puts (read (many (entry (expression 0))) ahead.old.tokens.now) put_list found.old found.new ahead.new.tokens.now)
         (λ fault. Stops end (read (many (entry (expression 0))) ahead.old.tokens.now) fault) }
 {
-    let mut found = Items::new(alloc);
     let most = ahead.tokens.len();
     for used in 0..most {
         if !entry_follows(ahead.tokens) {
-            return Ok(found);
+            return Ok(());
         }
         let next = entry(alloc, ahead, end)?;
         found.push(next)?;
     }
-    Ok(found)
+    Ok(())
 }
 
 // Whether an action is next.

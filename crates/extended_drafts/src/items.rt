@@ -6,6 +6,7 @@ ghost use Rattle.grammar.specs.Read.{read, starts};
 ghost use Rattle.sc_text.specs.Expression.{text_tokens, expression};
 ghost use Rattle.sc_text.specs.Reading.{Stops};
 ghost use Rattle.chart_drafts.specs.Phrase.{Gives};
+ghost use Rattle.extended_drafts.specs.Inside.{Puts, put_list};
 ghost use Rattle.extended_drafts.specs.Draft.{signal_body, plain_item, worded_item};
 ghost use Rattle.extended_drafts.specs.ExtendedText.{item_first, item_value, last_value, typed, signalled};
 ghost use Rattle.extended_drafts.specs.ExtendedText.{plain_body, plain, worded_body, worded, item};
@@ -23,27 +24,26 @@ use sc_values::Kind;
 use sqlite_items::Items;
 use std::alloc::{AllocError, Global};
 
-/// What stands among the variables.
-#[tactic(auto, using(crate::proofs::ItemParts::items_go, chart_drafts::proofs::RowReading::going_ends, chart_drafts::proofs::RowReading::going_over, chart_drafts::proofs::RowReading::going_stops, chart_drafts::proofs::RowReading::going_on))]
+/// Puts what stands among the variables behind others.
 pub(crate) fn items(
     alloc: Global,
     ahead: &mut Ahead,
     end: usize,
-) -> Result<Items<DraftItem>, ReadFault>
+    found: &mut Items<DraftItem>,
+) -> Result<(), ReadFault>
     ensures { MatchResult result
-        (λ x. Gives (read (many (item (expression 0))) ahead.old.tokens.now) x ahead.new.tokens.now)
+        (λ _. Puts (read (many (item (expression 0))) ahead.old.tokens.now) put_list found.old found.new ahead.new.tokens.now)
         (λ fault. Stops end (read (many (item (expression 0))) ahead.old.tokens.now) fault) }
 {
-    let mut found = Items::new(alloc);
     let most = ahead.tokens.len();
     for used in 0..most {
         if !item_follows(ahead.tokens) {
-            return Ok(found);
+            return Ok(());
         }
         let next = item(alloc, ahead, end)?;
         found.push(next)?;
     }
-    Ok(found)
+    Ok(())
 }
 
 // Whether an item is next.

@@ -5,85 +5,89 @@ ghost use Rattle.grammar.specs.Read.{read};
 ghost use Rattle.sc_text.specs.Expression.{expression};
 ghost use Rattle.sc_text.specs.Reading.{Stops};
 ghost use Rattle.chart_drafts.specs.ChartText.{braced};
-ghost use Rattle.chart_drafts.specs.Phrase.{Gives};
 ghost use Rattle.extended_drafts.specs.ExtendedText.{rowed, inside, acting, body, state, region, within};
+ghost use Rattle.extended_drafts.specs.Inside.{Puts, put_part, put_parts, put_inside, put_body};
 
-use crate::draft::{DraftEntry, DraftRows, StateBody};
+use crate::draft::DraftRows;
 use crate::entries::entries;
-use crate::rows::state_with;
+use crate::rows::actions_of;
 use crate::transitions::leaving;
 use chart_drafts::text_parts::{Ahead, flag, skip_sign, state_follows, title};
-use chart_drafts::{DraftRegion, DraftState};
+use chart_drafts::{DraftRegion, DraftState, DraftTransition};
 use sc_text::ahead::{behind, sign_follows, too_deep, word_follows};
 use sc_text::{ReadFault, Sign, Word};
 use sqlite_items::Items;
 use std::alloc::Global;
 
-/// Regions of one superstate with their rows, inside which so many more levels of regions may stand.
+/// Puts the regions of one superstate with their rows behind others, inside which so many more levels of regions may
+/// stand.
 #[cycle(regions)]
 pub(crate) fn regions(
     alloc: Global,
     depth: u8,
     ahead: &mut Ahead,
     end: usize,
-) -> Result<(Items<DraftRegion>, DraftRows), ReadFault>
+    found: &mut Items<DraftRegion>,
+    rows: &mut DraftRows,
+) -> Result<(), ReadFault>
     ensures { MatchResult result
-        (λ x. Gives (read (rowed (region (expression 0) (within (expression 0) depth)))
-        ahead.old.tokens.now) x ahead.new.tokens.now)
+        (λ _. Puts (read (rowed (region (expression 0) (within (expression 0) depth))) ahead.old.tokens.now) put_parts
+        (found.old, rows.old) (found.new, rows.new) ahead.new.tokens.now)
         (λ fault. Stops end (read (rowed (region (expression 0) (within (expression 0) depth)))
         ahead.old.tokens.now) fault) }
 {
-    let mut found = Items::new(alloc);
-    let (first, mut rows) = region(alloc, depth, ahead, end)?;
-    found.push(first)?;
+    region(alloc, depth, ahead, end, found, rows)?;
     let most = ahead.tokens.len();
     for used in 0..most {
         if !word_follows(ahead.tokens, Word::Region) {
-            return Ok((found, rows));
+            return Ok(());
         }
-        let (next, more) = region(alloc, depth, ahead, end)?;
-        found.push(next)?;
-        rows.append(more)?;
+        region(alloc, depth, ahead, end, found, rows)?;
     }
-    Ok((found, rows))
+    Ok(())
 }
 
 #[cycle(regions)]
-#[tactic(auto, using(crate::proofs::Nesting::region_gives, chart_drafts::proofs::Parts::made_stops, chart_drafts::proofs::Parts::seq_stops_first, chart_drafts::proofs::Parts::seq_stops_second), unfolding(crate::specs::ExtendedText::region))]
+#[tactic(auto, using(chart_drafts::proofs::Parts::made_stops, chart_drafts::proofs::Parts::seq_stops_first, chart_drafts::proofs::Parts::seq_stops_second), unfolding(crate::specs::ExtendedText::region))]
 fn region(
     alloc: Global,
     depth: u8,
     ahead: &mut Ahead,
     end: usize,
-) -> Result<(DraftRegion, DraftRows), ReadFault>
+    found: &mut Items<DraftRegion>,
+    rows: &mut DraftRows,
+) -> Result<(), ReadFault>
     ensures { MatchResult result
-        (λ x. Gives (read
-        (region (expression 0) (within (expression 0) depth)) ahead.old.tokens.now) x ahead.new.tokens.now)
+        (λ _. Puts (read (region (expression 0) (within (expression 0) depth)) ahead.old.tokens.now) put_part
+        (found.old, rows.old) (found.new, rows.new) ahead.new.tokens.now)
         (λ fault. Stops end (read (region (expression 0) (within (expression 0) depth)) ahead.old.tokens.now) fault) }
 {
     let named = title(ahead, end, Word::Region)?;
-    let (states, rows) = braced_states(alloc, depth, ahead, end)?;
-    Ok((DraftRegion { named, states }, rows))
+    let mut states = Items::new(alloc);
+    braced_states(alloc, depth, ahead, end, &mut states, rows)?;
+    found.push(DraftRegion { named, states })?;
+    Ok(())
 }
 
 #[cycle(regions)]
-#[tactic(auto, using(chart_drafts::proofs::Parts::after_stops_first, chart_drafts::proofs::Nesting::braced_stops_inside, chart_drafts::proofs::Nesting::braced_stops_last, chart_drafts::proofs::Nesting::braced_gives))]
+#[tactic(auto, using(chart_drafts::proofs::Parts::after_stops_first, chart_drafts::proofs::Nesting::braced_stops_inside))]
 fn braced_states(
     alloc: Global,
     depth: u8,
     ahead: &mut Ahead,
     end: usize,
-) -> Result<(Items<DraftState>, DraftRows), ReadFault>
+    found: &mut Items<DraftState>,
+    rows: &mut DraftRows,
+) -> Result<(), ReadFault>
     ensures { MatchResult result
-        (λ x. Gives (read (braced (rowed (state (expression 0) (within (expression 0) depth))))
-        ahead.old.tokens.now) x ahead.new.tokens.now)
+        (λ _. Puts (read (braced (rowed (state (expression 0) (within (expression 0) depth)))) ahead.old.tokens.now)
+        put_parts (found.old, rows.old) (found.new, rows.new) ahead.new.tokens.now)
         (λ fault. Stops end (read (braced (rowed (state (expression 0) (within (expression 0) depth))))
         ahead.old.tokens.now) fault) }
 {
     skip_sign(ahead, end, Sign::OpenBrace)?;
-    let (states, rows) = states(alloc, depth, ahead, end)?;
-    skip_sign(ahead, end, Sign::CloseBrace)?;
-    Ok((states, rows))
+    states(alloc, depth, ahead, end, found, rows)?;
+    skip_sign(ahead, end, Sign::CloseBrace)
 }
 
 #[cycle(regions)]
@@ -92,117 +96,141 @@ fn states(
     depth: u8,
     ahead: &mut Ahead,
     end: usize,
-) -> Result<(Items<DraftState>, DraftRows), ReadFault>
+    found: &mut Items<DraftState>,
+    rows: &mut DraftRows,
+) -> Result<(), ReadFault>
     ensures { MatchResult result
-        (λ x. Gives (read (rowed (state (expression 0) (within (expression 0) depth)))
-        ahead.old.tokens.now) x ahead.new.tokens.now)
+        (λ _. Puts (read (rowed (state (expression 0) (within (expression 0) depth))) ahead.old.tokens.now) put_parts
+        (found.old, rows.old) (found.new, rows.new) ahead.new.tokens.now)
         (λ fault. Stops end (read (rowed (state (expression 0) (within (expression 0) depth)))
         ahead.old.tokens.now) fault) }
 {
-    let mut found = Items::new(alloc);
-    let (first, mut rows) = state(alloc, depth, ahead, end)?;
-    found.push(first)?;
+    state(alloc, depth, ahead, end, found, rows)?;
     let most = ahead.tokens.len();
     for used in 0..most {
         if !state_follows(ahead.tokens) {
-            return Ok((found, rows));
+            return Ok(());
         }
-        let (next, more) = state(alloc, depth, ahead, end)?;
-        found.push(next)?;
-        rows.append(more)?;
+        state(alloc, depth, ahead, end, found, rows)?;
     }
-    Ok((found, rows))
+    Ok(())
 }
 
 #[cycle(regions)]
-#[tactic(auto, using(crate::proofs::Nesting::state_gives, chart_drafts::proofs::Parts::made_stops, chart_drafts::proofs::Parts::seq_stops_first, chart_drafts::proofs::Parts::seq_stops_second), unfolding(crate::specs::ExtendedText::state))]
+#[tactic(auto, using(chart_drafts::proofs::Parts::made_stops, chart_drafts::proofs::Parts::seq_stops_first, chart_drafts::proofs::Parts::seq_stops_second), unfolding(crate::specs::ExtendedText::state))]
 fn state(
     alloc: Global,
     depth: u8,
     ahead: &mut Ahead,
     end: usize,
-) -> Result<(DraftState, DraftRows), ReadFault>
+    found: &mut Items<DraftState>,
+    rows: &mut DraftRows,
+) -> Result<(), ReadFault>
     ensures { MatchResult result
-        (λ x. Gives (read
-        (state (expression 0) (within (expression 0) depth)) ahead.old.tokens.now) x ahead.new.tokens.now)
+        (λ _. Puts (read (state (expression 0) (within (expression 0) depth)) ahead.old.tokens.now) put_part
+        (found.old, rows.old) (found.new, rows.new) ahead.new.tokens.now)
         (λ fault. Stops end (read (state (expression 0) (within (expression 0) depth)) ahead.old.tokens.now) fault) }
 {
     let is_initial = flag(ahead, Word::Initial);
     let is_final = flag(ahead, Word::Final);
     let named = title(ahead, end, Word::State)?;
-    let body = body(alloc, depth, ahead, end)?;
-    let state = state_with(alloc, is_initial, is_final, named, body)?;
-    Ok(state)
+    let mut regions = Items::new(alloc);
+    let mut transitions = Items::new(alloc);
+    body(
+        alloc,
+        depth,
+        is_final,
+        ahead,
+        end,
+        &mut regions,
+        &mut transitions,
+        rows,
+    )?;
+    found.push(DraftState {
+        is_initial,
+        is_final,
+        named,
+        regions,
+        transitions,
+    })?;
+    Ok(())
 }
 
 // What is in a state, or the semicolon where nothing is.
 #[cycle(regions)]
-#[tactic(auto, using(crate::proofs::Nesting::simple_gives, crate::proofs::Nesting::brace_stops))]
+#[tactic(auto, using(crate::proofs::Nesting::brace_stops))]
 fn body(
     alloc: Global,
     depth: u8,
+    is_final: bool,
     ahead: &mut Ahead,
     end: usize,
-) -> Result<(Items<DraftEntry>, StateBody), ReadFault>
+    found: &mut Items<DraftRegion>,
+    transitions: &mut Items<DraftTransition>,
+    rows: &mut DraftRows,
+) -> Result<(), ReadFault>
     ensures { MatchResult result
-        (λ x. Gives (read
-        (body (expression 0) (within (expression 0) depth)) ahead.old.tokens.now) x ahead.new.tokens.now)
+        (λ _. Puts (read (body (expression 0) (within (expression 0) depth)) ahead.old.tokens.now) (put_body is_final)
+        ((found.old, transitions.old), rows.old) ((found.new, transitions.new), rows.new) ahead.new.tokens.now)
         (λ fault. Stops end (read (body (expression 0) (within (expression 0) depth)) ahead.old.tokens.now) fault) }
 {
     if sign_follows(ahead.tokens, Sign::Semicolon) {
         ahead.tokens = behind(ahead.tokens);
-        return Ok((Items::new(alloc), StateBody::new(alloc)));
+        rows.entries.push(actions_of(is_final, Items::new(alloc)))?;
+        return Ok(());
     }
     skip_sign(ahead, end, Sign::OpenBrace)?;
-    acting(alloc, depth, ahead, end)
+    acting(alloc, depth, is_final, ahead, end, found, transitions, rows)
 }
 
 // The actions of a state, and what is in it behind them.
 #[cycle(regions)]
-#[tactic(auto, using(chart_drafts::proofs::Parts::seq_stops_first, chart_drafts::proofs::Parts::seq_stops_second, chart_drafts::proofs::Parts::seq_gives), unfolding(crate::specs::ExtendedText::acting))]
+#[tactic(auto, using(chart_drafts::proofs::Parts::seq_stops_first), unfolding(crate::specs::ExtendedText::acting))]
 fn acting(
     alloc: Global,
     depth: u8,
+    is_final: bool,
     ahead: &mut Ahead,
     end: usize,
-) -> Result<(Items<DraftEntry>, StateBody), ReadFault>
+    found: &mut Items<DraftRegion>,
+    transitions: &mut Items<DraftTransition>,
+    rows: &mut DraftRows,
+) -> Result<(), ReadFault>
     ensures { MatchResult result
-        (λ x. Gives (read
-        (acting (expression 0) (within (expression 0) depth)) ahead.old.tokens.now) x ahead.new.tokens.now)
+        (λ _. Puts (read (acting (expression 0) (within (expression 0) depth)) ahead.old.tokens.now)
+        (put_body is_final) ((found.old, transitions.old), rows.old) ((found.new, transitions.new), rows.new)
+        ahead.new.tokens.now)
         (λ fault. Stops end (read (acting (expression 0) (within (expression 0) depth)) ahead.old.tokens.now) fault) }
 {
-    let entries = entries(alloc, ahead, end)?;
-    let inside = inside(alloc, depth, ahead, end)?;
-    Ok((entries, inside))
+    let mut own = Items::new(alloc);
+    entries(alloc, ahead, end, &mut own)?;
+    rows.entries.push(actions_of(is_final, own))?;
+    inside(alloc, depth, ahead, end, found, transitions, rows)
 }
 
 // The regions and the transitions of a state, up to the brace that closes it.
 #[cycle(regions)]
-#[tactic(auto, using(crate::proofs::Nesting::bare_gives, crate::proofs::Nesting::bare_stops, crate::proofs::Nesting::too_deep_stops, crate::proofs::Nesting::regions_stop, crate::proofs::Nesting::leaving_stops, crate::proofs::Nesting::nested_gives))]
-fn inside(alloc: Global, depth: u8, ahead: &mut Ahead, end: usize) -> Result<StateBody, ReadFault>
+#[tactic(auto, using(crate::proofs::Nesting::too_deep_stops, crate::proofs::Nesting::regions_stop))]
+fn inside(
+    alloc: Global,
+    depth: u8,
+    ahead: &mut Ahead,
+    end: usize,
+    found: &mut Items<DraftRegion>,
+    transitions: &mut Items<DraftTransition>,
+    rows: &mut DraftRows,
+) -> Result<(), ReadFault>
     ensures { MatchResult result
-        (λ x. Gives (read
-        (inside (expression 0) (within (expression 0) depth)) ahead.old.tokens.now) x ahead.new.tokens.now)
+        (λ _. Puts (read (inside (expression 0) (within (expression 0) depth)) ahead.old.tokens.now) put_inside
+        ((found.old, transitions.old), rows.old) ((found.new, transitions.new), rows.new) ahead.new.tokens.now)
         (λ fault. Stops end (read (inside (expression 0) (within (expression 0) depth)) ahead.old.tokens.now) fault) }
 {
     if !word_follows(ahead.tokens, Word::Region) {
-        let (transitions, ways) = leaving(alloc, ahead, end)?;
-        return Ok(StateBody {
-            regions: Items::new(alloc),
-            rows: DraftRows::new(alloc),
-            transitions,
-            ways,
-        });
+        return leaving(alloc, ahead, end, transitions, &mut rows.ways);
     }
     if depth == 0 {
         return Err(too_deep(ahead.tokens, end));
     }
-    let (regions, rows) = regions(alloc, depth - 1, ahead, end)?;
-    let (transitions, ways) = leaving(alloc, ahead, end)?;
-    Ok(StateBody {
-        regions,
-        rows,
-        transitions,
-        ways,
-    })
+    regions(alloc, depth - 1, ahead, end, found, rows)?;
+    leaving(alloc, ahead, end, transitions, &mut rows.ways)
 }

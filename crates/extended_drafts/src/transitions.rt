@@ -9,6 +9,7 @@ ghost use Rattle.chart_drafts.specs.Phrase.{Gives};
 ghost use Rattle.extended_drafts.specs.Draft.{hold_of};
 ghost use Rattle.extended_drafts.specs.ExtendedText.{some_count, counted, some_delay, pause, tested, termination};
 ghost use Rattle.extended_drafts.specs.ExtendedText.{transition, transitions, leaving};
+ghost use Rattle.extended_drafts.specs.Inside.{Puts, put_ways};
 
 use crate::draft::{DraftCount, DraftDelay, DraftWay};
 use crate::effects::outcome;
@@ -184,37 +185,40 @@ fn transitions(
     alloc: Global,
     ahead: &mut Ahead,
     end: usize,
-) -> Result<(Items<DraftTransition>, Items<DraftWay>), ReadFault>
+    found: &mut Items<DraftTransition>,
+    ways: &mut Items<DraftWay>,
+) -> Result<(), ReadFault>
     ensures { MatchResult result
-        (λ x. Gives (read (transitions (expression 0)) ahead.old.tokens.now) x ahead.new.tokens.now)
+        (λ _. Puts (read (transitions (expression 0)) ahead.old.tokens.now) put_ways
+        (found.old, ways.old) (found.new, ways.new) ahead.new.tokens.now)
         (λ fault. Stops end (read (transitions (expression 0)) ahead.old.tokens.now) fault) }
 {
-    let mut found = Items::new(alloc);
-    let mut ways = Items::new(alloc);
     let most = ahead.tokens.len();
     for used in 0..most {
         if !transition_follows(ahead.tokens) {
-            return Ok((found, ways));
+            return Ok(());
         }
         let (next, way) = transition(alloc, ahead, end)?;
         found.push(next)?;
         ways.push(way)?;
     }
-    Ok((found, ways))
+    Ok(())
 }
 
-/// The transitions of a state with what is new of them, up to the brace that closes it.
-#[tactic(auto, using(chart_drafts::proofs::Parts::before_stops_first, chart_drafts::proofs::Parts::before_stops_second, chart_drafts::proofs::Parts::before_gives), unfolding(crate::specs::ExtendedText::leaving))]
+/// Puts the transitions of a state with what is new of them behind others, up to the brace that closes it.
+#[tactic(auto, using(chart_drafts::proofs::Parts::before_stops_first), unfolding(crate::specs::ExtendedText::leaving))]
 pub(crate) fn leaving(
     alloc: Global,
     ahead: &mut Ahead,
     end: usize,
-) -> Result<(Items<DraftTransition>, Items<DraftWay>), ReadFault>
+    found: &mut Items<DraftTransition>,
+    ways: &mut Items<DraftWay>,
+) -> Result<(), ReadFault>
     ensures { MatchResult result
-        (λ x. Gives (read (leaving (expression 0)) ahead.old.tokens.now) x ahead.new.tokens.now)
+        (λ _. Puts (read (leaving (expression 0)) ahead.old.tokens.now) put_ways
+        (found.old, ways.old) (found.new, ways.new) ahead.new.tokens.now)
         (λ fault. Stops end (read (leaving (expression 0)) ahead.old.tokens.now) fault) }
 {
-    let (transitions, ways) = transitions(alloc, ahead, end)?;
-    skip_sign(ahead, end, Sign::CloseBrace)?;
-    Ok((transitions, ways))
+    transitions(alloc, ahead, end, found, ways)?;
+    skip_sign(ahead, end, Sign::CloseBrace)
 }

@@ -36,15 +36,14 @@ pub(crate) const INNER_LEVELS: u8 = 31;
 /// stands; else the first place where something is wrong with a module, or a use of one; else the first token that
 /// can't go on, or with which only extended charts go on that are nested too deep, or the end of the text, where none
 /// may end; or memory was refused.
-#[tactic(auto, using(crate::proofs::Drafting::scanned, crate::proofs::Drafting::modules_wrong, crate::proofs::Drafting::drafted, crate::proofs::Drafting::stopped))]
+#[tactic(auto, using(crate::proofs::Drafting::scanned, crate::proofs::Drafting::modules_wrong))]
 pub fn read_extended_draft(alloc: Global, text: &str) -> Result<ExtendedDraft, ReadFault>
     ensures ok { IfOk result (λ draft. IsExtendedDraft text.now draft) }
     ensures fault { IfErr result (λ fault. IsDraftFault text.now fault) }
 {
     let tokens = tokens_of(alloc, text)?;
     let plain = without_modules(alloc, tokens, text.len())?;
-    let draft = whole(alloc, plain.as_slice(), text.len())?;
-    Ok(draft)
+    whole(alloc, plain.as_slice(), text.len())
 }
 
 // The tokens of a text without its block comments.
@@ -120,7 +119,7 @@ fn braced_parts(
     Ok(parts.into_inner())
 }
 
-#[tactic(auto, using(chart_drafts::proofs::Parts::seq_stops_first, chart_drafts::proofs::Parts::seq_stops_second, chart_drafts::proofs::Parts::seq_gives), unfolding(crate::specs::ExtendedText::parts))]
+#[tactic(auto, using(crate::proofs::Nesting::items_stop))]
 fn parts(
     alloc: Global,
     ahead: &mut Ahead,
@@ -132,9 +131,12 @@ fn parts(
         (λ fault. Stops end (read (parts (expression 0) (within (expression 0) inner_depth_limit)) ahead.old.tokens.now)
         fault) }
 {
-    let items = items(alloc, ahead, end)?;
-    let regions = regions(alloc, INNER_LEVELS, ahead, end)?;
-    Ok((items, regions))
+    let mut all = Items::new(alloc);
+    items(alloc, ahead, end, &mut all)?;
+    let mut found = Items::new(alloc);
+    let mut rows = DraftRows::new(alloc);
+    regions(alloc, INNER_LEVELS, ahead, end, &mut found, &mut rows)?;
+    Ok((all, (found, rows)))
 }
 
 // The draft of a chart by its name and its parts. Err: memory was refused.

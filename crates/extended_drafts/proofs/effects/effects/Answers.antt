@@ -4,7 +4,7 @@ use Rattle.sc_text.specs.declared.word.Word.TheVariants as word
 use Rattle.sc_text.specs.Expression.{text_tokens}
 use Rattle.chart_drafts.specs.ChartText.{the_word}
 use Rattle.extended_drafts.proofs.EffectParts.{effects_read}
-use Rattle.extended_drafts.proofs.Same.{same_reading}
+use Rattle.chart_drafts.proofs.Same.{same_reading}
 use Rattle.extended_drafts.proofs.effects.effects.Goals as goal
 
 pub returns : goal.returns

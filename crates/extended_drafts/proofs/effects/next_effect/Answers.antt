@@ -2,7 +2,7 @@ use Rattle.sc_text.specs.declared.sign.Sign.TheVariants as sign
 use Rattle.sc_text.specs.Expression.{expression}
 use Rattle.chart_drafts.specs.ChartText.{the_sign}
 use Rattle.extended_drafts.specs.ExtendedText.{effect, next_effect}
-use Rattle.extended_drafts.proofs.Same.{same_reading, after_read}
+use Rattle.chart_drafts.proofs.Same.{same_reading, after_read}
 use Rattle.extended_drafts.proofs.effects.next_effect.Goals as goal
 
 pub returns : goal.returns

@@ -4,18 +4,19 @@ use Rattle.grammar.specs.Read.{read, starts}
 use Rattle.sc_text.specs.declared.read_fault.ReadFault.{ReadFault}
 use Rattle.sc_text.specs.Expression.{text_tokens, expression}
 use Rattle.sc_text.specs.Reading.{Stops}
-use Rattle.chart_drafts.proofs.RowReading.{going_ends, going_stops, going_on}
+use Rattle.extended_drafts.specs.Inside.{put_one}
+use Rattle.extended_drafts.proofs.Putting.{row_ends, row_over, row_stops, putting_on, one_put}
 use Rattle.extended_drafts.specs.ExtendedText.{entry, entry_first}
-use Rattle.extended_drafts.proofs.Pieces.{entries_go}
+use Rattle.extended_drafts.proofs.Pieces.{entries_put}
 use Rattle.extended_drafts.proofs.entries.entries.Goals as goal
 
 pub loop-used-init : goal.loop-used-init
-loop-used-init c = entries_go _ _ _ refl c.new-found.ensures
+loop-used-init c = entries_put _ _ _ refl
 
 pub returns-then-not-entry_follows : goal.returns-then-not-entry_follows
 returns-then-not-entry_follows c =
     let over = c.if-not-entry_follows.true in
-    going_ends (entry (expression 0)) entry_first _ _ _ _ c.loop-used.invariant (search (rules, over, c.entry_follows.ensures))
+    row_ends (entry (expression 0)) entry_first _ _ _ _ _ c.loop-used.invariant (search (rules, over, c.entry_follows.ensures))
 
 pub returns-in_err-next : goal.returns-in_err-next
 returns-in_err-next c =
@@ -23,11 +24,15 @@ returns-in_err-next c =
     let more : starts text_tokens entry_first c.loop-used.ahead.tokens.now ≡ true = search (rules, on, c.entry_follows.ensures) in
     let stops : (f : ReadFault) → Stops c.args.end (read (entry (expression 0)) c.loop-used.ahead.tokens.now) f
     → Stops c.args.end (read (many (entry (expression 0))) c.args.ahead.now.tokens.now) f =
-    λ f. going_stops (entry (expression 0)) entry_first _ _ _ _ _ c.args.end f c.loop-used-test.true c.loop-used.invariant more in
+    λ f. row_stops (entry (expression 0)) entry_first _ _ _ _ _ _ c.args.end f c.loop-used-test.true c.loop-used.invariant more in
     search (rules, stops)
 
 pub loop-used-preserved : goal.loop-used-preserved
 loop-used-preserved c =
     let on = c.if-not-entry_follows.false in
     let more : starts text_tokens entry_first c.loop-used.ahead.tokens.now ≡ true = search (rules, on, c.entry_follows.ensures) in
-    going_on (entry (expression 0)) entry_first _ _ _ _ _ _ _ _ c.loop-used-test.true c.loop-used.invariant more c.in_ok-next.ensures c.in_ok-push.ensures.ok
+    putting_on put_one (entry (expression 0)) entry_first _ _ _ _ _ _ _ _ c.loop-used-test.true c.loop-used.invariant more
+    (one_put _ _ _ _ _ c.in_ok-next.ensures c.in_ok-push.ensures.ok)
+
+pub returns : goal.returns
+returns c = row_over (entry (expression 0)) entry_first _ _ _ _ _ _ c.loop-used-test.false c.loop-used.invariant

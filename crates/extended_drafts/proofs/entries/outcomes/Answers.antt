@@ -2,7 +2,7 @@ use Rattle.sc_text.specs.declared.word.Word.TheVariants as word
 use Rattle.sc_text.specs.Expression.{expression}
 use Rattle.chart_drafts.specs.ChartText.{the_word}
 use Rattle.extended_drafts.specs.ExtendedText.{last_effects}
-use Rattle.extended_drafts.proofs.Same.{same_reading, after_read}
+use Rattle.chart_drafts.proofs.Same.{same_reading, after_read}
 use Rattle.extended_drafts.proofs.entries.outcomes.Goals as goal
 
 pub returns : goal.returns

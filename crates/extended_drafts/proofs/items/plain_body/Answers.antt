@@ -2,7 +2,7 @@ use Rattle.std.proofs.Common.{rules, ◌≡◌, true, false, [], ◌∷◌}
 use Rattle.grammar.specs.Read.{starts}
 use Rattle.sc_text.specs.Classes.{AName}
 use Rattle.sc_text.specs.Expression.{text_tokens}
-use Rattle.extended_drafts.proofs.Same.{same_reading}
+use Rattle.chart_drafts.proofs.Same.{same_reading}
 use Rattle.extended_drafts.proofs.ItemParts.{is_signalled, is_plain_typed}
 use Rattle.extended_drafts.proofs.items.plain_body.Goals as goal
 

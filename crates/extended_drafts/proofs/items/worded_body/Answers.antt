@@ -3,7 +3,7 @@ use Rattle.grammar.specs.Read.{starts}
 use Rattle.sc_text.specs.Classes.{AName}
 use Rattle.sc_text.specs.Expression.{text_tokens}
 use Rattle.extended_drafts.proofs.ItemParts.{bare_signal_read, is_worded_typed}
-use Rattle.extended_drafts.proofs.Same.{same_reading}
+use Rattle.chart_drafts.proofs.Same.{same_reading}
 use Rattle.extended_drafts.proofs.items.worded_body.Goals as goal
 
 pub returns-then-name_follows : goal.returns-then-name_follows

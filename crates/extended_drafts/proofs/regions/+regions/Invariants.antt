@@ -3,9 +3,8 @@ use Rattle.grammar.specs.Read.{read}
 use Rattle.sc_text.specs.declared.word.Word.TheVariants as word
 use Rattle.sc_text.specs.Expression.{expression}
 use Rattle.chart_drafts.specs.ChartText.{the_word, listed, state_first}
-use Rattle.extended_drafts.specs.Draft.{gathered}
 use Rattle.extended_drafts.specs.ExtendedText.{state, region, within}
-use Rattle.extended_drafts.specs.Inside.{IsGathering}
+use Rattle.extended_drafts.specs.Inside.{IsPutting, put_part}
 use Rattle.extended_drafts.proofs.regions.+regions.Given as goal
 
 abbrev pub decreases-regions : goal.decreases-regions
@@ -34,12 +33,12 @@ decreases-inside l = 8 * l.depth
 
 abbrev pub invariant-regions-loop-used : goal.invariant-regions-loop-used
 invariant-regions-loop-used l =
-    IsGathering (read (listed (region (expression 0) (within (expression 0) l.fn.depth)) (region (expression 0) (within (expression 0) l.fn.depth)))
-    l.fn.ahead.tokens.now) (region (expression 0) (within (expression 0) l.fn.depth)) (the_word word.Region) gathered (l.found, l.rows) (l.most - l.used)
+    IsPutting (read (listed (region (expression 0) (within (expression 0) l.fn.depth)) (region (expression 0) (within (expression 0) l.fn.depth)))
+    l.fn.ahead.tokens.now) (region (expression 0) (within (expression 0) l.fn.depth)) (the_word word.Region) put_part (l.fn.found, l.fn.rows) (l.found, l.rows) (l.most - l.used)
     l.ahead.tokens.now
 
 abbrev pub invariant-states-loop-used : goal.invariant-states-loop-used
 invariant-states-loop-used l =
-    IsGathering (read (listed (state (expression 0) (within (expression 0) l.fn.depth)) (state (expression 0) (within (expression 0) l.fn.depth)))
-    l.fn.ahead.tokens.now) (state (expression 0) (within (expression 0) l.fn.depth)) state_first gathered (l.found, l.rows) (l.most - l.used)
+    IsPutting (read (listed (state (expression 0) (within (expression 0) l.fn.depth)) (state (expression 0) (within (expression 0) l.fn.depth)))
+    l.fn.ahead.tokens.now) (state (expression 0) (within (expression 0) l.fn.depth)) state_first put_part (l.fn.found, l.fn.rows) (l.found, l.rows) (l.most - l.used)
     l.ahead.tokens.now

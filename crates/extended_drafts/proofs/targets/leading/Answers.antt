@@ -1,7 +1,7 @@
 use Rattle.sc_text.specs.declared.sign.Sign.TheVariants as sign
 use Rattle.chart_drafts.specs.ChartText.{the_sign}
 use Rattle.extended_drafts.specs.ExtendedText.{last_lead, leading}
-use Rattle.extended_drafts.proofs.Same.{same_reading, after_read}
+use Rattle.chart_drafts.proofs.Same.{same_reading, after_read}
 use Rattle.extended_drafts.proofs.targets.leading.Goals as goal
 
 pub returns : goal.returns

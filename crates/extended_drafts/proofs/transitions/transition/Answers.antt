@@ -3,7 +3,7 @@ use Rattle.grammar.specs.Read.{starts}
 use Rattle.sc_text.specs.declared.word.Word.TheVariants as word
 use Rattle.chart_drafts.specs.ChartText.{the_word}
 use Rattle.sc_text.specs.Expression.{text_tokens}
-use Rattle.extended_drafts.proofs.Same.{same_reading}
+use Rattle.chart_drafts.proofs.Same.{same_reading}
 use Rattle.extended_drafts.proofs.Pieces.{is_termination, is_tested}
 use Rattle.extended_drafts.proofs.transitions.transition.Goals as goal
 

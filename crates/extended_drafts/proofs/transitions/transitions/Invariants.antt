@@ -3,12 +3,11 @@ use Rattle.grammar.specs.Grammar.{many}
 use Rattle.grammar.specs.Read.{read}
 use Rattle.sc_text.specs.Expression.{expression}
 use Rattle.chart_drafts.specs.ChartText.{transition_first}
-use Rattle.extended_drafts.specs.Draft.{parted}
 use Rattle.extended_drafts.specs.ExtendedText.{transition}
-use Rattle.extended_drafts.specs.Inside.{IsGathering}
+use Rattle.extended_drafts.specs.Inside.{IsPutting, put_way}
 use Rattle.extended_drafts.proofs.transitions.transitions.Given as goal
 
 abbrev pub invariant-loop-used : goal.invariant-loop-used
 invariant-loop-used l =
-    IsGathering (read (many (transition (expression 0))) l.fn.ahead.tokens.now) (transition (expression 0)) transition_first parted (l.found, l.ways)
-    (l.most - l.used) l.ahead.tokens.now
+    IsPutting (read (many (transition (expression 0))) l.fn.ahead.tokens.now) (transition (expression 0)) transition_first put_way (l.fn.found, l.fn.ways)
+    (l.found, l.ways) (l.most - l.used) l.ahead.tokens.now
