@@ -1,4 +1,5 @@
 pub mod Outside
+pub mod RegionRows
 pub mod Replaying
 pub mod Superstates
 pub mod Values

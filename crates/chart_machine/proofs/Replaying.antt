@@ -6,7 +6,7 @@ use Rattle.sc_values.specs.Runs.{Machine, replay}
 use Rattle.chart_machine.specs.declared.standing.Configuration.{Configuration}
 use Rattle.chart_machine.specs.declared.table.Table.{Table}
 use Rattle.chart_machine.specs.declared.running.Ran.{Ran}
-use Rattle.chart_machine.specs.InOrder.{StepsInOrder, Stops}
+use Rattle.chart_machine.specs.InOrder.{StepsInOrder}
 use Rattle.chart_machine.specs.Steps.{step}
 use Rattle.chart_machine.specs.Turns.{first_enabled}
 
@@ -33,9 +33,8 @@ steps_more k order (q ∷ run) r c d e h first steps = (h.0, h.1, h.2, steps_mor
 pub one_longer : (run : List ℕ) (t n : ℕ) → length run ≡ n → length (run ++ t ∷ []) ≡ n + 1
 one_longer run t n long = omega (arith, length-append run (t ∷ []), long)
 
--- what is told of a run tells where it stops
-pub stopped : {E : Type 0} (k : Table) (order : List ℕ) (budget : ℕ) (run : List ℕ) (d : Configuration) (r : Result Ran E) →
-    IfOk r (λ ran. ran.run.items ≡ run) → IfOk r (λ ran. ran.end ≡ d) → Stops k order budget run d → IfOk r (λ ran. Stops k order budget ran.run.items ran.end)
-stopped k order budget run d (Ok ran) runs ends stops =
-    subst (λ x. Stops k order budget x ran.end) (sym runs) (subst (λ x. Stops k order budget run x) (sym ends) stops)
-stopped k order budget run d (Err e) runs ends stops = tt
+-- what holds of a run and its end holds of those that are told
+pub told : {E : Type 0} (P : List ℕ → Configuration → Type 0) (run : List ℕ) (d : Configuration) (r : Result Ran E) →
+    IfOk r (λ ran. ran.run.items ≡ run) → IfOk r (λ ran. ran.end ≡ d) → P run d → IfOk r (λ ran. P ran.run.items ran.end)
+told P run d (Ok ran) runs ends holds = subst (λ x. P x ran.end) (sym runs) (subst (λ x. P run x) (sym ends) holds)
+told P run d (Err e) runs ends holds = tt

@@ -3,3 +3,4 @@ pub mod Turns
 pub mod Steps
 pub mod Machine
 pub mod InOrder
+pub mod Inside

@@ -1,12 +1,51 @@
 //! Which transitions are tested when.
 
-ghost use Rattle.std.specs.Prelude.{◌≡◌, IfOk};
-ghost use Rattle.core_charts.specs.Tests.{at_once, strong_aborts, weak_aborts, terminations, closing_tests};
-ghost use Rattle.core_charts.specs.Tests.{first_closing_tests};
+ghost use Rattle.std.specs.Prelude.{◌≡◌, ◌++◌, IfOk, OnOk, filter};
+ghost use Rattle.core_charts.specs.Tests.{at_once, strong_aborts, closing_tests, first_closing_tests};
+ghost use Rattle.chart_machine.specs.Inside.{is_chosen};
 
 use core_charts::Transition;
 use sqlite_items::Items;
 use std::alloc::{AllocError, Global};
+
+// Some of the transitions of a state: those that are tested in the tick of entry too, or those of a kind.
+#[derive(Clone, Copy)]
+enum Choice {
+    AtOnce,
+    Strong,
+    Weak,
+    Join,
+}
+
+impl Choice {
+    fn takes(self, transition: &Transition) -> bool
+        ensures { result ≡ is_chosen self transition.now }
+    {
+        match self {
+            Choice::AtOnce => transition.immediate,
+            Choice::Strong => transition.kind.is_strong(),
+            Choice::Weak => transition.kind.is_weak(),
+            Choice::Join => transition.kind.is_join(),
+        }
+    }
+}
+
+// Puts those of these transitions that are chosen behind others.
+fn put_chosen(
+    alloc: Global,
+    choice: Choice,
+    transitions: &[Transition],
+    chosen: &mut Items<Transition>,
+) -> Result<(), AllocError>
+    ensures { OnOk result (chosen.new ≡ chosen.old ++ filter (is_chosen choice) transitions.now) }
+{
+    for transition in transitions {
+        if choice.takes(transition) {
+            chosen.push(transition.copied(alloc)?)?;
+        }
+    }
+    Ok(())
+}
 
 // Those that are tested in the tick of entry too.
 pub(crate) fn at_once(
@@ -15,13 +54,9 @@ pub(crate) fn at_once(
 ) -> Result<Items<Transition>, AllocError>
     ensures { IfOk result (λ chosen. chosen ≡ at_once transitions.now) }
 {
-    let mut chosen = Vec::new(alloc);
-    for transition in transitions {
-        if transition.immediate {
-            chosen.push(transition.copied(alloc)?)?;
-        }
-    }
-    Ok(Items::from_vec(chosen))
+    let mut chosen = Items::new(alloc);
+    put_chosen(alloc, Choice::AtOnce, transitions, &mut chosen)?;
+    Ok(chosen)
 }
 
 pub(crate) fn strong_aborts(
@@ -30,37 +65,9 @@ pub(crate) fn strong_aborts(
 ) -> Result<Items<Transition>, AllocError>
     ensures { IfOk result (λ chosen. chosen ≡ strong_aborts transitions.now) }
 {
-    let mut chosen = Vec::new(alloc);
-    for transition in transitions {
-        if transition.kind.is_strong() {
-            chosen.push(transition.copied(alloc)?)?;
-        }
-    }
-    Ok(Items::from_vec(chosen))
-}
-
-fn weak_aborts(alloc: Global, transitions: &[Transition]) -> Result<Items<Transition>, AllocError>
-    ensures { IfOk result (λ chosen. chosen ≡ weak_aborts transitions.now) }
-{
-    let mut chosen = Vec::new(alloc);
-    for transition in transitions {
-        if transition.kind.is_weak() {
-            chosen.push(transition.copied(alloc)?)?;
-        }
-    }
-    Ok(Items::from_vec(chosen))
-}
-
-fn terminations(alloc: Global, transitions: &[Transition]) -> Result<Items<Transition>, AllocError>
-    ensures { IfOk result (λ chosen. chosen ≡ terminations transitions.now) }
-{
-    let mut chosen = Vec::new(alloc);
-    for transition in transitions {
-        if transition.kind.is_join() {
-            chosen.push(transition.copied(alloc)?)?;
-        }
-    }
-    Ok(Items::from_vec(chosen))
+    let mut chosen = Items::new(alloc);
+    put_chosen(alloc, Choice::Strong, transitions, &mut chosen)?;
+    Ok(chosen)
 }
 
 // What is tested when nobody inside can step: weak aborts, then the termination.
@@ -70,8 +77,9 @@ pub(crate) fn closing_tests(
 ) -> Result<Items<Transition>, AllocError>
     ensures { IfOk result (λ chosen. chosen ≡ closing_tests transitions.now) }
 {
-    let mut chosen = weak_aborts(alloc, transitions)?;
-    chosen.append(terminations(alloc, transitions)?)?;
+    let mut chosen = Items::new(alloc);
+    put_chosen(alloc, Choice::Weak, transitions, &mut chosen)?;
+    put_chosen(alloc, Choice::Join, transitions, &mut chosen)?;
     Ok(chosen)
 }
 
@@ -82,8 +90,9 @@ pub(crate) fn first_closing_tests(
 ) -> Result<Items<Transition>, AllocError>
     ensures { IfOk result (λ chosen. chosen ≡ first_closing_tests transitions.now) }
 {
-    let weak = weak_aborts(alloc, transitions)?;
+    let mut weak = Items::new(alloc);
+    put_chosen(alloc, Choice::Weak, transitions, &mut weak)?;
     let mut chosen = at_once(alloc, weak.as_slice())?;
-    chosen.append(terminations(alloc, transitions)?)?;
+    put_chosen(alloc, Choice::Join, transitions, &mut chosen)?;
     Ok(chosen)
 }

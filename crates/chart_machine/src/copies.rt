@@ -1,6 +1,6 @@
 //! Copies of what stands between two steps.
 
-ghost use Rattle.std.specs.Prelude.{◌≡◌, IfOk};
+ghost use Rattle.std.specs.Prelude.{◌≡◌, ◌++◌, IfOk, OnOk};
 
 use crate::standing::{Configuration, Move, Standing};
 use core_charts::{copied_effects, copied_transitions};
@@ -56,14 +56,18 @@ impl Move {
     }
 }
 
-pub(crate) fn copied_moves(alloc: Global, moves: &[Move]) -> Result<Items<Move>, AllocError>
-    ensures { IfOk result (λ copy. copy ≡ moves.now) }
+// Puts copies of moves behind others.
+pub(crate) fn put_moves(
+    alloc: Global,
+    moves: &[Move],
+    made: &mut Items<Move>,
+) -> Result<(), AllocError>
+    ensures { OnOk result (made.new ≡ made.old ++ moves.now) }
 {
-    let mut copy = Vec::with_capacity(alloc, moves.len())?;
     for one in moves {
-        copy.push(one.copied(alloc)?)?;
+        made.push(one.copied(alloc)?)?;
     }
-    Ok(Items::from_vec(copy))
+    Ok(())
 }
 
 pub(crate) fn copied_standings(
@@ -72,11 +76,11 @@ pub(crate) fn copied_standings(
 ) -> Result<Items<Standing>, AllocError>
     ensures { IfOk result (λ copy. copy ≡ standings.now) }
 {
-    let mut copy = Vec::with_capacity(alloc, standings.len())?;
+    let mut copy = Items::new(alloc);
     for standing in standings {
         copy.push(standing.copied(alloc)?)?;
     }
-    Ok(Items::from_vec(copy))
+    Ok(copy)
 }
 
 impl Configuration {

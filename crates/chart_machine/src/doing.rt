@@ -15,6 +15,7 @@ use crate::table::Table;
 use core_charts::{Effect, Transition, copied_transitions};
 use sc_graph::VariableId;
 use sc_values::Value;
+use sqlite_items::Items;
 use std::alloc::{AllocError, Global};
 
 impl Table {
@@ -45,7 +46,8 @@ impl Table {
         if !self.takes(effect.variable, value) {
             return Ok(None);
         }
-        let moves = self.acts(alloc, region, state, rest, target)?;
+        let mut moves = Items::new(alloc);
+        self.put_acts(alloc, region, state, rest, target, &mut moves)?;
         Ok(Some(RegionChange {
             write: Some(Write {
                 variable: effect.variable,
@@ -73,8 +75,7 @@ impl Table {
         let Some(value) = value_of(&effect.value, c.variables.as_slice()) else {
             return Ok(None);
         };
-        let change = self.effected(alloc, region, state, effect, rest, target, value)?;
-        Ok(change)
+        self.effected(alloc, region, state, effect, rest, target, value)
     }
 
     fn tried(
@@ -92,8 +93,7 @@ impl Table {
         };
         let tests = copied_transitions(alloc, rest)?;
         let otherwise = only_move(alloc, region, Standing::Trying { state, tests })?;
-        let change = self.tested(alloc, c, region, state, test, otherwise)?;
-        Ok(change)
+        self.tested(alloc, c, region, state, test, otherwise)
     }
 
     fn come(
@@ -110,8 +110,7 @@ impl Table {
             return Ok(None);
         };
         let otherwise = self.entering_on(alloc, region, state, rest)?;
-        let change = self.tested(alloc, c, region, state, test, otherwise)?;
-        Ok(change)
+        self.tested(alloc, c, region, state, test, otherwise)
     }
 
     fn guarded(
@@ -128,8 +127,7 @@ impl Table {
             return Ok(None);
         };
         let otherwise = self.guarding_on(alloc, region, state, rest)?;
-        let change = self.tested(alloc, c, region, state, test, otherwise)?;
-        Ok(change)
+        self.tested(alloc, c, region, state, test, otherwise)
     }
 
     fn closed(
@@ -147,8 +145,7 @@ impl Table {
         };
         let tests = copied_transitions(alloc, rest)?;
         let otherwise = only_move(alloc, region, Standing::Within { state, tests })?;
-        let change = self.tested(alloc, c, region, state, test, otherwise)?;
-        Ok(change)
+        self.tested(alloc, c, region, state, test, otherwise)
     }
 
     fn change_of(
@@ -163,22 +160,22 @@ impl Table {
         match standing {
             Standing::Outside | Standing::Ended => Ok(None),
             Standing::Trying { state, tests } => {
-                Ok(self.tried(alloc, c, region, *state, tests.as_slice())?)
+                self.tried(alloc, c, region, *state, tests.as_slice())
             }
             Standing::Entering { state, tests } => {
-                Ok(self.come(alloc, c, region, *state, tests.as_slice())?)
+                self.come(alloc, c, region, *state, tests.as_slice())
             }
             Standing::Guarding { state, tests } => {
-                Ok(self.guarded(alloc, c, region, *state, tests.as_slice())?)
+                self.guarded(alloc, c, region, *state, tests.as_slice())
             }
             Standing::Within { state, tests } => {
-                Ok(self.closed(alloc, c, region, *state, tests.as_slice())?)
+                self.closed(alloc, c, region, *state, tests.as_slice())
             }
             Standing::Acting {
                 state,
                 effects,
                 target,
-            } => Ok(self.acted(alloc, c, region, *state, effects.as_slice(), *target)?),
+            } => self.acted(alloc, c, region, *state, effects.as_slice(), *target),
         }
     }
 

@@ -1,45 +1,49 @@
 //! The moves by which a state is entered.
 
-ghost use Rattle.std.specs.Prelude.{◌≡◌, ◌∷◌, [], IfOk, map};
+ghost use Rattle.std.specs.Prelude.{◌≡◌, ◌∷◌, ◌++◌, [], OnOk, map};
 ghost use Rattle.core_charts.specs.declared.region.Region.TheViews.{out-State};
-ghost use Rattle.chart_machine.specs.Table.{is_superstate, entered_superstate, entered_state, subtree_of_region};
+ghost use Rattle.core_charts.specs.Tests.{first_closing_tests};
+ghost use Rattle.chart_machine.specs.declared.standing.Standing.TheVariants as standing;
+ghost use Rattle.chart_machine.specs.Table.{is_superstate, entered_superstate, subtree_of_region};
+ghost use Rattle.chart_machine.specs.Inside.{entered_of};
 
 use crate::chosen::{at_once, first_closing_tests, strong_aborts};
-use crate::copies::copied_moves;
+use crate::copies::put_moves;
 use crate::standing::{Move, Standing};
 use crate::table::TablePosition;
 use core_charts::{State, Transition};
 use sqlite_items::Items;
 use std::alloc::{AllocError, Global};
 
-// What entering a state makes of regions, where these are the moves by which its own regions are entered.
-pub(crate) fn entered_state(
+// Puts what entering a state makes of regions behind other moves, where these are the moves by which its own regions
+// are entered.
+pub(crate) fn put_entered(
     alloc: Global,
     state: &State,
     at: &TablePosition,
     opened: &[Move],
-) -> Result<Items<Move>, AllocError>
-    ensures { IfOk result (λ moves. moves ≡ entered_state (out-State state.now).is_final
-        (is_superstate (map subtree_of_region (out-State state.now).regions)) at.now
-        (out-State state.now).transitions opened.now) }
+    moves: &mut Items<Move>,
+) -> Result<(), AllocError>
+    ensures { OnOk result (moves.new ≡ moves.old ++ entered_of state.now at.now opened.now) }
 {
     let transitions = state.transitions.as_slice();
     if state.is_final {
-        return only_move(alloc, at.holder, Standing::Ended);
+        return moves.push(Move {
+            region: at.holder,
+            standing: Standing::Ended,
+        });
     }
-    if !is_superstate(state) {
-        let tests = at_once(alloc, transitions)?;
-        return only_move(
-            alloc,
-            at.holder,
-            Standing::Trying {
-                state: at.state,
-                tests,
-            },
-        );
+    if is_superstate(state) {
+        return put_entered_superstate(alloc, transitions, at, opened, moves);
     }
-    let moves = entered_superstate(alloc, transitions, at, opened)?;
-    Ok(moves)
+    let tests = at_once(alloc, transitions)?;
+    moves.push(Move {
+        region: at.holder,
+        standing: Standing::Trying {
+            state: at.state,
+            tests,
+        },
+    })
 }
 
 #[tactic(auto, using(crate::proofs::Superstates::superstate_alike))]
@@ -49,43 +53,49 @@ fn is_superstate(state: &State) -> bool
     state.is_superstate()
 }
 
-fn entered_superstate(
+fn put_entered_superstate(
     alloc: Global,
     transitions: &[Transition],
     at: &TablePosition,
     opened: &[Move],
-) -> Result<Items<Move>, AllocError>
-    ensures { IfOk result (λ moves. moves ≡ entered_superstate at.now transitions.now opened.now) }
+    moves: &mut Items<Move>,
+) -> Result<(), AllocError>
+    ensures { OnOk result (moves.new ≡ moves.old ++ entered_superstate at.now transitions.now opened.now) }
 {
     let strong = strong_aborts(alloc, transitions)?;
     let tests = at_once(alloc, strong.as_slice())?;
     if !tests.is_empty() {
-        return only_move(
-            alloc,
-            at.holder,
-            Standing::Entering {
+        return moves.push(Move {
+            region: at.holder,
+            standing: Standing::Entering {
                 state: at.state,
                 tests,
             },
-        );
+        });
     }
+    put_within(alloc, transitions, at, moves)?;
+    put_moves(alloc, opened, moves)
+}
+
+// Puts the move into a superstate whose inside has the turn behind others.
+fn put_within(
+    alloc: Global,
+    transitions: &[Transition],
+    at: &TablePosition,
+    moves: &mut Items<Move>,
+) -> Result<(), AllocError>
+    ensures { OnOk result (moves.new ≡ moves.old ++ record {
+      region = at.now.holder;
+      standing =
+          standing.Within at.now.state (first_closing_tests transitions.now);
+    } ∷ []) }
+{
     let tests = first_closing_tests(alloc, transitions)?;
-    let mut moves = only_move(
-        alloc,
-        at.holder,
-        Standing::Within {
+    moves.push(Move {
+        region: at.holder,
+        standing: Standing::Within {
             state: at.state,
             tests,
         },
-    )?;
-    moves.append(copied_moves(alloc, opened)?)?;
-    Ok(moves)
-}
-
-fn only_move(alloc: Global, region: usize, standing: Standing) -> Result<Items<Move>, AllocError>
-    ensures { IfOk result (λ moves. moves ≡ record { region = region; standing = standing } ∷ []) }
-{
-    let mut moves = Items::new(alloc);
-    moves.push(Move { region, standing })?;
-    Ok(moves)
+    })
 }

@@ -9,7 +9,6 @@ mod evaluating;
 mod numbering;
 mod region_change;
 mod running;
-mod sizes;
 mod standing;
 mod starting;
 mod stepping;

@@ -73,7 +73,7 @@ impl Table {
     fn ran(&self, alloc: Global, run: Vec<usize>, end: Configuration) -> Result<Ran, AllocError>
         ensures run { IfOk result (λ ran. ran.run.items ≡ run.items) }
         ensures end { IfOk result (λ ran. ran.end ≡ end) }
-        ensures over { IfOk result (λ ran. IsTrue ran.is_over ↔ IsOver (machine self.now) end) }
+        ensures over { IfOk result (λ ran. IsTrue ran.is_over ↔ IsOver (machine self.now) ran.end) }
     {
         let is_over = self.is_over(alloc, &end)?;
         Ok(Ran { run, end, is_over })

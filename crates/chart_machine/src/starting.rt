@@ -15,7 +15,7 @@ use crate::copies::copied_standings;
 use crate::standing::{Configuration, Standing};
 use crate::stepping::move_all;
 use crate::table::{RegionRow, Table};
-use core_charts::Transition;
+use core_charts::{Transition, copied_transitions};
 use sc_graph::{Role, Variable};
 use sc_values::{Name, Value};
 use sqlite_items::Items;
@@ -65,18 +65,17 @@ impl Table {
             move_all(alloc, self.opened.as_slice(), &mut started)?;
             return Ok(started);
         }
-        let started = self.all_woken(alloc, regions)?;
-        Ok(started)
+        self.all_woken(alloc, regions)
     }
 
     fn all_woken(&self, alloc: Global, regions: &[Standing]) -> Result<Items<Standing>, AllocError>
         ensures { IfOk result (λ started. started ≡ map (woken self.now) regions.now) }
     {
-        let mut started = Vec::with_capacity(alloc, regions.len())?;
+        let mut started = Items::new(alloc);
         for standing in regions {
             started.push(self.woken(alloc, standing)?)?;
         }
-        Ok(Items::from_vec(started))
+        Ok(started)
     }
 
     // A simple state tests all its transitions, a superstate all its aborts.
@@ -86,15 +85,12 @@ impl Table {
         match standing {
             Standing::Trying { state, tests: _ } => Ok(Standing::Trying {
                 state: *state,
-                tests: self.transitions(alloc, *state)?,
+                tests: copied_transitions(alloc, self.transitions(*state))?,
             }),
             Standing::Within { state, tests: _ } => {
-                let transitions = self.transitions(alloc, *state)?;
-                let strong = strong_aborts(alloc, transitions.as_slice())?;
-                let closing = closing_tests(alloc, transitions.as_slice())?;
-                Ok(guarded_first(*state, strong, closing))
+                guarded_first(alloc, *state, self.transitions(*state))
             }
-            other => Ok(other.copied(alloc)?),
+            other => other.copied(alloc),
         }
     }
 
@@ -112,40 +108,40 @@ impl Table {
 fn initial_values(alloc: Global, variables: &[Variable]) -> Result<Items<Value>, AllocError>
     ensures { IfOk result (λ values. values ≡ map (λ x. initial_value x.kind) variables.now) }
 {
-    let mut values = Vec::with_capacity(alloc, variables.len())?;
+    let mut values = Items::new(alloc);
     for variable in variables {
         values.push(variable.kind.initial())?;
     }
-    Ok(Items::from_vec(values))
+    Ok(values)
 }
 
 // The chart and all regions outside.
 fn all_outside(alloc: Global, rows: &[RegionRow]) -> Result<Items<Standing>, AllocError>
     ensures { IfOk result (λ regions. regions ≡ at.Outside ∷ map (λ r. at.Outside) rows.now) }
 {
-    let mut regions = Vec::new(alloc);
+    let mut regions = Items::new(alloc);
     regions.push(Standing::Outside)?;
     for _row in rows {
         regions.push(Standing::Outside)?;
     }
-    Ok(Items::from_vec(regions))
+    Ok(regions)
 }
 
 // Strong aborts come first, where there are some.
-fn guarded_first(state: usize, strong: Items<Transition>, closing: Items<Transition>) -> Standing
-    ensures { result ≡ guarded_first state strong closing }
+fn guarded_first(
+    alloc: Global,
+    state: usize,
+    transitions: &[Transition],
+) -> Result<Standing, AllocError>
+    ensures { IfOk result (λ started. started ≡
+        guarded_first state (strong_aborts transitions.now) (closing_tests transitions.now)) }
 {
-    if strong.is_empty() {
-        Standing::Within {
-            state,
-            tests: closing,
-        }
-    } else {
-        Standing::Guarding {
-            state,
-            tests: strong,
-        }
+    let tests = strong_aborts(alloc, transitions)?;
+    if !tests.is_empty() {
+        return Ok(Standing::Guarding { state, tests });
     }
+    let tests = closing_tests(alloc, transitions)?;
+    Ok(Standing::Within { state, tests })
 }
 
 fn stands_in(standing: &Standing, at: usize) -> bool
@@ -193,14 +189,14 @@ fn started_values(
 ) -> Result<Items<Value>, AllocError>
     ensures { IfOk result (λ started. started ≡ values_at_start inputs.now variables.now values.now) }
 {
-    let mut started = Vec::with_capacity(alloc, variables.len())?;
+    let mut started = Items::new(alloc);
     for (x, variable) in variables.iter().enumerate() {
         if x >= values.len() {
-            return Ok(Items::from_vec(started));
+            return Ok(started);
         }
         started.push(started_value(inputs, variable, values[x]))?;
     }
-    Ok(Items::from_vec(started))
+    Ok(started)
 }
 
 fn started_value(inputs: &[(Name, Value)], variable: &Variable, present: Value) -> Value

@@ -1,12 +1,12 @@
 //! One step of a region.
 
-ghost use Rattle.std.specs.Prelude.{◌≡◌, ◌∷◌, [], IfOk, OnOk, slice_set};
+ghost use Rattle.std.specs.Prelude.{◌≡◌, ◌∷◌, ◌++◌, [], IfOk, OnOk, Some, None, slice_set};
 ghost use Rattle.chart_machine.specs.Table.{state_at};
 ghost use Rattle.chart_machine.specs.Steps.{to, moved, written, after, state_in, dropped, acts, taken, tested};
 ghost use Rattle.chart_machine.specs.Steps.{entering_on, guarding_on};
 
 use crate::chosen::{closing_tests, first_closing_tests};
-use crate::copies::copied_moves;
+use crate::copies::put_moves;
 use crate::evaluating::verdict;
 use crate::region_change::{RegionChange, Write};
 use crate::standing::{Configuration, Move, Standing};
@@ -83,34 +83,43 @@ impl Configuration {
 }
 
 impl Table {
-    pub(crate) fn transitions(
+    // The transitions of a state; none for a number without a state.
+    pub(crate) fn transitions(&self, state: usize) -> &[Transition]
+        ensures { result.now ≡ (state_at self.now state).transitions }
+    {
+        match self.states.get(state) {
+            Some(row) => row.transitions.as_slice(),
+            None => &[],
+        }
+    }
+
+    // Puts the moves by which a state is entered behind others.
+    fn put_entered(
         &self,
         alloc: Global,
         state: usize,
-    ) -> Result<Items<Transition>, AllocError>
-        ensures { IfOk result (λ transitions. transitions ≡ (state_at self.now state).transitions) }
+        moves: &mut Items<Move>,
+    ) -> Result<(), AllocError>
+        ensures { OnOk result (moves.new ≡ moves.old ++ (state_at self.now state).entered) }
     {
         match self.states.get(state) {
-            Some(row) => Ok(copied_transitions(alloc, row.transitions.as_slice())?),
-            None => Ok(Items::new(alloc)),
+            Some(row) => put_moves(alloc, row.entered.as_slice(), moves),
+            None => Ok(()),
         }
     }
 
-    fn entered(&self, alloc: Global, state: usize) -> Result<Items<Move>, AllocError>
-        ensures { IfOk result (λ moves. moves ≡ (state_at self.now state).entered) }
+    // Puts the moves by which the regions of a state are entered behind others.
+    fn put_opened(
+        &self,
+        alloc: Global,
+        state: usize,
+        moves: &mut Items<Move>,
+    ) -> Result<(), AllocError>
+        ensures { OnOk result (moves.new ≡ moves.old ++ (state_at self.now state).opened) }
     {
         match self.states.get(state) {
-            Some(row) => Ok(copied_moves(alloc, row.entered.as_slice())?),
-            None => Ok(Items::new(alloc)),
-        }
-    }
-
-    fn opened(&self, alloc: Global, state: usize) -> Result<Items<Move>, AllocError>
-        ensures { IfOk result (λ moves. moves ≡ (state_at self.now state).opened) }
-    {
-        match self.states.get(state) {
-            Some(row) => Ok(copied_moves(alloc, row.opened.as_slice())?),
-            None => Ok(Items::new(alloc)),
+            Some(row) => put_moves(alloc, row.opened.as_slice(), moves),
+            None => Ok(()),
         }
     }
 
@@ -130,47 +139,49 @@ impl Table {
         }
     }
 
-    // All that is inside is dropped.
-    fn dropped(&self, alloc: Global, state: usize) -> Result<Items<Move>, AllocError>
-        ensures { IfOk result (λ moves. moves ≡ dropped self.now state) }
+    // Puts the moves by which all that is inside a state is dropped behind others.
+    fn put_dropped(
+        &self,
+        alloc: Global,
+        state: usize,
+        moves: &mut Items<Move>,
+    ) -> Result<(), AllocError>
+        ensures { OnOk result (moves.new ≡ moves.old ++ dropped self.now state) }
     {
         let inside = self.inside(alloc, state)?;
-        let mut moves = Vec::new(alloc);
         for region in inside.as_slice() {
             moves.push(Move {
                 region: *region,
                 standing: Standing::Outside,
             })?;
         }
-        Ok(Items::from_vec(moves))
+        Ok(())
     }
 
     // Goes on with the effects of a transition out of a state, or enters its target.
-    pub(crate) fn acts(
+    pub(crate) fn put_acts(
         &self,
         alloc: Global,
         region: usize,
         state: usize,
         effects: &[Effect],
         target: u32,
-    ) -> Result<Items<Move>, AllocError>
-        ensures { IfOk result (λ moves. moves ≡ acts self.now region state effects.now target) }
+        moves: &mut Items<Move>,
+    ) -> Result<(), AllocError>
+        ensures { OnOk result (moves.new ≡ moves.old ++ acts self.now region state effects.now target) }
     {
         if effects.is_empty() {
-            let moves = self.entered(alloc, self.state_in(region, target))?;
-            return Ok(moves);
+            return self.put_entered(alloc, self.state_in(region, target), moves);
         }
         let effects = copied_effects(alloc, effects)?;
-        let moves = only_move(
-            alloc,
+        moves.push(Move {
             region,
-            Standing::Acting {
+            standing: Standing::Acting {
                 state,
                 effects,
                 target,
             },
-        )?;
-        Ok(moves)
+        })
     }
 
     // Takes a transition out of a state.
@@ -180,18 +191,15 @@ impl Table {
         region: usize,
         state: usize,
         transition: &Transition,
-    ) -> Result<Items<Move>, AllocError>
-        ensures { IfOk result (λ moves. moves ≡ taken self.now region state transition.now) }
+    ) -> Result<Option<RegionChange>, AllocError>
+        ensures { IfOk result (λ change.
+            change ≡ Some (record { write = None; moves = taken self.now region state transition.now })) }
     {
-        let mut moves = self.dropped(alloc, state)?;
-        moves.append(self.acts(
-            alloc,
-            region,
-            state,
-            transition.effects.as_slice(),
-            transition.target,
-        )?)?;
-        Ok(moves)
+        let mut moves = Items::new(alloc);
+        self.put_dropped(alloc, state, &mut moves)?;
+        let effects = transition.effects.as_slice();
+        self.put_acts(alloc, region, state, effects, transition.target, &mut moves)?;
+        Ok(Some(RegionChange { write: None, moves }))
     }
 
     // A test: where it is true its transition is taken, else these moves are made.
@@ -207,10 +215,7 @@ impl Table {
         ensures { IfOk result (λ change. change ≡ tested self.now c.now region state test.now otherwise) }
     {
         match verdict(c.variables.as_slice(), &test.trigger) {
-            Some(true) => {
-                let moves = self.taken(alloc, region, state, test)?;
-                Ok(Some(RegionChange { write: None, moves }))
-            }
+            Some(true) => self.taken(alloc, region, state, test),
             Some(false) => Ok(Some(RegionChange {
                 write: None,
                 moves: otherwise,
@@ -231,13 +236,11 @@ impl Table {
     {
         if !tests.is_empty() {
             let tests = copied_transitions(alloc, tests)?;
-            let moves = only_move(alloc, region, Standing::Entering { state, tests })?;
-            return Ok(moves);
+            return only_move(alloc, region, Standing::Entering { state, tests });
         }
-        let transitions = self.transitions(alloc, state)?;
-        let tests = first_closing_tests(alloc, transitions.as_slice())?;
+        let tests = first_closing_tests(alloc, self.transitions(state))?;
         let mut moves = only_move(alloc, region, Standing::Within { state, tests })?;
-        moves.append(self.opened(alloc, state)?)?;
+        self.put_opened(alloc, state, &mut moves)?;
         Ok(moves)
     }
 
@@ -253,12 +256,9 @@ impl Table {
     {
         if !tests.is_empty() {
             let tests = copied_transitions(alloc, tests)?;
-            let moves = only_move(alloc, region, Standing::Guarding { state, tests })?;
-            return Ok(moves);
+            return only_move(alloc, region, Standing::Guarding { state, tests });
         }
-        let transitions = self.transitions(alloc, state)?;
-        let tests = closing_tests(alloc, transitions.as_slice())?;
-        let moves = only_move(alloc, region, Standing::Within { state, tests })?;
-        Ok(moves)
+        let tests = closing_tests(alloc, self.transitions(state))?;
+        only_move(alloc, region, Standing::Within { state, tests })
     }
 }

@@ -1,6 +1,6 @@
 //! Where a state or a region stands in the table of a chart.
 
-ghost use Rattle.std.specs.Prelude.{◌≡◌, IfOk};
+ghost use Rattle.std.specs.Prelude.{◌≡◌, IfOk, OnOk};
 ghost use Rattle.chart_machine.specs.Table.{with_region, past_states, behind, within, inside_region, subtree_of_region};
 ghost use Rattle.chart_machine.specs.Table.{subtree_of_state};
 
@@ -11,17 +11,6 @@ use sqlite_items::Items;
 use std::alloc::{AllocError, Global};
 
 impl TablePosition {
-    pub(crate) fn copied(&self, alloc: Global) -> Result<TablePosition, AllocError>
-        ensures { IfOk result (λ copy. copy ≡ self.now) }
-    {
-        Ok(TablePosition {
-            state: self.state,
-            region: self.region,
-            holder: self.holder,
-            around: Items::from_slice(alloc, self.around.as_slice())?,
-        })
-    }
-
     // What is inside a superstate of this position.
     pub(crate) fn within(&self, alloc: Global) -> Result<TablePosition, AllocError>
         ensures { IfOk result (λ at. at ≡ within self.now) }
@@ -71,30 +60,20 @@ impl TablePosition {
         })
     }
 
-    // Where the next state of the region stands.
-    pub(crate) fn past(self, state: &State) -> Result<TablePosition, AllocError>
-        ensures { IfOk result (λ at. at ≡ past_states (subtree_of_state state.now).states self) }
+    // Goes on to where the next state of the region stands.
+    pub(crate) fn pass(&mut self, state: &State) -> Result<(), AllocError>
+        ensures { OnOk result (self.new ≡ past_states (subtree_of_state state.now).states self.old) }
     {
-        let state = past_states(state, self.state)?;
-        Ok(TablePosition {
-            state,
-            region: self.region,
-            holder: self.holder,
-            around: self.around,
-        })
+        self.state = past_states(state, self.state)?;
+        Ok(())
     }
 
-    // Where the next region of the superstate stands.
-    pub(crate) fn behind(self, region: &Region) -> Result<TablePosition, AllocError>
-        ensures { IfOk result (λ at. at ≡ behind (subtree_of_region region.now) self) }
+    // Goes on to where the next region of the superstate stands.
+    pub(crate) fn pass_region(&mut self, region: &Region) -> Result<(), AllocError>
+        ensures { OnOk result (self.new ≡ behind (subtree_of_region region.now) self.old) }
     {
-        let state = past_states_of_region(region, self.state)?;
-        let region = past_region(region, self.region)?;
-        Ok(TablePosition {
-            state,
-            region,
-            holder: self.holder,
-            around: self.around,
-        })
+        self.state = past_states_of_region(region, self.state)?;
+        self.region = past_region(region, self.region)?;
+        Ok(())
     }
 }

@@ -1,15 +1,14 @@
 //! The table of a chart.
 
-ghost use Rattle.std.specs.Prelude.{◌≡◌, ◌++◌, IfOk, OnOk, map};
-ghost use Rattle.chart_machine.specs.Table.{both, followed_by, alone, next_behind, side_by_side, in_region};
-ghost use Rattle.chart_machine.specs.Table.{subtree_of_region};
-ghost use Rattle.chart_machine.specs.Table.{subtree_of_state, table_of, table};
+ghost use Rattle.std.specs.Prelude.{◌≡◌, ◌∷◌, ◌++◌, [], IfOk, OnOk, map};
+ghost use Rattle.chart_machine.specs.Table.{both, nothing, alone, next_behind, side_by_side, in_region};
+ghost use Rattle.chart_machine.specs.Table.{state_numbers, subtree_of_region, subtree_of_state, table_of, table};
+ghost use Rattle.chart_machine.specs.Inside.{HaveStates, row_of};
 
-use crate::copies::copied_moves;
-use crate::entering::entered_state;
-use crate::numbering::{past_regions, region_numbers, state_numbers};
-use crate::sizes::regions_in_initial;
-use crate::table::{RegionRow, StateRow, StatesRows, SubtreeRows, Table, TablePosition};
+use crate::entering::put_entered;
+use crate::numbering::{past_initial, past_regions, region_numbers, state_numbers};
+use crate::standing::Move;
+use crate::table::{RegionRow, StateRow, SubtreeRows, Table, TablePosition};
 use core_charts::{Chart, CoreChart, Region, State, copied_transitions, copied_variables};
 use sc_graph::Variable;
 use sqlite_items::Items;
@@ -41,171 +40,199 @@ fn table_of(alloc: Global, variables: &[Variable], regions: &[Region]) -> Result
         holder: 0,
         around: Items::new(alloc),
     };
-    let parts = side_by_side(alloc, regions, &whole)?;
+    let mut rows = SubtreeRows::none(alloc);
+    put_side_by_side(alloc, regions, whole, &mut rows)?;
     let variables = copied_variables(alloc, variables)?;
     Ok(Table {
         variables,
-        states: parts.states,
-        regions: parts.regions,
-        opened: parts.entered,
+        states: rows.states,
+        regions: rows.regions,
+        opened: rows.entered,
     })
 }
 
 impl SubtreeRows {
-    // These, and others behind them.
-    fn put(&mut self, more: SubtreeRows) -> Result<(), AllocError>
-        ensures { OnOk result (self.new ≡ both self.old more) }
+    fn none(alloc: Global) -> SubtreeRows
+        ensures { result ≡ nothing }
     {
-        self.states.append(more.states)?;
-        self.regions.append(more.regions)?;
-        self.entered.append(more.entered)
+        SubtreeRows {
+            states: Items::new(alloc),
+            regions: Items::new(alloc),
+            entered: Items::new(alloc),
+        }
     }
 }
 
-// The regions of a superstate, side by side.
+// Puts what regions of a superstate give, side by side from this position on, behind other rows.
 #[cycle(parts)]
-fn side_by_side(
+fn put_side_by_side(
     alloc: Global,
     regions: &[Region],
-    at: &TablePosition,
-) -> Result<SubtreeRows, AllocError>
-    ensures { IfOk result (λ parts. parts ≡ side_by_side (map subtree_of_region regions.now) at.now) }
+    at: TablePosition,
+    rows: &mut SubtreeRows,
+) -> Result<(), AllocError>
+    ensures { OnOk result (rows.new ≡ both rows.old (side_by_side (map subtree_of_region regions.now) at)) }
 {
-    let mut here = at.copied(alloc)?;
-    let mut parts = SubtreeRows {
-        states: Items::new(alloc),
-        regions: Items::new(alloc),
-        entered: Items::new(alloc),
-    };
+    let mut here = at;
     for region in regions {
-        parts.put(region_parts(alloc, region, &here)?)?;
-        here = here.behind(region)?;
+        put_region(alloc, region, &here, rows)?;
+        here.pass_region(region)?;
     }
-    Ok(parts)
+    Ok(())
 }
 
-#[cycle(parts)]
-fn state_parts(alloc: Global, state: &State, at: &TablePosition) -> Result<SubtreeRows, AllocError>
-    ensures { IfOk result (λ parts. parts ≡ (subtree_of_state state.now).parts at.now) }
-{
-    let regions = state.regions.as_slice();
-    let inside = side_by_side(alloc, regions, &at.within(alloc)?)?;
-    let entered = entered_state(alloc, state, at, inside.entered.as_slice())?;
-    let mut states = Items::new(alloc);
-    states.push(StateRow {
-        holder: at.holder,
-        regions: region_numbers(alloc, regions, at.region)?,
-        transitions: copied_transitions(alloc, state.transitions.as_slice())?,
-        entered: copied_moves(alloc, entered.as_slice())?,
-        opened: inside.entered,
-    })?;
-    states.append(inside.states)?;
-    Ok(SubtreeRows {
-        states,
-        regions: inside.regions,
-        entered,
-    })
-}
-
-#[cycle(parts)]
-fn region_parts(
-    alloc: Global,
-    region: &Region,
-    at: &TablePosition,
-) -> Result<SubtreeRows, AllocError>
-    ensures { IfOk result (λ parts. parts ≡ (subtree_of_region region.now).parts at.now) }
-{
-    let states = region.states.as_slice();
-    let inside = at.inside_region(alloc)?;
-    let Some(count) = regions_in_initial(states) else {
-        return Err(AllocError);
-    };
-    let Some(next) = inside.region.checked_add(count) else {
-        return Err(AllocError);
-    };
-    let inner = in_region(alloc, states, next, &inside)?;
-    let mut regions = Items::new(alloc);
-    regions.push(RegionRow {
-        around: Items::from_slice(alloc, at.around.as_slice())?,
-        states: state_numbers(alloc, states, at.state)?,
-    })?;
-    regions.append(inner.first)?;
-    regions.append(inner.others)?;
-    Ok(SubtreeRows {
-        states: inner.states,
-        regions,
-        entered: inner.entered,
-    })
-}
-
-impl StatesRows {
-    // These, and an initial state behind them.
-    fn lead(&mut self, more: SubtreeRows) -> Result<(), AllocError>
-        ensures states { OnOk result (self.new.states ≡ self.old.states ++ more.states) }
-        ensures first { OnOk result (self.new.first ≡ self.old.first ++ more.regions) }
-        ensures others { OnOk result (self.new.others ≡ self.old.others) }
-        ensures entered { OnOk result (self.new.entered ≡ self.old.entered ++ more.entered) }
-    {
-        self.states.append(more.states)?;
-        self.first.append(more.regions)?;
-        self.entered.append(more.entered)
-    }
-
-    // These, and another state behind them.
-    fn trail(&mut self, more: SubtreeRows) -> Result<(), AllocError>
-        ensures states { OnOk result (self.new.states ≡ self.old.states ++ more.states) }
-        ensures first { OnOk result (self.new.first ≡ self.old.first) }
-        ensures others { OnOk result (self.new.others ≡ self.old.others ++ more.regions) }
-        ensures entered { OnOk result (self.new.entered ≡ self.old.entered) }
-    {
-        self.states.append(more.states)?;
-        self.others.append(more.regions)
-    }
-}
-
-// The states of a region, where the regions inside all but the initial one have the numbers from next on.
-#[cycle(parts)]
-fn in_region(
-    alloc: Global,
-    states: &[State],
-    next: usize,
-    at: &TablePosition,
-) -> Result<StatesRows, AllocError>
-    ensures { IfOk result (λ inner. inner ≡ in_region (map subtree_of_state states.now) next at.now) }
-{
-    let mut here = at.copied(alloc)?;
-    let mut next = next;
-    let mut inner = StatesRows {
-        states: Items::new(alloc),
-        first: Items::new(alloc),
-        others: Items::new(alloc),
-        entered: Items::new(alloc),
-    };
-    for state in states {
-        next = put_state(alloc, state, next, &here, &mut inner)?;
-        here = here.past(state)?;
-    }
-    Ok(inner)
-}
-
-// Puts what a state gives behind what those before it gave: the answer is the next number of a region.
+// Puts what a state gives behind other rows.
 #[cycle(parts)]
 fn put_state(
     alloc: Global,
     state: &State,
+    at: &TablePosition,
+    rows: &mut SubtreeRows,
+) -> Result<(), AllocError>
+    ensures { OnOk result (rows.new ≡ both rows.old ((subtree_of_state state.now).parts at.now)) }
+{
+    let mut inside = SubtreeRows::none(alloc);
+    put_side_by_side(
+        alloc,
+        state.regions.as_slice(),
+        at.within(alloc)?,
+        &mut inside,
+    )?;
+    put_entered(
+        alloc,
+        state,
+        at,
+        inside.entered.as_slice(),
+        &mut rows.entered,
+    )?;
+    put_row(alloc, state, at, inside.entered, &mut rows.states)?;
+    rows.states.append(inside.states)?;
+    rows.regions.append(inside.regions)
+}
+
+// Puts the row of a state behind others.
+fn put_row(
+    alloc: Global,
+    state: &State,
+    at: &TablePosition,
+    opened: Items<Move>,
+    rows: &mut Items<StateRow>,
+) -> Result<(), AllocError>
+    ensures { OnOk result (rows.new ≡ rows.old ++ row_of state.now at.now opened ∷ []) }
+{
+    let mut entered = Items::new(alloc);
+    put_entered(alloc, state, at, opened.as_slice(), &mut entered)?;
+    rows.push(StateRow {
+        holder: at.holder,
+        regions: region_numbers(alloc, state.regions.as_slice(), at.region)?,
+        transitions: copied_transitions(alloc, state.transitions.as_slice())?,
+        entered,
+        opened,
+    })
+}
+
+// Puts what a region gives behind other rows.
+#[cycle(parts)]
+fn put_region(
+    alloc: Global,
+    region: &Region,
+    at: &TablePosition,
+    rows: &mut SubtreeRows,
+) -> Result<(), AllocError>
+    ensures states { OnOk result (rows.new.states ≡
+        rows.old.states ++ ((subtree_of_region region.now).parts at.now).states) }
+    ensures regions { OnOk result (rows.new.regions ≡
+        rows.old.regions ++ ((subtree_of_region region.now).parts at.now).regions) }
+    ensures entered { OnOk result (rows.new.entered ≡
+        rows.old.entered ++ ((subtree_of_region region.now).parts at.now).entered) }
+{
+    let states = region.states.as_slice();
+    put_region_row(alloc, states, at, &mut rows.regions)?;
+    let inside = at.inside_region(alloc)?;
+    let next = past_initial(states, inside.region)?;
+    let mut others = Items::new(alloc);
+    put_states(alloc, states, next, inside, rows, &mut others)?;
+    rows.regions.append(others)?;
+    Ok(())
+}
+
+// Puts the row of a region of these states behind others.
+fn put_region_row(
+    alloc: Global,
+    states: &[State],
+    at: &TablePosition,
+    rows: &mut Items<RegionRow>,
+) -> Result<(), AllocError>
+    ensures { OnOk result (rows.new ≡ rows.old ++
+        record { around = at.now.around; states = state_numbers (map subtree_of_state states.now) at.now.state } ∷ []) }
+{
+    rows.push(RegionRow {
+        around: Items::from_slice(alloc, at.around.as_slice())?,
+        states: state_numbers(alloc, states, at.state)?,
+    })
+}
+
+// Puts what the states of a region give, from this position on, behind other rows; the rows of the regions inside all
+// but the initial one, which have the numbers from next on, behind others of these.
+#[cycle(parts)]
+fn put_states(
+    alloc: Global,
+    states: &[State],
+    next: usize,
+    at: TablePosition,
+    rows: &mut SubtreeRows,
+    others: &mut Items<RegionRow>,
+) -> Result<(), AllocError>
+    ensures { OnOk result (HaveStates (in_region (map subtree_of_state states.now) next at)
+        rows.old rows.new others.old others.new) }
+{
+    let mut here = at;
+    let mut next = next;
+    for state in states {
+        next = put_one(alloc, state, next, &here, rows, others)?;
+        here.pass(state)?;
+    }
+    Ok(())
+}
+
+// Puts what one of them gives: the answer is the next number of a region.
+#[cycle(parts)]
+fn put_one(
+    alloc: Global,
+    state: &State,
     next: usize,
     here: &TablePosition,
-    inner: &mut StatesRows,
+    rows: &mut SubtreeRows,
+    others: &mut Items<RegionRow>,
 ) -> Result<usize, AllocError>
     ensures next { IfOk result (λ n. n ≡ next_behind (subtree_of_state state.now) next) }
-    ensures inner { OnOk result (inner.new ≡ followed_by inner.old (alone (subtree_of_state state.now) next here.now)) }
+    ensures rows { OnOk result (HaveStates (alone (subtree_of_state state.now) next here.now)
+        rows.old rows.new others.old others.new) }
 {
     if state.is_initial {
-        inner.lead(state_parts(alloc, state, here)?)?;
-        Ok(next)
-    } else {
-        inner.trail(state_parts(alloc, state, &here.with_region(alloc, next)?)?)?;
-        let behind = past_regions(state, next)?;
-        Ok(behind)
+        put_state(alloc, state, here, rows)?;
+        return Ok(next);
     }
+    put_other(alloc, state, here.with_region(alloc, next)?, rows, others)?;
+    past_regions(state, next)
+}
+
+// Puts what a state that is not initial gives, at its position.
+#[cycle(parts)]
+fn put_other(
+    alloc: Global,
+    state: &State,
+    at: TablePosition,
+    rows: &mut SubtreeRows,
+    others: &mut Items<RegionRow>,
+) -> Result<(), AllocError>
+    ensures states { OnOk result (rows.new.states ≡ rows.old.states ++ ((subtree_of_state state.now).parts at).states) }
+    ensures regions { OnOk result (rows.new.regions ≡ rows.old.regions) }
+    ensures others { OnOk result (others.new ≡ others.old ++ ((subtree_of_state state.now).parts at).regions) }
+    ensures entered { OnOk result (rows.new.entered ≡ rows.old.entered) }
+{
+    let mut own = SubtreeRows::none(alloc);
+    put_state(alloc, state, &at, &mut own)?;
+    rows.states.append(own.states)?;
+    others.append(own.regions)
 }

@@ -138,14 +138,14 @@ impl Table {
     pub(crate) fn inside(&self, alloc: Global, state: usize) -> Result<Items<usize>, AllocError>
         ensures { IfOk result (λ regions. regions ≡ inside self.now state) }
     {
-        let mut found = Vec::new(alloc);
+        let mut found = Items::new(alloc);
         let rows = self.regions.as_slice();
         for (at, _row) in rows.iter().enumerate() {
             if self.is_inside(at + 1, state) {
                 found.push(at + 1)?;
             }
         }
-        Ok(Items::from_vec(found))
+        Ok(found)
     }
 
     fn inside_is_done(

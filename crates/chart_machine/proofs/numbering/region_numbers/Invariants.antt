@@ -4,4 +4,4 @@ use Rattle.chart_machine.proofs.numbering.region_numbers.Given as goal
 
 abbrev pub invariant-loop-region : goal.invariant-loop-region
 invariant-loop-region l =
-    l.numbers.items ++ region_numbers (map subtree_of_region (drop l.region-index l.regions)) l.next ≡ region_numbers (map subtree_of_region l.regions) l.from
+    l.numbers ++ region_numbers (map subtree_of_region (drop l.region-index l.regions)) l.next ≡ region_numbers (map subtree_of_region l.regions) l.from

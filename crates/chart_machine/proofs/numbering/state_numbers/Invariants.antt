@@ -4,4 +4,4 @@ use Rattle.chart_machine.proofs.numbering.state_numbers.Given as goal
 
 abbrev pub invariant-loop-state : goal.invariant-loop-state
 invariant-loop-state l =
-    l.numbers.items ++ state_numbers (map subtree_of_state (drop l.state-index l.states)) l.next ≡ state_numbers (map subtree_of_state l.states) l.from
+    l.numbers ++ state_numbers (map subtree_of_state (drop l.state-index l.states)) l.next ≡ state_numbers (map subtree_of_state l.states) l.from

@@ -4,4 +4,4 @@ use Rattle.chart_machine.proofs.starting.all_outside.Given as goal
 
 abbrev pub invariant-loop-row : goal.invariant-loop-row
 invariant-loop-row l =
-    l.regions.items ++ map (λ r. at.Outside) (drop l._row-index l.rows) ≡ at.Outside ∷ map (λ r. at.Outside) l.rows
+    l.regions ++ map (λ r. at.Outside) (drop l._row-index l.rows) ≡ at.Outside ∷ map (λ r. at.Outside) l.rows

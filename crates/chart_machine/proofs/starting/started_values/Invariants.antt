@@ -4,4 +4,4 @@ use Rattle.chart_machine.proofs.starting.started_values.Given as goal
 
 abbrev pub invariant-loop-x : goal.invariant-loop-x
 invariant-loop-x l =
-    l.started.items ++ values_at_start l.inputs (drop l.x l.variables) (drop l.x l.values) ≡ values_at_start l.inputs l.variables l.values
+    l.started ++ values_at_start l.inputs (drop l.x l.variables) (drop l.x l.values) ≡ values_at_start l.inputs l.variables l.values

@@ -6,5 +6,5 @@ use Rattle.chart_machine.proofs.table.Table.inside.Given as goal
 
 abbrev pub invariant-loop-at : goal.invariant-loop-at
 invariant-loop-at l =
-    l.found.items ++ filter (λ r. list_any (nat_eq l.state) (region_at l.self r).around) (numbered_from (l.at + 1) (drop l.at l.rows)) ≡
+    l.found ++ filter (λ r. list_any (nat_eq l.state) (region_at l.self r).around) (numbered_from (l.at + 1) (drop l.at l.rows)) ≡
     inside l.self l.state
