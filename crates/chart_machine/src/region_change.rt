@@ -6,14 +6,14 @@ use sc_values::Value;
 use sqlite_items::Items;
 
 /// A variable becomes a value.
-#[derive(Debug, Drop)]
+#[derive(Drop)]
 pub struct Write {
     pub variable: VariableId,
     pub value: Value,
 }
 
 /// What a step does: it writes a variable or none, and regions come to stand elsewhere, from left to right.
-#[derive(Debug, Drop)]
+#[derive(Drop)]
 pub struct RegionChange {
     pub write: Option<Write>,
     pub moves: Items<Move>,

@@ -11,7 +11,7 @@ use crate::table::Table;
 use std::alloc::{AllocError, Global};
 
 /// A run: the regions that stepped, in their order, where they led, and whether nobody is enabled there.
-#[derive(Debug, Drop)]
+#[derive(Drop)]
 pub struct Ran {
     pub run: Vec<usize>,
     pub end: Configuration,

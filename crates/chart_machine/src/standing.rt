@@ -5,7 +5,7 @@ use sc_values::Value;
 use sqlite_items::Items;
 
 /// Where a region stands. The tests that are still to be made in this tick are kept beside the state.
-#[derive(Debug, Drop)]
+#[derive(Drop)]
 pub enum Standing {
     /// Not entered.
     Outside,
@@ -41,7 +41,7 @@ pub enum Standing {
 }
 
 /// A region comes to stand there.
-#[derive(Debug, Drop)]
+#[derive(Drop)]
 pub struct Move {
     pub region: usize,
     pub standing: Standing,
@@ -49,7 +49,7 @@ pub struct Move {
 
 /// What stands between two steps: the variables, and where each region stands. The chart itself, number 0,
 /// is no region, and stands outside.
-#[derive(Debug, Drop)]
+#[derive(Drop)]
 pub struct Configuration {
     pub variables: Items<Value>,
     pub regions: Items<Standing>,

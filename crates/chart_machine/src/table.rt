@@ -6,7 +6,7 @@ use sc_graph::Variable;
 use sqlite_items::Items;
 
 /// A state.
-#[derive(Debug, Drop)]
+#[derive(Drop)]
 pub struct StateRow {
     /// The region that holds it.
     pub holder: usize,
@@ -20,7 +20,7 @@ pub struct StateRow {
 }
 
 /// A region.
-#[derive(Debug, Drop)]
+#[derive(Drop)]
 pub struct RegionRow {
     /// The superstates around it, the innermost first.
     pub around: Items<usize>,
@@ -31,7 +31,7 @@ pub struct RegionRow {
 /// A chart as a table. States are numbered from 0 in the order of the text. Regions are numbered from 1, each
 /// before what lies inside it, and what lies inside its initial state before what lies inside its other states;
 /// 0 stands for the chart, which counts as a superstate that no region holds.
-#[derive(Debug, Drop)]
+#[derive(Drop)]
 pub struct Table {
     pub variables: Items<Variable>,
     pub states: Items<StateRow>,
@@ -43,7 +43,7 @@ pub struct Table {
 
 /// Where a subtree of a chart stands: the numbers of the next state and of the next region, the region that holds
 /// it, and the superstates around it, the innermost first.
-#[derive(Debug, Drop)]
+#[derive(Drop)]
 pub struct TablePosition {
     pub state: usize,
     pub region: usize,
@@ -53,16 +53,16 @@ pub struct TablePosition {
 
 /// What a subtree of a chart gives: the rows of its states and of its regions, and what entering it makes of
 /// regions.
-#[derive(Debug, Drop)]
+#[derive(Drop)]
 pub struct SubtreeRows {
     pub states: Items<StateRow>,
     pub regions: Items<RegionRow>,
     pub entered: Items<Move>,
 }
 
-/// What the states of a region give. The regions inside its initial state have the first numbers, those inside
-/// the others come behind.
-#[derive(Debug, Drop)]
+/// What the states of a region give, as contracts say it. The regions inside its initial state have the first numbers,
+/// those inside the others come behind.
+#[derive(Drop)]
 pub struct StatesRows {
     pub states: Items<StateRow>,
     pub first: Items<RegionRow>,
