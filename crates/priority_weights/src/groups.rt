@@ -14,17 +14,28 @@ pub(crate) fn order_arcs(
     program: &Program,
     edges: &Edges,
 ) -> Result<Arcs, AllocError> {
-    let links = edges.links();
-    let users = edges.users();
     let mut arcs = Arcs::none(alloc, u32::from(program.node_count()))?;
     for node in 0..program.node_count() {
-        add_instants(program, links, &mut arcs, node)?;
+        add_instants(program, edges.links(), &mut arcs, node)?;
     }
+    add_variables(alloc, program, edges, &mut arcs)?;
+    Ok(arcs)
+}
+
+// Adds the protocol edges.
+fn add_variables(
+    alloc: Global,
+    program: &Program,
+    edges: &Edges,
+    arcs: &mut Arcs,
+) -> Result<(), AllocError> {
+    let links = edges.links();
+    let users = edges.users();
     let mut branches = Branches::none(alloc, program)?;
     for x in 0..program.variable_count() {
-        add_variable(program, links, users, &mut arcs, &mut branches, x)?;
+        add_variable(program, links, users, arcs, &mut branches, x)?;
     }
-    Ok(arcs)
+    Ok(())
 }
 
 // Adds the instantaneous edges from a node.
@@ -34,9 +45,20 @@ fn add_instants(
     arcs: &mut Arcs,
     node: NodeId,
 ) -> Result<(), AllocError> {
+    if let Some(step) = program.step(node) {
+        add_next(arcs, node, next_nodes(program, links, node, step))?;
+    }
+    add_entries(program, arcs, node)
+}
+
+/// Adds arcs from a node to where the children begin that it forks.
+pub(crate) fn add_entries(
+    program: &Program,
+    arcs: &mut Arcs,
+    node: NodeId,
+) -> Result<(), AllocError> {
     match program.step(node) {
         Some(step) => {
-            add_next(arcs, node, next_nodes(program, links, node, step))?;
             for child in children_of(step) {
                 add_to(arcs, node, program.entry(*child))?;
             }

@@ -1,11 +1,11 @@
 //! Hints for the searches, for speed alone: nothing is said of them. Each search has an order of its own, in which the
 //! table that it makes is right after one pass, or a suspect and the way on which it comes back to itself.
 
-use crate::arcs::{Arcs, number_at};
+use crate::arcs::{Arcs, put};
 use crate::ends::step_bit;
 use crate::falling::Hints;
 use crate::going_on::GoingOn;
-use crate::groups::{add_next, add_to, order_arcs};
+use crate::groups::{add_entries, add_next, order_arcs};
 use crate::next::entry;
 use crate::reasons::reasons;
 use crate::visit::Visited;
@@ -33,12 +33,7 @@ impl Search {
         ends: &[u32],
     ) -> Result<Search, AllocError> {
         let count = program.node_count();
-        let on = GoingOn { program, ends };
-        let mut arcs = Arcs::none(alloc, u32::from(count))?;
-        for node in 0..count {
-            add_next(&mut arcs, node, on.next(node))?;
-            add_entries(program, &mut arcs, node)?;
-        }
+        let arcs = arcs_of_going_on(alloc, program, ends)?;
         let visited = Visited::of(alloc, &arcs)?;
         match find_joined(&arcs, &visited, count, 0) {
             Some(suspect) => Search::back_to(alloc, &arcs, &visited, count, suspect),
@@ -57,15 +52,23 @@ impl Search {
         let visited = Visited::of(alloc, &arcs)?;
         match find_joined(&arcs, &visited, count, u32::from(count)) {
             Some(suspect) => Search::back_to(alloc, &arcs, &visited, count, suspect),
-            None => {
-                let order = settling_order(alloc, &arcs, &visited)?;
-                Ok(Search {
-                    order: of_program(alloc, order.as_slice(), count)?,
-                    suspects: Vec::new(alloc),
-                    reasons: reasons(alloc, &arcs, order.as_slice(), count)?,
-                })
-            }
+            None => Search::settled(alloc, &arcs, &visited, count),
         }
+    }
+
+    // An order in which priorities settle, with their reasons, and no suspect.
+    fn settled(
+        alloc: Global,
+        arcs: &Arcs,
+        visited: &Visited,
+        count: u16,
+    ) -> Result<Search, AllocError> {
+        let order = settling_order(alloc, arcs, visited)?;
+        Ok(Search {
+            order: of_program(alloc, order.as_slice(), count)?,
+            suspects: Vec::new(alloc),
+            reasons: reasons(alloc, arcs, order.as_slice(), count)?,
+        })
     }
 
     // An order, and no suspect.
@@ -112,28 +115,55 @@ impl Search {
 
 /// The nodes from which a thread may end in the tick, each behind those by which it does. Err: memory was refused.
 pub(crate) fn end_order(alloc: Global, program: &Program) -> Result<Vec<NodeId>, AllocError> {
-    let count = program.node_count();
-    let mut behind = Arcs::none(alloc, u32::from(count))?;
-    for node in 0..count {
+    let behind = arcs_behind(alloc, program)?;
+    let mut bits = vec![in alloc; 0; program.node_count() as usize]?;
+    let mut order = Vec::new(alloc);
+    put_ending(program, &behind, &mut bits, &mut order)?;
+    Ok(order)
+}
+
+// The arcs where threads go on within one tick, by end bits, and from each fork to where its children begin.
+fn arcs_of_going_on(alloc: Global, program: &Program, ends: &[u32]) -> Result<Arcs, AllocError> {
+    let on = GoingOn { program, ends };
+    let mut arcs = Arcs::none(alloc, u32::from(program.node_count()))?;
+    for node in 0..program.node_count() {
+        add_next(&mut arcs, node, on.next(node))?;
+        add_entries(program, &mut arcs, node)?;
+    }
+    Ok(arcs)
+}
+
+// The arcs to each node from those on which its end bit depends.
+fn arcs_behind(alloc: Global, program: &Program) -> Result<Arcs, AllocError> {
+    let mut behind = Arcs::none(alloc, u32::from(program.node_count()))?;
+    for node in 0..program.node_count() {
         add_behind(program, &mut behind, node)?;
     }
-    let mut bits = vec![in alloc; 0; count as usize]?;
-    let mut order = Vec::new(alloc);
-    for node in 0..count {
-        give_bit(program, &mut bits, &mut order, node)?;
+    Ok(behind)
+}
+
+// Puts the nodes that get their end bit behind an order, each behind those by which it does.
+fn put_ending(
+    program: &Program,
+    behind: &Arcs,
+    bits: &mut Vec<u32>,
+    order: &mut Vec<NodeId>,
+) -> Result<(), AllocError> {
+    for node in 0..program.node_count() {
+        give_bit(program, bits, order, node)?;
     }
     let mut at: usize = 0;
-    for _ in 0..count {
+    for _ in 0..program.node_count() {
         match order.get(at) {
             Some(next) => {
                 let node = *next;
-                give_bits(program, &behind, &mut bits, &mut order, node)?;
+                give_bits(program, behind, bits, order, node)?;
             }
-            None => return Ok(order),
+            None => return Ok(()),
         }
         at = at.saturating_add(1);
     }
-    Ok(order)
+    Ok(())
 }
 
 // Gives a node its end bit, if it has none and its step says that it has one.
@@ -146,7 +176,7 @@ fn give_bit(
     match program.step(node) {
         Some(step)
             if entry(bits.as_slice(), node) == 0 && step_bit(program, bits.as_slice(), step) => {
-            crate::arcs::put(bits.as_mut_slice(), u32::from(node), 1);
+            put(bits.as_mut_slice(), u32::from(node), 1);
             order.push(node)?;
             Ok(())
         }
@@ -204,19 +234,6 @@ fn join_of(step: &Step) -> Option<NodeId> {
     match step {
         Step::Fork { join, .. } => Some(*join),
         _ => None,
-    }
-}
-
-// Adds arcs from a node to where the children begin that it forks.
-fn add_entries(program: &Program, arcs: &mut Arcs, node: NodeId) -> Result<(), AllocError> {
-    match program.step(node) {
-        Some(step) => {
-            for child in children_of(step) {
-                add_to(arcs, node, program.entry(*child))?;
-            }
-            Ok(())
-        }
-        None => Ok(()),
     }
 }
 

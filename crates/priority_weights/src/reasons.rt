@@ -24,10 +24,15 @@ pub(crate) fn reasons(
     for node in order {
         give_number(arcs, &mut numbers, &mut reasons, *node, u32::from(count));
     }
+    first_nodes(alloc, reasons.as_slice(), count)
+}
+
+// The first so many of these nodes.
+fn first_nodes(alloc: Global, nodes: &[u32], count: u16) -> Result<Vec<NodeId>, AllocError> {
     let mut made = Vec::with_capacity(alloc, count as usize)?;
-    for node in 0..count {
-        let reason = number_at(reasons.as_slice(), u32::from(node));
-        made.push(reason.min(u32::from(NodeId::MAX)) as NodeId)?;
+    for place in 0..count {
+        let node = number_at(nodes, u32::from(place));
+        made.push(node.min(u32::from(NodeId::MAX)) as NodeId)?;
     }
     Ok(made)
 }

@@ -18,22 +18,11 @@ impl Visited {
     /// Of a graph. Err: memory was refused.
     pub(crate) fn of(alloc: Global, arcs: &Arcs) -> Result<Visited, AllocError> {
         let mut visit = Visit::none(alloc, arcs)?;
-        for node in 0..arcs.nodes() {
-            if number_at(visit.found.as_slice(), node) == 0 {
-                visit.enter(arcs, node)?;
-                visit.run(arcs)?;
-            }
-        }
-        let Visit {
-            found,
-            component,
-            left,
-            ..
-        } = visit;
+        visit.go(arcs)?;
         Ok(Visited {
-            found,
-            component,
-            left,
+            found: visit.found,
+            component: visit.component,
+            left: visit.left,
         })
     }
 
@@ -77,6 +66,17 @@ impl Visit {
         })
     }
 
+    // Visits all nodes.
+    fn go(&mut self, arcs: &Arcs) -> Result<(), AllocError> {
+        for node in 0..arcs.nodes() {
+            if number_at(self.found.as_slice(), node) == 0 {
+                self.enter(arcs, node)?;
+                self.run(arcs)?;
+            }
+        }
+        Ok(())
+    }
+
     // Visits a node for the first time.
     fn enter(&mut self, arcs: &Arcs, node: u32) -> Result<(), AllocError> {
         self.time = self.time.saturating_add(1);
@@ -91,19 +91,26 @@ impl Visit {
     // Goes on until the path is left: each round follows an arc or leaves a node.
     fn run(&mut self, arcs: &Arcs) -> Result<(), AllocError> {
         for _ in 0..u64::from(arcs.nodes()) + u64::from(arcs.count()) {
-            let node = match self.path.last() {
-                Some(last) => *last,
-                None => return Ok(()),
-            };
-            match arcs.arc(number_at(self.cursor.as_slice(), node)) {
-                Some(arc) => {
-                    put(self.cursor.as_mut_slice(), node, arc.next);
-                    self.meet(arcs, node, arc.to)?;
+            match self.path.last() {
+                Some(last) => {
+                    let node = *last;
+                    self.follow(arcs, node)?;
                 }
-                None => self.leave(arcs, node)?,
+                None => return Ok(()),
             }
         }
         Ok(())
+    }
+
+    // Follows the next arc of a node, or leaves it.
+    fn follow(&mut self, arcs: &Arcs, node: u32) -> Result<(), AllocError> {
+        match arcs.arc(number_at(self.cursor.as_slice(), node)) {
+            Some(arc) => {
+                put(self.cursor.as_mut_slice(), node, arc.next);
+                self.meet(arcs, node, arc.to)
+            }
+            None => self.leave(arcs, node),
+        }
     }
 
     // Comes to a node along an arc.

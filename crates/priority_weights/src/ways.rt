@@ -18,9 +18,7 @@ pub(crate) fn settling_order(
     for node in visited.left.as_slice() {
         order.push(*node)?;
         if visited.is_first(*node) && turned.first(*node) != 0 {
-            spread.begin(*node)?;
-            spread.run(&turned)?;
-            spread.take_all(&mut order)?;
+            spread.put_component(&turned, *node, &mut order)?;
         }
     }
     Ok(order)
@@ -35,10 +33,7 @@ pub(crate) fn way_to(
     from: u32,
     to: u32,
 ) -> Result<Vec<u32>, AllocError> {
-    let turned = arcs.turned_within(alloc, visited.component.as_slice())?;
-    let mut spread = Spread::none(alloc, arcs.nodes())?;
-    spread.begin(to)?;
-    spread.run(&turned)?;
+    let before = ways_back(alloc, arcs, visited, to)?;
     let mut way = Vec::new(alloc);
     let mut at = from;
     for _ in 0..arcs.nodes() {
@@ -46,10 +41,24 @@ pub(crate) fn way_to(
             break;
         }
         way.push(at)?;
-        at = number_at(spread.before.as_slice(), at);
+        at = number_at(before.as_slice(), at);
     }
     way.reverse();
     Ok(way)
+}
+
+// For each node that comes to a node within its component, to which node it goes first. Err: memory was refused.
+fn ways_back(
+    alloc: Global,
+    arcs: &Arcs,
+    visited: &Visited,
+    to: u32,
+) -> Result<Vec<u32>, AllocError> {
+    let turned = arcs.turned_within(alloc, visited.component.as_slice())?;
+    let mut spread = Spread::none(alloc, arcs.nodes())?;
+    spread.begin(to)?;
+    spread.run(&turned)?;
+    Ok(spread.before)
 }
 
 // A node that may be come to, and from where.
@@ -81,6 +90,18 @@ impl Spread {
             queue: Vec::new(alloc),
             at: 0,
         })
+    }
+
+    // Puts the nodes from which a node is come to behind an order.
+    fn put_component(
+        &mut self,
+        arcs: &Arcs,
+        node: u32,
+        order: &mut Vec<u32>,
+    ) -> Result<(), AllocError> {
+        self.begin(node)?;
+        self.run(arcs)?;
+        self.take_all(order)
     }
 
     // Begins at a node.
