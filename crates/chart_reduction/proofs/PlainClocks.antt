@@ -29,7 +29,8 @@ use Rattle.value_passes.specs.Clocks.{TimedRegion, TimedState, asks_time, ask_ti
 use Rattle.value_passes.specs.Clocks.{timed_state}
 use Rattle.chart_reduction.specs.Laws.{of_region, of_state}
 use Rattle.chart_reduction.proofs.ByRules.{Cases, Keeps}
-use Rattle.chart_reduction.proofs.PlainParts.{state_folded, region_folded}
+use Rattle.extended_charts.proofs.Walks.{none_counted}
+use Rattle.chart_reduction.proofs.PlainParts.{each_map, state_folded, region_folded}
 
 -- ---- a variable that there is not is not read
 
@@ -100,12 +101,12 @@ module _ (variables : List Variable) (few : length (kinds_of variables) ≤ elap
   StateUntimed count s = (timed_state (of_state s)).clocks ≡ 0
 
   pub no_clocks_in : (regions : List Region) → Each RegionUntimed regions → clocks_in (map timed_region (map of_region regions)) ≡ 0
-  no_clocks_in [] h = refl
-  no_clocks_in (r ∷ regions) h = omega (arith, h.0, no_clocks_in regions h.1)
+  no_clocks_in regions h =
+      none_counted timed_region (λ r. r.clocks) (map of_region regions) (each_map (λ r. (timed_region r).clocks ≡ 0) of_region regions h)
 
   no_clocks_among : (count : ℕ) (states : List State) → Each (StateUntimed count) states → clocks_among (map timed_state (map of_state states)) ≡ 0
-  no_clocks_among count [] h = refl
-  no_clocks_among count (s ∷ states) h = omega (arith, h.0, no_clocks_among count states h.1)
+  no_clocks_among count states h =
+      none_counted timed_state (λ s. s.clocks) (map of_state states) (each_map (λ s. (timed_state s).clocks ≡ 0) of_state states h)
 
   pub nothing_timed : Cases variables RegionUntimed StateUntimed
   nothing_timed = record {

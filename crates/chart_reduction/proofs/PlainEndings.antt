@@ -1,5 +1,5 @@
 -- A chart without during actions has none that end.
-use Rattle.std.proofs.Common.{◌≡◌, ℕ, ◌+◌, List, [], ◌∷◌, map, length, refl, ap, ◌∙◌, arith}
+use Rattle.std.proofs.Common.{◌≡◌, ℕ, ◌+◌, List, map, length, ap, ◌∙◌, arith}
 use Rattle.sc_graph.specs.declared.program.Variable.{Variable}
 use Rattle.sc_text.proofs.EachItem.{Each}
 use Rattle.core_charts.specs.declared.region.Region.{Region}
@@ -8,7 +8,8 @@ use Rattle.core_charts.specs.declared.region.Region.TheViews.{out-Region, out-St
 use Rattle.value_passes.specs.Endings.{EndingRegion, EndingState, endings_in, endings_among, region_step, state_step, ending_in_region, ending_in_state}
 use Rattle.chart_reduction.specs.Laws.{of_region, of_state}
 use Rattle.chart_reduction.proofs.ByRules.{Cases}
-use Rattle.chart_reduction.proofs.PlainParts.{state_folded, region_folded}
+use Rattle.extended_charts.proofs.Walks.{none_counted}
+use Rattle.chart_reduction.proofs.PlainParts.{each_map, state_folded, region_folded}
 
 none_more : (n : ℕ) → n ≡ 0 → 0 + n ≡ 0
 none_more n h = omega (arith, h)
@@ -20,12 +21,12 @@ abbrev pub StateUnended : ℕ → State → Type 0
 StateUnended count s = (ending_in_state (of_state s)).endings ≡ 0
 
 pub no_endings_in : (regions : List Region) → Each RegionUnended regions → endings_in (map ending_in_region (map of_region regions)) ≡ 0
-no_endings_in [] h = refl
-no_endings_in (r ∷ regions) h = omega (arith, h.0, no_endings_in regions h.1)
+no_endings_in regions h =
+    none_counted ending_in_region (λ r. r.endings) (map of_region regions) (each_map (λ r. (ending_in_region r).endings ≡ 0) of_region regions h)
 
 no_endings_among : (count : ℕ) (states : List State) → Each (StateUnended count) states → endings_among (map ending_in_state (map of_state states)) ≡ 0
-no_endings_among count [] h = refl
-no_endings_among count (s ∷ states) h = omega (arith, h.0, no_endings_among count states h.1)
+no_endings_among count states h =
+    none_counted ending_in_state (λ s. s.endings) (map of_state states) (each_map (λ s. (ending_in_state s).endings ≡ 0) of_state states h)
 
 pub nothing_ends : (variables : List Variable) → Cases variables RegionUnended StateUnended
 nothing_ends variables = record {

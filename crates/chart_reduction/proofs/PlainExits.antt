@@ -1,7 +1,8 @@
 -- A chart without exit actions keeps its states and transitions, and no region notes where it is.
 use Rattle.std.proofs.Common.{◌≡◌, ℕ, ◌+◌, None, List, [], ◌∷◌, ◌++◌, map, length, refl, sym, ap, ◌∙◌, arith, if◌then◌else◌}
 use Rattle.sc_graph.specs.declared.program.Variable.{Variable}
-use Rattle.sc_text.proofs.EachItem.{Each}
+use Rattle.sc_text.proofs.EachItem.{Each, each_more}
+use Rattle.core_charts.specs.declared.region.Effect.{Effect}
 use Rattle.core_charts.specs.declared.region.Transition.{Transition}
 use Rattle.core_charts.specs.declared.region.Region.{Region}
 use Rattle.core_charts.specs.declared.region.State.{State}
@@ -16,7 +17,8 @@ use Rattle.entry_passes.specs.Exits.{notes, notes_in, notes_among, exits_of, lea
 use Rattle.entry_passes.specs.Exits.{all_behind, all_inside, outer_regions}
 use Rattle.chart_reduction.specs.Laws.{of_region, of_state}
 use Rattle.chart_reduction.proofs.ByRules.{Cases}
-use Rattle.chart_reduction.proofs.PlainParts.{over_state, over_region, state_is, region_is, state_folded, region_folded}
+use Rattle.extended_charts.proofs.Walks.{walked, none_counted}
+use Rattle.chart_reduction.proofs.PlainParts.{each_map, over_state, over_region, state_is, region_is, state_folded, region_folded}
 
 -- such a region, as it is left: to this one
 pub record Unleft (left : LeftRegion) (made : ExtendedRegion) : Type 0 where
@@ -32,57 +34,75 @@ pub record UnleftState (left : LeftState) (made : ExtendedState) : Type 0 where
   pub stays : (number x place : ℕ) → left.made None number x place ≡ made
   pub behind : (x place : ℕ) → left.behind None x place ≡ []
 
+abbrev StaysRegion : ExtendedRegion → Type 0
+StaysRegion r = Unleft (left_region r) r
+
+abbrev StaysState : ExtendedState → Type 0
+StaysState s = UnleftState (left_state s) s
+
 abbrev pub RegionUnleft : Region → Type 0
-RegionUnleft r = Unleft (left_region (of_region r)) (of_region r)
+RegionUnleft r = StaysRegion (of_region r)
 
 abbrev pub StateUnleft : ℕ → State → Type 0
-StateUnleft count s = UnleftState (left_state (of_state s)) (of_state s)
+StateUnleft count s = StaysState (of_state s)
+
+none_more : {A : Type 0} (xs ys : List A) → xs ≡ [] → ys ≡ [] → xs ++ ys ≡ []
+none_more xs ys first second = ap (λ zs. zs ++ ys) first ∙ second
+
+one_more : {A : Type 0} (x y : A) (xs ys : List A) → x ≡ y → xs ≡ ys → x ∷ xs ≡ y ∷ ys
+one_more x y xs ys first others = ap (λ z. z ∷ xs) first ∙ ap (λ zs. y ∷ zs) others
 
 -- ---- regions beside each other
 
 abbrev lefts : List Region → List LeftRegion
 lefts regions = map left_region (map of_region regions)
 
-no_notes : (r : LeftRegion) (made : ExtendedRegion) → Unleft r made → notes r ≡ 0
-no_notes r made h = let none : one (has_some r.exits) ≡ 0 = ap (λ es. one (has_some es)) h.exits in omega (arith, h.inside, none)
+regions_stay : (regions : List Region) → Each RegionUnleft regions → Each StaysRegion (map of_region regions)
+regions_stay = each_map StaysRegion of_region
+
+no_notes : (r : ExtendedRegion) → StaysRegion r → notes (left_region r) ≡ 0
+no_notes r h = let none : one (has_some (left_region r).exits) ≡ 0 = ap (λ es. one (has_some es)) h.exits in omega (arith, h.inside, none)
 
 no_notes_in : (regions : List Region) → Each RegionUnleft regions → notes_in (lefts regions) ≡ 0
-no_notes_in [] h = refl
-no_notes_in (r ∷ regions) h = omega (arith, no_notes (left_region (of_region r)) (of_region r) h.0, no_notes_in regions h.1)
+no_notes_in regions h =
+    none_counted left_region notes (map of_region regions)
+    (each_more StaysRegion (λ r. notes (left_region r) ≡ 0) (map of_region regions) no_notes (regions_stay regions h))
 
 no_leavings_in : (regions : List Region) → Each RegionUnleft regions → (x : ℕ) → leavings_in x (lefts regions) ≡ []
-no_leavings_in [] h x = refl
-no_leavings_in (r ∷ regions) h x =
-    ap (λ ls. ls ++ leavings_in (x + notes (left_region (of_region r))) (lefts regions)) (h.0.leavings x)
-    ∙ no_leavings_in regions h.1 (x + notes (left_region (of_region r)))
+no_leavings_in regions h =
+    walked (λ (rs : List ExtendedRegion) (made : List Leaving). made ≡ []) StaysRegion left_region notes (λ r x. r.leavings x) refl
+    (λ r x rs made one none. none_more ((left_region r).leavings x) made (one.leavings x) none) (map of_region regions) (regions_stay regions h)
 
 all_stay : (regions : List Region) → Each RegionUnleft regions → (x : ℕ) → all_regions x (lefts regions) ≡ map of_region regions
-all_stay [] h x = refl
-all_stay (r ∷ regions) h x =
-    let l : LeftRegion = left_region (of_region r) in
-    ap (λ es. l.made (own_note (x + l.inside) (has_some es)) x ∷ all_regions (x + notes l) (lefts regions)) h.0.exits
-    ∙ ap (λ m. m ∷ all_regions (x + notes l) (lefts regions)) (h.0.stays x)
-    ∙ ap (λ ms. of_region r ∷ ms) (all_stay regions h.1 (x + notes l))
+all_stay regions h =
+    let made_of : LeftRegion → ℕ → List (List Effect) → ExtendedRegion = λ l x es. l.made (own_note (x + l.inside) (has_some es)) x in
+    walked (λ (rs made : List ExtendedRegion). made ≡ rs) StaysRegion left_region notes (λ r x. r.made (own_note (x + r.inside) (has_some r.exits)) x ∷ []) refl
+    (λ r x rs made one same.
+    one_more (made_of (left_region r) x (left_region r).exits) r made rs (ap (made_of (left_region r) x) one.exits ∙ one.stays x) same)
+    (map of_region regions) (regions_stay regions h)
 
 pub none_inside : (regions : List Region) → Each RegionUnleft regions → all_inside (lefts regions) ≡ 0
-none_inside [] h = refl
-none_inside (r ∷ regions) h = omega (arith, h.0.inside, none_inside regions h.1)
+none_inside regions h =
+    none_counted left_region (λ r. r.inside) (map of_region regions)
+    (each_more StaysRegion (λ r. (left_region r).inside ≡ 0) (map of_region regions) (λ r one. one.inside) (regions_stay regions h))
 
 pub outer_stay : (regions : List Region) → Each RegionUnleft regions → (x : ℕ) → outer_regions x (lefts regions) ≡ map of_region regions
-outer_stay [] h x = refl
-outer_stay (r ∷ regions) h x =
-    let l : LeftRegion = left_region (of_region r) in
-    ap (λ m. m ∷ outer_regions (x + l.inside) (lefts regions)) (h.0.stays x)
-    ∙ ap (λ ms. of_region r ∷ ms) (outer_stay regions h.1 (x + l.inside))
+outer_stay regions h =
+    walked (λ (rs made : List ExtendedRegion). made ≡ rs) StaysRegion left_region (λ r. r.inside) (λ r x. r.made None x ∷ []) refl
+    (λ r x rs made one same. one_more ((left_region r).made None x) r made rs (one.stays x) same) (map of_region regions) (regions_stay regions h)
 
 -- ---- states of one region
 
 abbrev left_states : List State → List LeftState
 left_states states = map left_state (map of_state states)
 
+states_are : (states : List State) → Each (λ s. StaysState (of_state s)) states → Each StaysState (map of_state states)
+states_are = each_map StaysState of_state
+
 no_notes_among : (count : ℕ) (states : List State) → Each (StateUnleft count) states → notes_among (left_states states) ≡ 0
-no_notes_among count [] h = refl
-no_notes_among count (s ∷ states) h = omega (arith, h.0.inside, no_notes_among count states h.1)
+no_notes_among count states h =
+    none_counted left_state (λ s. s.inside) (map of_state states)
+    (each_more StaysState (λ s. (left_state s).inside ≡ 0) (map of_state states) (λ s one. one.inside) (states_are states h))
 
 no_exits_of : (count : ℕ) (states : List State) → Each (StateUnleft count) states → exits_of (left_states states) ≡ []
 no_exits_of count [] h = refl
@@ -91,10 +111,9 @@ no_exits_of count (s ∷ states) h =
     ap (λ e. if has_some e then e ∷ exits_of (left_states states) else exits_of (left_states states)) h.0.exit ∙ no_exits_of count states h.1
 
 no_leavings_among : (count : ℕ) (states : List State) → Each (StateUnleft count) states → (x : ℕ) → leavings_among x (left_states states) ≡ []
-no_leavings_among count [] h x = refl
-no_leavings_among count (s ∷ states) h x =
-    let l : LeftState = left_state (of_state s) in
-    ap (λ ls. ls ++ leavings_among (x + l.inside) (left_states states)) (h.0.leavings x) ∙ no_leavings_among count states h.1 (x + l.inside)
+no_leavings_among count states h =
+    walked (λ (ss : List ExtendedState) (made : List Leaving). made ≡ []) StaysState left_state (λ s. s.inside) (λ s x. s.leavings x) refl
+    (λ s x ss made one none. none_more ((left_state s).leavings x) made (one.leavings x) none) (map of_state states) (states_are states h)
 
 states_stay : (count : ℕ) (states : List State) → Each (StateUnleft count) states → (number x place : ℕ) →
     all_states None number x place (left_states states) ≡ map of_state states

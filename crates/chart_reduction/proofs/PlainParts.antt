@@ -23,6 +23,10 @@ pub both_same : {A B : Type 0} (f : B → B) (g : A → B) (xs : List A) → Eac
 both_same f g [] h = refl
 both_same f g (x ∷ xs) h = ap (λ y. y ∷ map f (map g xs)) h.0 ∙ ap (λ ys. g x ∷ ys) (both_same f g xs h.1)
 
+pub each_map : {A B : Type 0} (P : B → Type 0) (f : A → B) (xs : List A) → Each (λ x. P (f x)) xs → Each P (map f xs)
+each_map P f [] h = tt
+each_map P f (x ∷ xs) h = (h.0, each_map P f xs h.1)
+
 -- ---- states and regions, over what stands for the regions and states in them
 
 abbrev pub over_state : {A B : Type 0} → State → List A → ExtendedState-F A B
