@@ -1,8 +1,8 @@
 //! What variables were at the end of the tick before.
 
 ghost use Rattle.std.specs.Prelude.{◌≡◌, [], ◌∷◌, ◌++◌, IfOk, OnOk, slice_get};
-ghost use Rattle.value_passes.specs.Registers.{kind_of, initial_of, before_variables, registers};
-ghost use Rattle.value_passes.specs.Registers.{storing, handing, ring, register_states, register_region, with_registers};
+ghost use Rattle.value_passes.specs.Registers.{kind_of, initial_of, before_variables, registers, storing, handing};
+ghost use Rattle.value_passes.specs.Registers.{ring, register_states, register_region, with_registers};
 
 use chart_elements::next;
 use core_charts::Effect;
