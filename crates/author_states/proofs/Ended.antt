@@ -17,12 +17,11 @@ use Rattle.value_passes.specs.Endings.{EndingRegion, EndingState, all_at_once, a
 use Rattle.value_passes.specs.Endings.{ending_in_state, ending_states, first_states, inside, is_ending, left_durings, left_transitions, region_step}
 use Rattle.value_passes.specs.Endings.{state_step, telling, tested}
 use Rattle.sc_text.proofs.EachItem.{Each}
-use Rattle.author_states.specs.Own.{among, own_in_region, own_in_state}
-use Rattle.state_paths.specs.Paths.{beside}
+use Rattle.author_states.specs.Own.{own_in_region, own_in_state}
 use Rattle.author_states.proofs.Folded.{ended_silent, steps_silent}
 use Rattle.author_states.proofs.Made.{made_silent, one_silent, passing_silent, silent_region}
-use Rattle.author_states.proofs.Walking.{Cases, each_region, SameRegion, SameState, SameRegions, SameStates, Silent, both_same, region_parts, region_same}
-use Rattle.author_states.proofs.Walking.{silent_append, state_parts, state_same}
+use Rattle.author_states.proofs.Walking.{Cases, each_region, SameRegion, SameState, SameRegions, SameStates, Silent, region_parts, region_same}
+use Rattle.author_states.proofs.Walking.{silent_append, state_parts, state_same, walked_regions, walked_states}
 
 -- ---- the region of the during actions
 
@@ -92,20 +91,10 @@ StateEnded s = (x : ℕ) → SameState ((ending_in_state s).made x) s
 
 regions_ended : (regions : List ExtendedRegion) → Each RegionEnded regions → (x : ℕ)
     → SameRegions (all_regions x (map ending_in_region regions)) regions
-regions_ended [] h x around = refl
-regions_ended (r ∷ regions) h x around =
-    let next : ℕ = x + (ending_in_region r).endings in
-    both_same (own_in_region ((ending_in_region r).made x) around)
-    (beside (map own_in_region (all_regions next (map ending_in_region regions))) around) (own_in_region r around)
-    (beside (map own_in_region regions) around) (h.0 x around) (regions_ended regions h.1 next around)
+regions_ended = walked_regions RegionEnded ending_in_region (λ r. r.endings) (λ r x. r.made x) (λ r same. same)
 
 states_ended : (states : List ExtendedState) → Each StateEnded states → (x : ℕ) → SameStates (all_states x (map ending_in_state states)) states
-states_ended [] h x around before = refl
-states_ended (s ∷ states) h x around before =
-    let next : ℕ = x + (ending_in_state s).endings in
-    both_same (own_in_state ((ending_in_state s).made x) around before)
-    (among (map own_in_state (all_states next (map ending_in_state states))) around before) (own_in_state s around before)
-    (among (map own_in_state states) around before) (h.0 x around before) (states_ended states h.1 next around before)
+states_ended = walked_states StateEnded ending_in_state (λ s. s.endings) (λ s x. s.made x) (λ s same. same)
 
 ended_cases : Cases RegionEnded StateEnded
 ended_cases = record {

@@ -16,10 +16,9 @@ use Rattle.entry_passes.specs.Exits.{left_state, left_transitions, leavings_in, 
 use Rattle.entry_passes.specs.Exits.{way_out, ways_out, with_behind}
 use Rattle.sc_text.proofs.EachItem.{Each}
 use Rattle.author_states.specs.Own.{among, own_in_region, own_in_state}
-use Rattle.state_paths.specs.Paths.{beside}
 use Rattle.author_states.proofs.Made.{made_silent, one_silent}
 use Rattle.author_states.proofs.Walking.{Cases, each_region, SameRegion, SameState, SameRegions, SameStates, Silent, both_same, region_same}
-use Rattle.author_states.proofs.Walking.{silent_append, silent_behind, state_same}
+use Rattle.author_states.proofs.Walking.{silent_append, silent_behind, state_same, walked_regions}
 
 -- ---- behind a superstate
 
@@ -83,13 +82,9 @@ with_left states h own x around before =
     ∙ states_left states h own 1 x (length left) around before
 
 regions_left : (regions : List ExtendedRegion) → Each RegionLeft regions → (x : ℕ) → SameRegions (all_regions x (map left_region regions)) regions
-regions_left [] h x around = refl
-regions_left (r ∷ regions) h x around =
-    let t : LeftRegion = left_region r in
-    let own : Option ℕ = own_note (x + t.inside) (has_some t.exits) in
-    let y : ℕ = x + notes t in
-    both_same (own_in_region (t.made own x) around) (beside (map own_in_region (all_regions y (map left_region regions))) around)
-    (own_in_region r around) (beside (map own_in_region regions) around) (h.0 own x around) (regions_left regions h.1 y around)
+regions_left =
+    walked_regions RegionLeft left_region notes (λ r x. r.made (own_note (x + r.inside) (has_some r.exits)) x)
+    (λ r same x. same (own_note (x + (left_region r).inside) (has_some (left_region r).exits)) x)
 
 state_made : (s : ExtendedState-F ExtendedRegion ExtendedState) → Each RegionLeft s.regions → (own : Option ℕ) (number x place : ℕ)
     → SameState ((left_state (roll-ExtendedState s)).made own number x place) (roll-ExtendedState s)
@@ -126,12 +121,7 @@ each_left [] = tt
 each_left (r ∷ regions) = (each_region RegionLeft StateLeft left r, each_left regions)
 
 outer_left : (regions : List ExtendedRegion) → Each RegionLeft regions → (x : ℕ) → SameRegions (outer_regions x (map left_region regions)) regions
-outer_left [] h x around = refl
-outer_left (r ∷ regions) h x around =
-    let t : LeftRegion = left_region r in
-    let y : ℕ = x + t.inside in
-    both_same (own_in_region (t.made None x) around) (beside (map own_in_region (outer_regions y (map left_region regions))) around)
-    (own_in_region r around) (beside (map own_in_region regions) around) (h.0 None x around) (outer_left regions h.1 y around)
+outer_left = walked_regions RegionLeft left_region (λ r. r.inside) (λ r x. r.made None x) (λ r same. same None)
 
 pub exits_kept : (x : ℕ) (regions : List ExtendedRegion) → SameRegions (outer_regions x (map left_region regions)) regions
 exits_kept x regions = outer_left regions (each_left regions) x

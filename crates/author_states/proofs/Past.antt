@@ -14,10 +14,9 @@ use Rattle.entry_passes.specs.Histories.{led, made_region, noted, own_past, past
 use Rattle.entry_passes.specs.Histories.{resumptions, state_step}
 use Rattle.sc_text.proofs.EachItem.{Each}
 use Rattle.author_states.specs.Own.{among, own_in_region, own_in_state}
-use Rattle.state_paths.specs.Paths.{beside}
 use Rattle.author_states.proofs.Made.{made_silent}
 use Rattle.author_states.proofs.Walking.{Cases, each_region, SameRegion, SameState, SameRegions, SameStates, Silent, both_same, region_same}
-use Rattle.author_states.proofs.Walking.{silent_behind, state_same}
+use Rattle.author_states.proofs.Walking.{silent_behind, state_same, walked_regions}
 
 resuming_silent : (own : Option Past) (states : List PastState) → Silent (resuming own states)
 resuming_silent None states = λ around before. refl
@@ -52,14 +51,9 @@ region_past states h own recalled x around before =
 
 regions_past : (regions : List ExtendedRegion) → Each RegionPast regions → (history : Option ℕ) (x : ℕ)
     → SameRegions (all_regions history x (map past_region regions)) regions
-regions_past [] h history x around = refl
-regions_past (r ∷ regions) h history x around =
-    let t : PastRegion = past_region r in
-    let y : ℕ = past_own history x in
-    let z : ℕ = y + length t.kept in
-    both_same (own_in_region (t.made (own_past history x) y) around)
-    (beside (map own_in_region (all_regions history z (map past_region regions))) around) (own_in_region r around)
-    (beside (map own_in_region regions) around) (h.0 (own_past history x) y around) (regions_past regions h.1 history z around)
+regions_past regions h history =
+    walked_regions RegionPast past_region (λ r. past_own history (length r.kept)) (λ r x. r.made (own_past history x) (past_own history x))
+    (λ r same x. same (own_past history x) (past_own history x)) regions h
 
 past : Cases RegionPast StatePast
 past = record {

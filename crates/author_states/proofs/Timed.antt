@@ -6,13 +6,13 @@ use Rattle.extended_charts.specs.declared.extended.ExtendedState.{ExtendedState}
 use Rattle.extended_charts.specs.declared.extended.ExtendedRegion.TheOpen.{ExtendedRegion-F, ExtendedState-F}
 use Rattle.extended_charts.specs.declared.extended.ExtendedRegion.TheViews.{roll-ExtendedRegion, roll-ExtendedState}
 use Rattle.extended_charts.specs.declared.extended.ExtendedRegion.TheFolds.{fold-roll-ExtendedRegion, fold-roll-ExtendedState}
-use Rattle.value_passes.specs.Clocks.{TimedRegion, TimedState, all_regions, all_states, ask_time, clocks_among, noting, region_step, state_step}
+use Rattle.value_passes.specs.Clocks.{TimedRegion, TimedState, all_regions, all_states, ask_time, noting, region_step, state_step}
 use Rattle.value_passes.specs.Clocks.{timed_by, timed_region, timed_state}
 use Rattle.extended_charts.specs.Making.{one}
 use Rattle.sc_text.proofs.EachItem.{Each}
-use Rattle.author_states.specs.Own.{among, own_in_region, own_in_state}
-use Rattle.state_paths.specs.Paths.{beside}
-use Rattle.author_states.proofs.Walking.{Cases, each_region, SameRegion, SameState, SameRegions, SameStates, both_same, region_same, state_same}
+use Rattle.author_states.specs.Own.{own_in_region, own_in_state}
+use Rattle.author_states.proofs.Walking.{Cases, each_region, SameRegion, SameState, SameRegions, SameStates, region_same, state_same}
+use Rattle.author_states.proofs.Walking.{walked_regions, walked_states}
 
 abbrev RegionTimed : ExtendedRegion → Type 0
 RegionTimed r = (now at : ℕ) → SameRegion ((timed_region r).made now at) r
@@ -22,21 +22,12 @@ StateTimed s = (now at : ℕ) → SameState ((timed_state s).made now at) s
 
 regions_timed : (regions : List ExtendedRegion) → Each RegionTimed regions → (now at : ℕ)
     → SameRegions (all_regions now at (map timed_region regions)) regions
-regions_timed [] h now at around = refl
-regions_timed (r ∷ regions) h now at around =
-    let next : ℕ = at + (timed_region r).clocks in
-    both_same (own_in_region ((timed_region r).made now at) around)
-    (beside (map own_in_region (all_regions now next (map timed_region regions))) around) (own_in_region r around)
-    (beside (map own_in_region regions) around) (h.0 now at around) (regions_timed regions h.1 now next around)
+regions_timed regions h now =
+    walked_regions RegionTimed timed_region (λ r. r.clocks) (λ r x. r.made now x) (λ r same at. same now at) regions h
 
 states_timed : (states : List ExtendedState) → Each StateTimed states → (now at : ℕ)
     → SameStates (all_states now at (map timed_state states)) states
-states_timed [] h now at around before = refl
-states_timed (s ∷ states) h now at around before =
-    let next : ℕ = at + (timed_state s).clocks in
-    both_same (own_in_state ((timed_state s).made now at) around before)
-    (among (map own_in_state (all_states now next (map timed_state states))) around before) (own_in_state s around before)
-    (among (map own_in_state states) around before) (h.0 now at around before) (states_timed states h.1 now next around before)
+states_timed states h now = walked_states StateTimed timed_state (λ s. s.clocks) (λ s x. s.made now x) (λ s same at. same now at) states h
 
 timed : Cases RegionTimed StateTimed
 timed = record {

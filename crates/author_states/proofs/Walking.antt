@@ -9,6 +9,8 @@ use Rattle.extended_charts.specs.declared.extended.ExtendedRegion.TheOpen.{Exten
 use Rattle.extended_charts.specs.declared.extended.ExtendedRegion.TheViews.{roll-ExtendedRegion, roll-ExtendedState}
 use Rattle.extended_charts.specs.declared.extended.ExtendedRegion.TheFolds.{fold-roll-ExtendedRegion, fold-roll-ExtendedState}
 use Rattle.extended_charts.specs.declared.extended.ExtendedRegion.TheFolds.{ind-ExtendedRegion, ind-ExtendedState, map-ExtendedRegion, map-ExtendedState}
+use Rattle.extended_charts.specs.Walks.{walk}
+use Rattle.extended_charts.proofs.Walks.{walked}
 use Rattle.author_states.specs.Own.{OwnPaths, among, own_in_region, own_in_state, region_own, state_own}
 
 -- ---- induction
@@ -120,6 +122,25 @@ mapped_states f [] h around before = refl
 mapped_states f (s ∷ states) h around before =
     both_same (own_in_state (f s) around before) (among (map own_in_state (map f states)) around before) (own_in_state s around before)
     (among (map own_in_state states) around before) (h.0 around before) (mapped_states f states h.1 around before)
+
+-- what is made of the items of a list, one after the other, where what is made of each one is the same as it
+pub walked_regions : {A : Type 0} (P : ExtendedRegion → Type 0) (of : ExtendedRegion → A) (count : A → ℕ) (make : A → ℕ → ExtendedRegion)
+    → ((r : ExtendedRegion) → P r → (x : ℕ) → SameRegion (make (of r) x) r) → (regions : List ExtendedRegion) → Each P regions → (x : ℕ)
+    → SameRegions (walk count (λ a y. make a y ∷ []) x (map of regions)) regions
+walked_regions P of count make one =
+    walked (λ (regions made : List ExtendedRegion). SameRegions made regions) P of count (λ a y. make a y ∷ []) (λ around. refl)
+    (λ r x regions made h same around.
+    both_same (own_in_region (make (of r) x) around) (beside (map own_in_region made) around) (own_in_region r around)
+    (beside (map own_in_region regions) around) (one r h x around) (same around))
+
+pub walked_states : {A : Type 0} (P : ExtendedState → Type 0) (of : ExtendedState → A) (count : A → ℕ) (make : A → ℕ → ExtendedState)
+    → ((s : ExtendedState) → P s → (x : ℕ) → SameState (make (of s) x) s) → (states : List ExtendedState) → Each P states → (x : ℕ)
+    → SameStates (walk count (λ a y. make a y ∷ []) x (map of states)) states
+walked_states P of count make one =
+    walked (λ (states made : List ExtendedState). SameStates made states) P of count (λ a y. make a y ∷ []) (λ around before. refl)
+    (λ s x states made h same around before.
+    both_same (own_in_state (make (of s) x) around before) (among (map own_in_state made) around before) (own_in_state s around before)
+    (among (map own_in_state states) around before) (one s h x around before) (same around before))
 
 pub beside_append : (xs ys : List ExtendedRegion) (around : List ℕ)
     → beside (map own_in_region (xs ++ ys)) around ≡ beside (map own_in_region xs) around ++ beside (map own_in_region ys) around

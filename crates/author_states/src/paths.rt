@@ -5,6 +5,7 @@ ghost use Rattle.state_paths.specs.Paths.{beside};
 ghost use Rattle.author_states.specs.Paths.{paths_of, paths_of_region, paths_of_state};
 
 use extended_charts::{ExtendedChart, ExtendedRegion, ExtendedState};
+use state_paths::joined;
 use std::alloc::{AllocError, Global};
 
 /// The path of each state of an extended chart, in the order of the text: the name of its region and its own, with a
@@ -82,13 +83,4 @@ fn add_state(
     let before = joined(alloc, path.as_str(), "/")?;
     paths.push(path)?;
     add_regions(alloc, before.as_str(), state.regions.as_slice(), paths)
-}
-
-// A text, and another one behind it.
-fn joined(alloc: Global, first: &str, second: &str) -> Result<String, AllocError>
-    ensures { IfOk result (λ text. string_bytes text ≡ first.now ++ second.now) }
-{
-    let mut text = String::from_str(alloc, first)?;
-    text.push_str(second)?;
-    Ok(text)
 }
