@@ -21,14 +21,13 @@ use std::alloc::Global;
 /// The draft of a text: what its tokens spell by the grammar. Err: the first place where no token stands; else
 /// the first token that can't go on, or with which only programs go on that are nested too deep, or the end of
 /// the text, where none may end; or memory was refused.
-#[tactic(auto, using(crate::proofs::Drafting::scanned, crate::proofs::Drafting::drafted, crate::proofs::Drafting::stopped))]
+#[tactic(auto, using(crate::proofs::Drafting::scanned))]
 pub fn read_draft(alloc: Global, text: &str) -> Result<Draft, ReadFault>
     ensures ok { IfOk result (λ draft. IsDraft text.now draft) }
     ensures fault { IfErr result (λ fault. IsDraftFault text.now fault) }
 {
     let tokens = tokens(alloc, Language::Scl, text)?;
-    let draft = whole(alloc, tokens.as_slice(), text.len())?;
-    Ok(draft)
+    whole(alloc, tokens.as_slice(), text.len())
 }
 
 // A program that ends where the tokens do.
@@ -61,7 +60,7 @@ fn is_over(tokens: &[Token]) -> bool
 }
 
 // Declarations and statements, in braces.
-#[tactic(auto, using(crate::proofs::Programs::open_stops, crate::proofs::Programs::declarations_stop, crate::proofs::Programs::statements_stop, crate::proofs::Programs::close_stops, crate::proofs::Programs::body_reads))]
+#[tactic(auto, using(crate::proofs::Programs::open_stops, crate::proofs::Programs::declarations_stop, crate::proofs::Programs::statements_stop))]
 fn body<'a>(
     alloc: Global,
     tokens: &'a [Token],
@@ -76,6 +75,5 @@ fn body<'a>(
     let inside = past_sign(tokens, end, Sign::OpenBrace)?;
     let start = declarations(inside, end, variables)?;
     let rest = statements(alloc, FORK_LIMIT, IF_LIMIT, start, end, into)?;
-    let after = past_sign(rest, end, Sign::CloseBrace)?;
-    Ok(after)
+    past_sign(rest, end, Sign::CloseBrace)
 }

@@ -17,7 +17,6 @@ use std::alloc::Global;
 
 /// Reads a statement that is no if and no fork, and puts it behind the others. Gives the tokens behind
 /// it. Err: the fault at the first token that can't go on, or memory was refused.
-#[tactic(auto, using(crate::proofs::Single::simple_named_stops, crate::proofs::Single::simple_named_reads, crate::proofs::Single::simple_goto_stops, crate::proofs::Single::simple_goto_reads, crate::proofs::Single::simple_pause_stops, crate::proofs::Single::simple_pause_reads))]
 pub fn simple<'a>(
     alloc: Global,
     tokens: &'a [Token],
@@ -29,15 +28,12 @@ pub fn simple<'a>(
         (λ fault. Stops end (read (simple (expression 0)) tokens.now) fault) }
 {
     if name_follows(tokens) {
-        let rest = named(alloc, tokens, end, statements)?;
-        return Ok(rest);
+        return named(alloc, tokens, end, statements);
     }
     if word_follows(tokens, Word::Goto) {
-        let rest = goto(tokens, end, statements)?;
-        return Ok(rest);
+        return goto(tokens, end, statements);
     }
-    let rest = pause(tokens, end, statements)?;
-    Ok(rest)
+    pause(tokens, end, statements)
 }
 
 // An assignment or a label.

@@ -69,7 +69,7 @@ pub fn statements<'a>(
 }
 
 #[cycle(statement)]
-#[tactic(auto, using(crate::proofs::Choosing::no_if_stops, crate::proofs::Choosing::no_if_reads, crate::proofs::Choosing::if_deep, crate::proofs::Choosing::if_stops, crate::proofs::Choosing::if_reads))]
+#[tactic(auto, using(crate::proofs::Choosing::if_deep))]
 fn statement<'a>(
     alloc: Global,
     forks: u8,
@@ -83,18 +83,16 @@ fn statement<'a>(
         (λ fault. Stops end (read (within forks ifs) tokens.now) fault) }
 {
     if !word_follows(tokens, Word::If) {
-        let rest = no_if(alloc, forks, tokens, end, into)?;
-        return Ok(rest);
+        return no_if(alloc, forks, tokens, end, into);
     }
     if ifs == 0 {
         return Err(too_deep(tokens, end));
     }
-    let rest = choice(alloc, forks, ifs - 1, tokens, end, into)?;
-    Ok(rest)
+    choice(alloc, forks, ifs - 1, tokens, end, into)
 }
 
 #[cycle(statement)]
-#[tactic(auto, using(crate::proofs::Choosing::simple_stops, crate::proofs::Choosing::simple_reads, crate::proofs::Choosing::fork_deep, crate::proofs::Choosing::fork_stops, crate::proofs::Choosing::fork_reads))]
+#[tactic(auto, using(crate::proofs::Choosing::fork_deep))]
 fn no_if<'a>(
     alloc: Global,
     forks: u8,
@@ -107,19 +105,17 @@ fn no_if<'a>(
         (λ fault. Stops end (read (no_if forks) tokens.now) fault) }
 {
     if !word_follows(tokens, Word::Fork) {
-        let rest = simple(alloc, tokens, end, into)?;
-        return Ok(rest);
+        return simple(alloc, tokens, end, into);
     }
     if forks == 0 {
         return Err(too_deep(tokens, end));
     }
-    let rest = fork(alloc, forks - 1, tokens, end, into)?;
-    Ok(rest)
+    fork(alloc, forks - 1, tokens, end, into)
 }
 
 // Statements in braces.
 #[cycle(statement)]
-#[tactic(auto, using(crate::proofs::Blocks::open_stops, crate::proofs::Blocks::body_stops, crate::proofs::Blocks::close_stops, crate::proofs::Blocks::block_reads))]
+#[tactic(auto, using(crate::proofs::Blocks::open_stops, crate::proofs::Blocks::body_stops))]
 fn block<'a>(
     alloc: Global,
     forks: u8,
@@ -134,8 +130,7 @@ fn block<'a>(
 {
     let body = past_sign(tokens, end, Sign::OpenBrace)?;
     let rest = statements(alloc, forks, ifs, body, end, into)?;
-    let after = past_sign(rest, end, Sign::CloseBrace)?;
-    Ok(after)
+    past_sign(rest, end, Sign::CloseBrace)
 }
 
 #[cycle(statement)]
@@ -169,7 +164,7 @@ fn choice<'a>(
 }
 
 // What is tested, in parentheses.
-#[tactic(auto, using(crate::proofs::Blocks::parenthesis_stops, crate::proofs::Blocks::tested_stops, crate::proofs::Blocks::tested_taken))]
+#[tactic(auto, using(crate::proofs::Blocks::parenthesis_stops))]
 fn test(
     alloc: Global,
     tokens: &[Token],
@@ -180,13 +175,12 @@ fn test(
         (λ fault. Stops end (read (test (expression 0)) tokens.now) fault) }
 {
     let inside = past_sign(tokens, end, Sign::OpenParenthesis)?;
-    let (test, rest) = value(alloc, Sign::CloseParenthesis, inside, end)?;
-    Ok((test, rest))
+    value(alloc, Sign::CloseParenthesis, inside, end)
 }
 
 // The second list of an if, where there is one.
 #[cycle(statement)]
-#[tactic(auto, using(crate::proofs::Blocks::no_else_reads, crate::proofs::Blocks::else_stops, crate::proofs::Blocks::else_reads))]
+#[tactic(auto, using(crate::proofs::Blocks::no_else_reads))]
 fn otherwise<'a>(
     alloc: Global,
     forks: u8,
@@ -204,8 +198,7 @@ fn otherwise<'a>(
     if !word_follows(tokens, Word::Else) {
         return Ok(tokens);
     }
-    let rest = block(alloc, forks, ifs, behind(tokens), end, into)?;
-    Ok(rest)
+    block(alloc, forks, ifs, behind(tokens), end, into)
 }
 
 #[cycle(statement)]

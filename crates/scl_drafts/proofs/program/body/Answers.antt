@@ -1,7 +1,11 @@
-use Rattle.scl_drafts.proofs.Programs.{body_reads}
+use Rattle.scl_drafts.proofs.Programs.{body_reads, close_stops}
+use Rattle.scl_drafts.proofs.Taking.{either_way}
 use Rattle.scl_drafts.proofs.program.body.Goals as goal
 
 pub returns : goal.returns
 returns c =
-    body_reads c.args.tokens.now c.in_ok-inside.inside.now c.in_ok-inside.ensures c.args.variables.now c.declarations.new.declarations c.in_ok-start.start.now
-    c.in_ok-start.ensures c.args.into.now c.statements.new.into c.in_ok-rest.rest.now c.in_ok-rest.ensures c.in_ok-after.after.now c.in_ok-after.ensures
+    either_way _ c.past_sign-2.ensures
+    (λ x. body_reads c.args.tokens.now c.in_ok-inside.inside.now c.in_ok-inside.ensures c.args.variables.now c.declarations.new.declarations
+    c.in_ok-start.start.now c.in_ok-start.ensures c.args.into.now c.statements.new.into c.in_ok-rest.rest.now c.in_ok-rest.ensures x.now)
+    (λ f. close_stops c.args.tokens.now c.in_ok-inside.inside.now c.in_ok-inside.ensures c.args.variables.now c.declarations.new.declarations
+    c.in_ok-start.start.now c.in_ok-start.ensures c.args.into.now c.statements.new.into c.in_ok-rest.rest.now c.in_ok-rest.ensures c.args.end f)

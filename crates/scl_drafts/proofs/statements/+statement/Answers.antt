@@ -1,4 +1,4 @@
-use Rattle.std.proofs.Common.{◌≡◌, ◌-◌, ◌<◌, true, length, [], ◌∷◌, arith, rules}
+use Rattle.std.proofs.Common.{◌≡◌, ℕ, ◌-◌, ◌<◌, true, false, length, [], ◌∷◌, arith, rules}
 use Rattle.grammar.specs.Grammar.{one, many}
 use Rattle.grammar.specs.Read.{read, starts}
 use Rattle.sc_text.specs.declared.word.Word.TheVariants as word
@@ -8,10 +8,12 @@ use Rattle.sc_text.specs.Classes.{TheWord, TheSign}
 use Rattle.sc_text.specs.Expression.{text_tokens}
 use Rattle.sc_text.specs.Reading.{Stops}
 use Rattle.scl.specs.Rules.{if_limit}
-use Rattle.scl_drafts.specs.Program.{block, branch, fork}
+use Rattle.scl_drafts.specs.Program.{branch, fork}
 use Rattle.scl_drafts.specs.Inside.{statement_classes}
 use Rattle.scl_drafts.specs.Within.{within}
-use Rattle.scl_drafts.proofs.Blocks.{close_stops}
+use Rattle.scl_drafts.proofs.Blocks.{close_stops, block_reads, else_reads, else_stops}
+use Rattle.scl_drafts.proofs.Choosing.{no_if_reads, no_if_stops, if_reads, if_stops, simple_reads, simple_stops, fork_reads, fork_stops}
+use Rattle.scl_drafts.proofs.Taking.{either_way}
 use Rattle.scl_drafts.proofs.Forks.{join_stops, join_end_stops}
 use Rattle.scl_drafts.proofs.Loops.{within_ends, within_stops, branches_end, branch_stops}
 use Rattle.scl_drafts.proofs.statements.+statement.Goals as goal
@@ -48,13 +50,6 @@ branches-returns-in_err-rest t c =
     λ f. branch_stops _ _ _ _ _ _ c.args.end f some c.loop-used.invariant more in
     search (rules, stops)
 
-pub block-returns-in_err-after : goal.block-returns-in_err-after
-block-returns-in_err-after t c =
-    let stops : (f : ReadFault) → Stops c.args.end (read (one {L = text_tokens} (TheSign sign.CloseBrace ∷ [])) c.in_ok-rest.rest.now) f
-    → Stops c.args.end (read (block (within c.args.forks c.args.ifs)) c.args.tokens.now) f =
-    λ f. close_stops _ _ _ c.in_ok-body.ensures _ _ _ c.in_ok-rest.ensures c.args.end f in
-    search (rules, stops)
-
 pub fork-returns-in_err-joined : goal.fork-returns-in_err-joined
 fork-returns-in_err-joined t c =
     let stops : (f : ReadFault) → Stops c.args.end (read (one {L = text_tokens} (TheWord word.Join ∷ [])) c.in_ok-rest.rest.now) f
@@ -68,3 +63,41 @@ fork-returns-in_err-after t c =
     → Stops c.args.end (read (fork (within c.args.forks if_limit)) c.args.tokens.now) f =
     λ f. join_end_stops _ _ _ _ _ c.in_ok-more.ensures _ _ c.in_ok-rest.ensures _ c.in_ok-joined.ensures c.args.end f in
     search (rules, stops)
+
+pub statement-returns-then-not-word_follows : goal.statement-returns-then-not-word_follows
+statement-returns-then-not-word_follows t c =
+    let over = c.if-not-word_follows.true in
+    let other : starts text_tokens (TheWord word.If ∷ []) c.args.tokens.now ≡ false = search (rules, over, c.word_follows.ensures) in
+    either_way _ c.no_if.ensures (λ x. no_if_reads _ _ _ _ _ _ other) (λ f. no_if_stops _ _ _ _ f other)
+
+pub statement-returns : goal.statement-returns
+statement-returns t c =
+    let on = c.if-not-word_follows.false in
+    let begins : starts text_tokens (TheWord word.If ∷ []) c.args.tokens.now ≡ true = search (rules, on, c.word_follows.ensures) in
+    let some = c.if-ifs-eq0.false in
+    either_way _ c.choice.ensures (λ x. if_reads _ _ _ _ _ _ some begins) (λ f. if_stops _ _ _ _ f some begins)
+
+pub no_if-returns-then-not-word_follows : goal.no_if-returns-then-not-word_follows
+no_if-returns-then-not-word_follows t c =
+    let over = c.if-not-word_follows.true in
+    let other : starts text_tokens (TheWord word.Fork ∷ []) c.args.tokens.now ≡ false = search (rules, over, c.word_follows.ensures) in
+    either_way _ c.simple.ensures (λ x. simple_reads _ _ _ _ _ other) (λ f. simple_stops _ _ _ f other)
+
+pub no_if-returns : goal.no_if-returns
+no_if-returns t c =
+    let on = c.if-not-word_follows.false in
+    let begins : starts text_tokens (TheWord word.Fork ∷ []) c.args.tokens.now ≡ true = search (rules, on, c.word_follows.ensures) in
+    let some = c.if-forks-eq0.false in
+    either_way _ c.fork.ensures (λ x. fork_reads _ _ _ _ _ some begins) (λ f. fork_stops _ _ _ f some begins)
+
+pub block-returns : goal.block-returns
+block-returns t c =
+    either_way _ c.past_sign-2.ensures (λ x. block_reads (within c.args.forks c.args.ifs) c.args.tokens.now _ c.in_ok-body.ensures _ _ _ c.in_ok-rest.ensures _)
+    (λ f. close_stops (within c.args.forks c.args.ifs) c.args.tokens.now _ c.in_ok-body.ensures _ _ _ c.in_ok-rest.ensures _ f)
+
+pub otherwise-returns : goal.otherwise-returns
+otherwise-returns t c =
+    let on = c.if-not-word_follows.false in
+    let begins : starts text_tokens (TheWord word.Else ∷ []) c.args.tokens.now ≡ true = search (rules, on, c.word_follows.ensures) in
+    either_way _ c.block.ensures (λ x. else_reads (within c.args.forks c.args.ifs) c.args.tokens.now _ _ _ _ begins c.behind.ensures)
+    (λ f. else_stops (within c.args.forks c.args.ifs) c.args.tokens.now _ _ f begins c.behind.ensures)
