@@ -338,7 +338,8 @@ parts_stop text a nothing items end f p s =
     seq_stops_second (many (item e0)) (regions_of inner_depth_limit) text a p.part end f (record { is = p.is }) s
 
 pub parts_give : (text a rest : List Token) (nothing items : List DraftItem) (none regions : List DraftRegion) (empty rows : DraftRows)
-    → Puts (read (many (item e0)) text) put_list nothing items a → nothing ≡ [] → Puts (read (regions_of inner_depth_limit) a) put_parts (none, empty) (regions, rows) rest → none ≡ []
+    → Puts (read (many (item e0)) text) put_list nothing items a → nothing ≡ []
+    → Puts (read (regions_of inner_depth_limit) a) put_parts (none, empty) (regions, rows) rest → none ≡ []
     → empty ≡ no_rows → Gives (read (parts e0 (within e0 inner_depth_limit)) text) (items, (regions, rows)) rest
 unfolding parts
 parts_give text a rest nothing items none regions empty rows p g q e f =

@@ -27,7 +27,8 @@ pub(crate) fn entries(
     found: &mut Items<DraftEntry>,
 ) -> Result<(), ReadFault>
     ensures { MatchResult result
-        (λ _. Puts (read (many (entry (expression 0))) ahead.old.tokens.now) put_list found.old found.new ahead.new.tokens.now)
+        (λ _. Puts (read (many (entry (expression 0))) ahead.old.tokens.now) put_list found.old found.new
+        ahead.new.tokens.now)
         (λ fault. Stops end (read (many (entry (expression 0))) ahead.old.tokens.now) fault) }
 {
     let most = ahead.tokens.len();

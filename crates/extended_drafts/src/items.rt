@@ -32,7 +32,8 @@ pub(crate) fn items(
     found: &mut Items<DraftItem>,
 ) -> Result<(), ReadFault>
     ensures { MatchResult result
-        (λ _. Puts (read (many (item (expression 0))) ahead.old.tokens.now) put_list found.old found.new ahead.new.tokens.now)
+        (λ _. Puts (read (many (item (expression 0))) ahead.old.tokens.now) put_list found.old found.new
+        ahead.new.tokens.now)
         (λ fault. Stops end (read (many (item (expression 0))) ahead.old.tokens.now) fault) }
 {
     let most = ahead.tokens.len();

@@ -8,4 +8,5 @@ use Rattle.extended_drafts.proofs.items.items.Given as goal
 
 abbrev pub invariant-loop-used : goal.invariant-loop-used
 invariant-loop-used l =
-    IsPutting (read (many (item (expression 0))) l.fn.ahead.tokens.now) (item (expression 0)) item_first put_one l.fn.found l.found (l.most - l.used) l.ahead.tokens.now
+    IsPutting (read (many (item (expression 0))) l.fn.ahead.tokens.now) (item (expression 0)) item_first put_one l.fn.found l.found
+    (l.most - l.used) l.ahead.tokens.now

@@ -27,14 +27,14 @@ regions-returns-in_err-region t c =
 
 pub regions-returns : goal.regions-returns
 regions-returns t c =
-    putting_over put_part (region (expression 0) (within (expression 0) c.args.depth)) (the_word word.Region) _ _ _ gathered put_parts parts_put _ _ _ c.loop-used-test.false
-    c.loop-used.invariant
+    putting_over put_part (region (expression 0) (within (expression 0) c.args.depth)) (the_word word.Region) _ _ _ gathered put_parts parts_put _ _ _
+    c.loop-used-test.false c.loop-used.invariant
 
 pub regions-returns-then-not-word_follows : goal.regions-returns-then-not-word_follows
 regions-returns-then-not-word_follows t c =
     let over = c.if-not-word_follows.true in
-    putting_ends put_part (region (expression 0) (within (expression 0) c.args.depth)) (the_word word.Region) _ _ _ gathered put_parts parts_put _ _ c.loop-used.invariant
-    (search (rules, over, c.word_follows.ensures))
+    putting_ends put_part (region (expression 0) (within (expression 0) c.args.depth)) (the_word word.Region) _ _ _ gathered put_parts parts_put _ _
+    c.loop-used.invariant (search (rules, over, c.word_follows.ensures))
 
 pub regions-returns-in_err-region-2 : goal.regions-returns-in_err-region-2
 regions-returns-in_err-region-2 t c =
@@ -42,16 +42,16 @@ regions-returns-in_err-region-2 t c =
     let more : starts text_tokens (the_word word.Region) c.loop-used.ahead.tokens.now ≡ true = search (rules, on, c.word_follows.ensures) in
     let stops : (f : ReadFault) → Stops c.args.end (read (region (expression 0) (within (expression 0) c.args.depth)) c.loop-used.ahead.tokens.now) f
     → Stops c.args.end (read (rowed (region (expression 0) (within (expression 0) c.args.depth))) c.args.ahead.now.tokens.now) f =
-    λ f. putting_stops put_part (region (expression 0) (within (expression 0) c.args.depth)) (the_word word.Region) _ _ _ gathered put_parts parts_put _ _ _ c.args.end f
-    c.loop-used-test.true c.loop-used.invariant more in
+    λ f. putting_stops put_part (region (expression 0) (within (expression 0) c.args.depth)) (the_word word.Region) _ _ _ gathered put_parts parts_put _ _ _
+    c.args.end f c.loop-used-test.true c.loop-used.invariant more in
     search (rules, stops)
 
 pub regions-loop-used-preserved : goal.regions-loop-used-preserved
 regions-loop-used-preserved t c =
     let on = c.if-not-word_follows.false in
     let more : starts text_tokens (the_word word.Region) c.loop-used.ahead.tokens.now ≡ true = search (rules, on, c.word_follows.ensures) in
-    putting_on put_part (region (expression 0) (within (expression 0) c.args.depth)) (the_word word.Region) _ _ _ _ _ _ _ _ c.loop-used-test.true c.loop-used.invariant more
-    c.in_ok-region-2.ensures
+    putting_on put_part (region (expression 0) (within (expression 0) c.args.depth)) (the_word word.Region) _ _ _ _ _ _ _ _ c.loop-used-test.true
+    c.loop-used.invariant more c.in_ok-region-2.ensures
 
 pub states-loop-used-init : goal.states-loop-used-init
 states-loop-used-init t c = states_put _ _ _ _ _ _ c.in_ok-state.ensures refl
@@ -65,14 +65,14 @@ states-returns-in_err-state t c =
 
 pub states-returns : goal.states-returns
 states-returns t c =
-    putting_over put_part (state (expression 0) (within (expression 0) c.args.depth)) state_first _ _ _ gathered put_parts parts_put _ _ _ c.loop-used-test.false
-    c.loop-used.invariant
+    putting_over put_part (state (expression 0) (within (expression 0) c.args.depth)) state_first _ _ _ gathered put_parts parts_put _ _ _
+    c.loop-used-test.false c.loop-used.invariant
 
 pub states-returns-then-not-state_follows : goal.states-returns-then-not-state_follows
 states-returns-then-not-state_follows t c =
     let over = c.if-not-state_follows.true in
-    putting_ends put_part (state (expression 0) (within (expression 0) c.args.depth)) state_first _ _ _ gathered put_parts parts_put _ _ c.loop-used.invariant
-    (search (rules, over, c.state_follows.ensures))
+    putting_ends put_part (state (expression 0) (within (expression 0) c.args.depth)) state_first _ _ _ gathered put_parts parts_put _ _
+    c.loop-used.invariant (search (rules, over, c.state_follows.ensures))
 
 pub states-returns-in_err-state-2 : goal.states-returns-in_err-state-2
 states-returns-in_err-state-2 t c =
@@ -80,16 +80,16 @@ states-returns-in_err-state-2 t c =
     let more : starts text_tokens state_first c.loop-used.ahead.tokens.now ≡ true = search (rules, on, c.state_follows.ensures) in
     let stops : (f : ReadFault) → Stops c.args.end (read (state (expression 0) (within (expression 0) c.args.depth)) c.loop-used.ahead.tokens.now) f
     → Stops c.args.end (read (rowed (state (expression 0) (within (expression 0) c.args.depth))) c.args.ahead.now.tokens.now) f =
-    λ f. putting_stops put_part (state (expression 0) (within (expression 0) c.args.depth)) state_first _ _ _ gathered put_parts parts_put _ _ _ c.args.end f
-    c.loop-used-test.true c.loop-used.invariant more in
+    λ f. putting_stops put_part (state (expression 0) (within (expression 0) c.args.depth)) state_first _ _ _ gathered put_parts parts_put _ _ _
+    c.args.end f c.loop-used-test.true c.loop-used.invariant more in
     search (rules, stops)
 
 pub states-loop-used-preserved : goal.states-loop-used-preserved
 states-loop-used-preserved t c =
     let on = c.if-not-state_follows.false in
     let more : starts text_tokens state_first c.loop-used.ahead.tokens.now ≡ true = search (rules, on, c.state_follows.ensures) in
-    putting_on put_part (state (expression 0) (within (expression 0) c.args.depth)) state_first _ _ _ _ _ _ _ _ c.loop-used-test.true c.loop-used.invariant more
-    c.in_ok-state-2.ensures
+    putting_on put_part (state (expression 0) (within (expression 0) c.args.depth)) state_first _ _ _ _ _ _ _ _ c.loop-used-test.true
+    c.loop-used.invariant more c.in_ok-state-2.ensures
 
 pub region-returns : goal.region-returns
 region-returns t c = region_puts _ _ _ _ _ _ _ _ _ _ _ c.in_ok-named.ensures c.in_ok-braced_states.ensures c.new-states.ensures c.in_ok-push.ensures.ok

@@ -34,11 +34,11 @@ decreases-inside l = 8 * l.depth
 abbrev pub invariant-regions-loop-used : goal.invariant-regions-loop-used
 invariant-regions-loop-used l =
     IsPutting (read (listed (region (expression 0) (within (expression 0) l.fn.depth)) (region (expression 0) (within (expression 0) l.fn.depth)))
-    l.fn.ahead.tokens.now) (region (expression 0) (within (expression 0) l.fn.depth)) (the_word word.Region) put_part (l.fn.found, l.fn.rows) (l.found, l.rows) (l.most - l.used)
-    l.ahead.tokens.now
+    l.fn.ahead.tokens.now) (region (expression 0) (within (expression 0) l.fn.depth)) (the_word word.Region) put_part (l.fn.found, l.fn.rows)
+    (l.found, l.rows) (l.most - l.used) l.ahead.tokens.now
 
 abbrev pub invariant-states-loop-used : goal.invariant-states-loop-used
 invariant-states-loop-used l =
     IsPutting (read (listed (state (expression 0) (within (expression 0) l.fn.depth)) (state (expression 0) (within (expression 0) l.fn.depth)))
-    l.fn.ahead.tokens.now) (state (expression 0) (within (expression 0) l.fn.depth)) state_first put_part (l.fn.found, l.fn.rows) (l.found, l.rows) (l.most - l.used)
-    l.ahead.tokens.now
+    l.fn.ahead.tokens.now) (state (expression 0) (within (expression 0) l.fn.depth)) state_first put_part (l.fn.found, l.fn.rows)
+    (l.found, l.rows) (l.most - l.used) l.ahead.tokens.now

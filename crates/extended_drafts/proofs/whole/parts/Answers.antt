@@ -10,7 +10,8 @@ use Rattle.extended_drafts.proofs.whole.parts.Goals as goal
 
 pub returns-in_err-regions : goal.returns-in_err-regions
 returns-in_err-regions c =
-    let stops : (f : ReadFault) → Stops c.args.end (read (rowed (region (expression 0) (within (expression 0) inner_depth_limit))) c.items.new.ahead.tokens.now) f
+    let stops : (f : ReadFault) → Stops c.args.end
+    (read (rowed (region (expression 0) (within (expression 0) inner_depth_limit))) c.items.new.ahead.tokens.now) f
     → Stops c.args.end (read (parts (expression 0) (within (expression 0) inner_depth_limit)) c.args.ahead.now.tokens.now) f =
     λ f. parts_stop _ _ _ _ c.args.end f c.in_ok-items.ensures in
     search (rules, stops)
