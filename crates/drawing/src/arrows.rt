@@ -65,8 +65,43 @@ fn side(end: &'static str, is_loop: bool) -> &'static str {
     if is_loop { end } else { "" }
 }
 
-// Puts the node of the words of a transition, and the arrows to it and from it, behind a text.
-fn put_arrows(
+// Puts the node of the words of a transition behind a text.
+fn put_words(
+    alloc: Global,
+    text: &mut String,
+    path: &str,
+    from: u32,
+    number: u32,
+    words: &str,
+) -> Result<(), AllocError> {
+    let node = format!(in alloc;
+        "\"{path}_{from} {number}\" [shape=\"plaintext\", fontsize=10, margin=0, height=0, label=\"{words}\"];\n"
+    )?;
+    text.push_str(node.as_str())
+}
+
+// Puts the arrow to the words of a transition behind a text.
+fn put_tail(
+    alloc: Global,
+    text: &mut String,
+    place: Place<'_>,
+    from: u32,
+    number: u32,
+    arrow: &Arrow,
+) -> Result<(), AllocError> {
+    let path = place.path;
+    let tail = tail_text(arrow.kind);
+    let line = line_text(arrow.immediate);
+    let west = side(", headport=\"w\"", arrow.target == from);
+    let left = cut(alloc, "ltail", place, from)?;
+    let before = format!(in alloc;
+        "\"{path}_{from}\" -> \"{path}_{from} {number}\" [{tail}{line}{left}{west}];\n"
+    )?;
+    text.push_str(before.as_str())
+}
+
+// Puts the arrow from the words of a transition behind a text.
+fn put_head(
     alloc: Global,
     text: &mut String,
     place: Place<'_>,
@@ -76,26 +111,28 @@ fn put_arrows(
 ) -> Result<(), AllocError> {
     let path = place.path;
     let to = arrow.target;
-    let words = arrow.words.as_str();
-    let line = line_text(arrow.immediate);
-    let tail = tail_text(arrow.kind);
     let head = head_text(arrow.kind);
-    let left = cut(alloc, "ltail", place, from)?;
-    let entered = cut(alloc, "lhead", place, to)?;
-    let west = side(", headport=\"w\"", to == from);
+    let line = line_text(arrow.immediate);
     let east = side(", tailport=\"e\"", to == from);
-    let node = format!(in alloc;
-        "\"{path}_{from} {number}\" [shape=\"plaintext\", fontsize=10, margin=0, height=0, label=\"{words}\"];\n"
-    )?;
-    let before = format!(in alloc;
-        "\"{path}_{from}\" -> \"{path}_{from} {number}\" [{tail}{line}{left}{west}];\n"
-    )?;
+    let entered = cut(alloc, "lhead", place, to)?;
     let behind = format!(in alloc;
         "\"{path}_{from} {number}\" -> \"{path}_{to}\" [{head}{line}{entered}{east}];\n"
     )?;
-    text.push_str(node.as_str())?;
-    text.push_str(before.as_str())?;
     text.push_str(behind.as_str())
+}
+
+// Puts the node of the words of a transition, and the arrows to it and from it, behind a text.
+fn put_arrows(
+    alloc: Global,
+    text: &mut String,
+    place: Place<'_>,
+    from: u32,
+    number: u32,
+    arrow: &Arrow,
+) -> Result<(), AllocError> {
+    put_words(alloc, text, place.path, from, number, arrow.words.as_str())?;
+    put_tail(alloc, text, place, from, number, arrow)?;
+    put_head(alloc, text, place, from, number, arrow)
 }
 
 // Whether a transition of the state of this number shares an arrow.

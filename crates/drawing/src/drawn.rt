@@ -5,7 +5,7 @@ use sc_values::Name;
 use sqlite_items::Items;
 
 /// The arrow of a transition.
-#[derive(Debug, Drop)]
+#[derive(Drop)]
 pub struct Arrow {
     pub kind: TransitionKind,
     pub immediate: bool,
@@ -16,7 +16,7 @@ pub struct Arrow {
 }
 
 /// A region.
-#[derive(Debug, Drop)]
+#[derive(Drop)]
 #[cycle(drawn)]
 pub struct DrawnRegion {
     pub name: Name,
@@ -24,7 +24,7 @@ pub struct DrawnRegion {
 }
 
 /// A state. With regions it is a superstate, else a simple one.
-#[derive(Debug, Drop)]
+#[derive(Drop)]
 #[cycle(drawn)]
 pub struct DrawnState {
     /// Its name, and in further lines what is done in it.

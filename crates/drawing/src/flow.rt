@@ -3,11 +3,7 @@
 use sc_graph::{Links, NodeId, Program, Step, ThreadId};
 use std::alloc::{AllocError, Global};
 
-// The line of an arrow, with what is said of it.
-fn arrow(alloc: Global, from: NodeId, to: NodeId, said: &str) -> Result<String, AllocError> {
-    format!(in alloc; "\"{from}\" -> \"{to}\"{said};\n")
-}
-
+// Puts an arrow, with what is said of it, behind a text.
 fn put_arrow(
     alloc: Global,
     text: &mut String,
@@ -15,9 +11,8 @@ fn put_arrow(
     to: NodeId,
     said: &str,
 ) -> Result<(), AllocError> {
-    let line = arrow(alloc, from, to, said)?;
-    text.push_str(line.as_str())?;
-    Ok(())
+    let line = format!(in alloc; "\"{from}\" -> \"{to}\"{said};\n")?;
+    text.push_str(line.as_str())
 }
 
 // Puts the arrows from a fork to the entries of its children behind a text.

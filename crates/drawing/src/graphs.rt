@@ -6,9 +6,22 @@ ghost use Rattle.drawing.specs.Drawing.{IsDrawing};
 use crate::flow::put_flow;
 use crate::protocol::put_protocol;
 use image_listing::step_text;
-use sc_graph::{Links, Program, ThreadId};
+use sc_graph::{Links, NodeId, Program, Step, ThreadId};
 use sc_values::Name;
 use std::alloc::{AllocError, Global};
+
+// Puts the node of this number behind a text.
+fn put_node(
+    alloc: Global,
+    text: &mut String,
+    program: &Program,
+    number: NodeId,
+    step: &Step,
+) -> Result<(), AllocError> {
+    let what = step_text(alloc, program.variables(), step)?;
+    let line = format!(in alloc; "\"{number}\" [label=\"{number}: {what}\"];\n")?;
+    text.push_str(line.as_str())
+}
 
 // Puts the nodes of a thread behind a text.
 fn put_nodes(
@@ -20,14 +33,20 @@ fn put_nodes(
     for number in 0..program.node_count() {
         match program.step(number) {
             Some(step) if program.owns(thread, number) => {
-                let what = step_text(alloc, program.variables(), step)?;
-                let line = format!(in alloc; "\"{number}\" [label=\"{number}: {what}\"];\n")?;
-                text.push_str(line.as_str())?;
+                put_node(alloc, text, program, number, step)?;
             }
             _ => {}
         }
     }
     Ok(())
+}
+
+// Puts what begins the cluster of a thread behind a text.
+fn put_opening(alloc: Global, text: &mut String, thread: ThreadId) -> Result<(), AllocError> {
+    let opening = format!(in alloc;
+        "subgraph \"cluster_{thread}\" {{\nlabel=\"thread {thread}\";\n"
+    )?;
+    text.push_str(opening.as_str())
 }
 
 // Puts the cluster of a thread behind a text.
@@ -37,13 +56,9 @@ fn put_thread(
     program: &Program,
     thread: ThreadId,
 ) -> Result<(), AllocError> {
-    let opening = format!(in alloc;
-        "subgraph \"cluster_{thread}\" {{\nlabel=\"thread {thread}\";\n"
-    )?;
-    text.push_str(opening.as_str())?;
+    put_opening(alloc, text, thread)?;
     put_nodes(alloc, text, program, thread)?;
-    text.push_str("}\n")?;
-    Ok(())
+    text.push_str("}\n")
 }
 
 // Puts all clusters behind a text.

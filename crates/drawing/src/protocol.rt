@@ -85,6 +85,19 @@ fn put_edges(
     put_left_out(alloc, text, arrows.left_out)
 }
 
+// Puts the line between two nodes that conflict behind a text.
+fn put_conflict(
+    alloc: Global,
+    text: &mut String,
+    first: NodeId,
+    second: NodeId,
+) -> Result<(), AllocError> {
+    let line = format!(in alloc;
+        "\"{first}\" -> \"{second}\" [dir=\"none\", color=\"red\", label=\"conflict\", constraint=\"false\"];\n"
+    )?;
+    text.push_str(line.as_str())
+}
+
 // Whether a program is formed.
 fn is_formed(program: &Program, links: &Links) -> bool
     requires { Tells program.now links.now }
@@ -109,12 +122,6 @@ pub(crate) fn put_protocol(
     match conflicts(alloc, program, links) {
         Ok(edges) => put_edges(alloc, text, program, &edges),
         Err(ConflictFault::Memory) => Err(AllocError),
-        Err(ConflictFault::WriteWrite(first, second)) => {
-            let line = format!(in alloc;
-                "\"{first}\" -> \"{second}\" [dir=\"none\", color=\"red\", label=\"conflict\", constraint=\"false\"];\n"
-            )?;
-            text.push_str(line.as_str())?;
-            Ok(())
-        }
+        Err(ConflictFault::WriteWrite(first, second)) => put_conflict(alloc, text, first, second),
     }
 }

@@ -39,6 +39,36 @@ fn put_all_transitions(
     Ok(())
 }
 
+// Puts what begins the cluster of a region behind a text.
+fn put_region_opening(
+    alloc: Global,
+    text: &mut String,
+    path: &str,
+    name: Name,
+) -> Result<(), AllocError> {
+    let opening = format!(in alloc;
+        "subgraph \"cluster_{path}\" {{\nlabel=\"{name}\";\nstyle=\"dashed\";\n"
+    )?;
+    text.push_str(opening.as_str())
+}
+
+// Puts the clusters of regions behind a text. Their paths begin so.
+#[cycle(put)]
+fn put_regions(
+    regions: &[DrawnRegion],
+    alloc: Global,
+    text: &mut String,
+    before: &str,
+) -> Result<(), AllocError> {
+    let mut number: u32 = 0;
+    for region in regions {
+        let path = format!(in alloc; "{before}{number}")?;
+        put_region(region, alloc, text, path.as_str())?;
+        number = number.saturating_add(1);
+    }
+    Ok(())
+}
+
 // Puts the cluster of a region behind a text. The numbers of the regions and states around it are its path.
 #[cycle(put)]
 fn put_region(
@@ -47,22 +77,47 @@ fn put_region(
     text: &mut String,
     path: &str,
 ) -> Result<(), AllocError> {
-    let name = region.name;
-    let opening = format!(in alloc;
-        "subgraph \"cluster_{path}\" {{\nlabel=\"{name}\";\nstyle=\"dashed\";\n"
-    )?;
-    text.push_str(opening.as_str())?;
+    put_region_opening(alloc, text, path, region.name)?;
+    let states = region.states.as_slice();
     let mut number: u32 = 0;
-    for state in region.states.as_slice() {
+    for state in states {
         let inner = format!(in alloc; "{path}_{number}")?;
         put_state(state, alloc, text, inner.as_str())?;
         number = number.saturating_add(1);
     }
-    let states = region.states.as_slice();
-    let place = Place { states, path };
-    put_all_transitions(alloc, text, place)?;
-    text.push_str("}\n")?;
-    Ok(())
+    put_all_transitions(alloc, text, Place { states, path })?;
+    text.push_str("}\n")
+}
+
+// Puts the node of a simple state behind a text.
+fn put_simple(
+    alloc: Global,
+    text: &mut String,
+    state: &DrawnState,
+    path: &str,
+) -> Result<(), AllocError> {
+    let label = state.label.as_str();
+    let border = border(state);
+    let rings = rings(state);
+    let line = format!(in alloc;
+        "\"{path}\" [label=\"{label}\", shape=\"box\", style=\"rounded,{border}\", peripheries={rings}];\n"
+    )?;
+    text.push_str(line.as_str())
+}
+
+// Puts what begins the cluster of a superstate behind a text.
+fn put_state_opening(
+    alloc: Global,
+    text: &mut String,
+    state: &DrawnState,
+    path: &str,
+) -> Result<(), AllocError> {
+    let label = state.label.as_str();
+    let border = border(state);
+    let opening = format!(in alloc;
+        "subgraph \"cluster_{path}\" {{\nlabel=\"{label}\";\nstyle=\"rounded,{border}\";\n\"{path}\" [shape=\"point\", style=\"invis\", width=0];\n"
+    )?;
+    text.push_str(opening.as_str())
 }
 
 // Puts the node of a simple state, or the cluster of a superstate, behind a text.
@@ -73,29 +128,15 @@ fn put_state(
     text: &mut String,
     path: &str,
 ) -> Result<(), AllocError> {
-    let label = state.label.as_str();
-    let border = border(state);
     if !state.is_superstate() {
-        let rings = rings(state);
-        let line = format!(in alloc;
-            "\"{path}\" [label=\"{label}\", shape=\"box\", style=\"rounded,{border}\", peripheries={rings}];\n"
-        )?;
-        text.push_str(line.as_str())?;
-        return Ok(());
+        return put_simple(alloc, text, state, path);
     }
-    let opening = format!(in alloc;
-        "subgraph \"cluster_{path}\" {{\nlabel=\"{label}\";\nstyle=\"rounded,{border}\";\n\"{path}\" [shape=\"point\", style=\"invis\", width=0];\n"
-    )?;
-    text.push_str(opening.as_str())?;
-    let mut number: u32 = 0;
-    for region in state.regions.as_slice() {
-        let inner = format!(in alloc; "{path}_{number}")?;
-        put_region(region, alloc, text, inner.as_str())?;
-        number = number.saturating_add(1);
-    }
-    text.push_str("}\n")?;
+    put_state_opening(alloc, text, state, path)?;
+    let regions = state.regions.as_slice();
     let inside = format!(in alloc; "{path}_")?;
-    put_stacks(alloc, text, state.regions.as_slice(), inside.as_str())
+    put_regions(regions, alloc, text, inside.as_str())?;
+    text.push_str("}\n")?;
+    put_stacks(alloc, text, regions, inside.as_str())
 }
 
 // What stands in the drawing of a chart of this name: its title, the lines of its variables, and the clusters of its
@@ -108,12 +149,7 @@ fn body(
 ) -> Result<String, AllocError> {
     let mut text = format!(in alloc; "label=\"{name}\";\ncompound=\"true\";\n{FONTS}")?;
     put_variables(&mut text, variables)?;
-    let mut number: u32 = 0;
-    for region in regions {
-        let path = format!(in alloc; "{number}")?;
-        put_region(region, alloc, &mut text, path.as_str())?;
-        number = number.saturating_add(1);
-    }
+    put_regions(regions, alloc, &mut text, "")?;
     put_stacks(alloc, &mut text, regions, "")?;
     Ok(text)
 }

@@ -9,7 +9,7 @@ use sqlite_items::{Items, at};
 use std::alloc::{AllocError, Global};
 
 /// What a number in expressions names.
-#[derive(Clone, Copy, Debug)]
+#[derive(Clone, Copy)]
 pub enum Symbol {
     /// What has this name.
     Named(Name),
