@@ -27,11 +27,13 @@ loop-preserved c =
 
 pub returns-in_default-clause-run : goal.returns-in_default-clause-run
 returns-in_default-clause-run c =
-    told (λ xs e. replay (machine c.args.self.now) xs c.args.start.now ≡ Some e) c.loop.run.items c.loop.c c.ran.result c.ran.ensures.run c.ran.ensures.end c.loop.invariant.replays
+    told (λ xs e. replay (machine c.args.self.now) xs c.args.start.now ≡ Some e)
+    c.loop.run.items c.loop.c c.ran.result c.ran.ensures.run c.ran.ensures.end c.loop.invariant.replays
 
 pub returns-in_default-clause-order : goal.returns-in_default-clause-order
 returns-in_default-clause-order c =
-    told (λ xs e. StepsInOrder c.args.self.now c.args.order.now xs c.args.start.now e) c.loop.run.items c.loop.c c.ran.result c.ran.ensures.run c.ran.ensures.end c.loop.invariant.steps
+    told (λ xs e. StepsInOrder c.args.self.now c.args.order.now xs c.args.start.now e)
+    c.loop.run.items c.loop.c c.ran.result c.ran.ensures.run c.ran.ensures.end c.loop.invariant.steps
 
 pub returns-in_default-clause-stops : goal.returns-in_default-clause-stops
 returns-in_default-clause-stops c =
@@ -42,11 +44,13 @@ returns-in_default-clause-stops c =
 
 pub returns-in_default-2-clause-run : goal.returns-in_default-2-clause-run
 returns-in_default-2-clause-run c =
-    told (λ xs e. replay (machine c.args.self.now) xs c.args.start.now ≡ Some e) c.loop.run.items c.loop.c c.ran-in_default-2.result c.ran-in_default-2.ensures.run c.ran-in_default-2.ensures.end c.loop.invariant.replays
+    told (λ xs e. replay (machine c.args.self.now) xs c.args.start.now ≡ Some e)
+    c.loop.run.items c.loop.c c.ran-in_default-2.result c.ran-in_default-2.ensures.run c.ran-in_default-2.ensures.end c.loop.invariant.replays
 
 pub returns-in_default-2-clause-order : goal.returns-in_default-2-clause-order
 returns-in_default-2-clause-order c =
-    told (λ xs e. StepsInOrder c.args.self.now c.args.order.now xs c.args.start.now e) c.loop.run.items c.loop.c c.ran-in_default-2.result c.ran-in_default-2.ensures.run c.ran-in_default-2.ensures.end c.loop.invariant.steps
+    told (λ xs e. StepsInOrder c.args.self.now c.args.order.now xs c.args.start.now e)
+    c.loop.run.items c.loop.c c.ran-in_default-2.result c.ran-in_default-2.ensures.run c.ran-in_default-2.ensures.end c.loop.invariant.steps
 
 pub returns-in_default-2-clause-stops : goal.returns-in_default-2-clause-stops
 returns-in_default-2-clause-stops c =
@@ -56,18 +60,22 @@ returns-in_default-2-clause-stops c =
     let none : step c.args.self.now c.in-Some.region c.loop.c ≡ None = sym led ∙ c.in_default-2.is in
     let stops : Stops c.args.self.now c.args.order.now c.args.budget c.loop.run.items c.loop.c =
     inr (inr (c.in-Some.region, first, none)) in
-    told (λ xs e. Stops c.args.self.now c.args.order.now c.args.budget xs e) c.loop.run.items c.loop.c c.ran-in_default-2.result c.ran-in_default-2.ensures.run c.ran-in_default-2.ensures.end stops
+    told (λ xs e. Stops c.args.self.now c.args.order.now c.args.budget xs e)
+    c.loop.run.items c.loop.c c.ran-in_default-2.result c.ran-in_default-2.ensures.run c.ran-in_default-2.ensures.end stops
 
 pub returns-clause-run : goal.returns-clause-run
 returns-clause-run c =
-    told (λ xs e. replay (machine c.args.self.now) xs c.args.start.now ≡ Some e) c.loop.run.items c.loop.c c.ran-2.result c.ran-2.ensures.run c.ran-2.ensures.end c.loop.invariant.replays
+    told (λ xs e. replay (machine c.args.self.now) xs c.args.start.now ≡ Some e)
+    c.loop.run.items c.loop.c c.ran-2.result c.ran-2.ensures.run c.ran-2.ensures.end c.loop.invariant.replays
 
 pub returns-clause-order : goal.returns-clause-order
 returns-clause-order c =
-    told (λ xs e. StepsInOrder c.args.self.now c.args.order.now xs c.args.start.now e) c.loop.run.items c.loop.c c.ran-2.result c.ran-2.ensures.run c.ran-2.ensures.end c.loop.invariant.steps
+    told (λ xs e. StepsInOrder c.args.self.now c.args.order.now xs c.args.start.now e)
+    c.loop.run.items c.loop.c c.ran-2.result c.ran-2.ensures.run c.ran-2.ensures.end c.loop.invariant.steps
 
 pub returns-clause-stops : goal.returns-clause-stops
 returns-clause-stops c =
     let spent : length c.loop.run.items ≡ c.args.budget = omega arith in
     let stops : Stops c.args.self.now c.args.order.now c.args.budget c.loop.run.items c.loop.c = inl spent in
-    told (λ xs e. Stops c.args.self.now c.args.order.now c.args.budget xs e) c.loop.run.items c.loop.c c.ran-2.result c.ran-2.ensures.run c.ran-2.ensures.end stops
+    told (λ xs e. Stops c.args.self.now c.args.order.now c.args.budget xs e)
+    c.loop.run.items c.loop.c c.ran-2.result c.ran-2.ensures.run c.ran-2.ensures.end stops
