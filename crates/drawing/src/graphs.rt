@@ -84,13 +84,18 @@ fn put_all_flow(
     Ok(())
 }
 
+// Puts the clusters of a program and all its arrows behind a text.
+fn put_program(alloc: Global, text: &mut String, program: &Program) -> Result<(), AllocError> {
+    let links = Links::of(alloc, program)?;
+    put_threads(alloc, text, program)?;
+    put_all_flow(alloc, text, program, &links)?;
+    put_protocol(alloc, text, program, &links)
+}
+
 // What stands in the drawing of a program of this name: its title, its clusters and all its arrows.
 fn graph_body(alloc: Global, name: Name, program: &Program) -> Result<String, AllocError> {
-    let links = Links::of(alloc, program)?;
     let mut text = format!(in alloc; "label=\"{name}\";\nnode [shape=\"box\"];\n")?;
-    put_threads(alloc, &mut text, program)?;
-    put_all_flow(alloc, &mut text, program, &links)?;
-    put_protocol(alloc, &mut text, program, &links)?;
+    put_program(alloc, &mut text, program)?;
     Ok(text)
 }
 
