@@ -24,6 +24,7 @@ pub mod Reports
 pub mod Taken
 pub mod Fresh
 pub mod StateKept
+mod KeptBehind
 mod GoingOn
 mod SpareKept
 pub mod Claiming

@@ -70,7 +70,7 @@ pub(crate) fn step_on(
 
 // Behind a step of a thread that stood so: counts and sorts anew whom it can have made enabled or not, and lists the
 // children whom it forked or left.
-#[inline(never)]
+#[inline(always)]
 fn settle_others(
     joins: &Joins,
     program: &Program,
@@ -110,9 +110,9 @@ fn settle_others(
     listed.add_all(children);
 }
 
-// Puts a thread that stands so and concerns nobody else into its row. Whether it stands there already.
+/// Puts a thread that stands so and concerns nobody else into its row. Whether it stands there already.
 #[inline(always)]
-fn move_on(tables: &Tables, rows: &mut Rows, thread: ThreadId, next: Status) -> bool
+pub(crate) fn move_on(tables: &Tables, rows: &mut Rows, thread: ThreadId, next: Status) -> bool
     requires { HasRoom rows.old thread (own_row tables.now next) }
     ensures set { rows.new ≡ record rows.old
         { classes = slice_set rows.old.classes thread (own_row tables.now next) } }

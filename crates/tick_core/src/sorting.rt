@@ -120,6 +120,7 @@ fn sort_all(
 
 /// Puts a thread into the row of its priority where it is enabled and has no open claim, else into
 /// none.
+#[inline(always)]
 pub(crate) fn sort(
     program: &Program,
     tables: &Tables,
@@ -145,6 +146,7 @@ pub(crate) fn sort(
 
 // The priority at which a thread is ready; None where it isn't enabled, or has an open claim. Where no claim is
 // open, none is looked at: they lie far apart.
+#[inline(always)]
 fn ready_row(
     tables: &Tables,
     control: &Control,
@@ -168,6 +170,7 @@ fn ready_row(
 }
 
 // The priority at which a thread can step; None where it isn't enabled.
+#[inline(always)]
 fn step_priority(
     tables: &Tables,
     control: &Control,

@@ -8,7 +8,7 @@ ghost use Rattle.sc_graph.specs.Steps.{Keep, Put, Combine, enters, moved, after,
 ghost use Rattle.tick_core.specs.Stepping.{code_at};
 ghost use Rattle.tick_core.specs.Inside.Work.{value_of, value_at};
 ghost use Rattle.tick_core.specs.Inside.Joins.{FindsForks};
-ghost use Rattle.tick_core.specs.Inside.Onward.{MovesAloneAt, MovesAlone};
+ghost use Rattle.tick_core.specs.Inside.Onward.{MovesAloneAt, MovesAlone, IsOwnStep, step_here};
 
 use crate::joins::Joins;
 use sc_graph::{Control, NodeId, Program, Status, Step, ThreadId, VariableId};
@@ -49,6 +49,17 @@ pub(crate) fn take_step(
     }
 }
 
+/// The step of a thread that stands so, where it stands at a node.
+#[inline(always)]
+pub(crate) fn step_at(program: &Program, status: Status) -> Option<&Step>
+    ensures { option_copied result ≡ step_here program.now status }
+{
+    match status {
+        Status::At(node) => program.step(node),
+        Status::Absent | Status::Waiting(_) | Status::Paused(_) | Status::Ended => None,
+    }
+}
+
 /// The code of the step from a status, where it has one.
 #[inline(always)]
 pub(crate) fn code_at(program: &Program, status: Status) -> Option<&Code>
@@ -81,10 +92,45 @@ fn take_step_at(
         ≡ Some control.new }
     ensures alone { IfSome result (MovesAloneAt control.old control.new thread step.now) }
 {
+    match step {
+        Step::Fork { children, join } => {
+            fork(program, control, thread, children.as_slice(), *join);
+            None
+        }
+        Step::Exit => {
+            go(control, thread, Status::Ended);
+            None
+        }
+        Step::Assign { .. }
+        | Step::Update { .. }
+        | Step::Cond { .. }
+        | Step::Surf { .. }
+        | Step::Depth { .. } => Some(take_own_step(program, control, thread, step, value)),
+        Step::Join { .. } => unreachable!(),
+    }
+}
+
+/// The step of a thread from a node, as of `take_step`, where it concerns nobody else. Gives where the thread comes to
+/// stand.
+#[inline(always)]
+pub(crate) fn take_own_step(
+    program: &Program,
+    control: &mut Control,
+    thread: ThreadId,
+    step: &Step,
+    value: Option<Value>,
+) -> Status
+    requires own { IsOwnStep step.now }
+    requires defined { IsSome (node_effect program.now control.old thread step.now) }
+    requires value { value ≡ value_of control.old step.now }
+    ensures stepped { option_map (λ e. after e control.old) (node_effect program.now control.old thread step.now)
+        ≡ Some control.new }
+    ensures alone { MovesAloneAt control.old control.new thread step.now result }
+{
     match (step, value) {
         (Step::Assign { variable, next, .. }, Some(value)) => {
             assign(control, thread, *variable, value, *next);
-            Some(Status::At(*next))
+            Status::At(*next)
         }
         (
             Step::Update {
@@ -96,28 +142,20 @@ fn take_step_at(
             Some(value),
         ) => {
             update(control, thread, *variable, *combine, value, *next);
-            Some(Status::At(*next))
+            Status::At(*next)
         }
         (Step::Cond { then, other, .. }, Some(Value::Bool(holds))) => {
             let next = if holds { *then } else { *other };
             go(control, thread, Status::At(next));
-            Some(Status::At(next))
+            Status::At(next)
         }
         (Step::Surf { depth }, _) => {
             go(control, thread, Status::Paused(*depth));
-            Some(Status::Paused(*depth))
+            Status::Paused(*depth)
         }
         (Step::Depth { next }, _) => {
             go(control, thread, Status::At(*next));
-            Some(Status::At(*next))
-        }
-        (Step::Fork { children, join }, _) => {
-            fork(program, control, thread, children.as_slice(), *join);
-            None
-        }
-        (Step::Exit, _) => {
-            go(control, thread, Status::Ended);
-            None
+            Status::At(*next)
         }
         _ => unreachable!(),
     }

@@ -1,6 +1,6 @@
 //! A tick after the other, by workers that are kept.
 
-ghost use Rattle.std.specs.Prelude.{◌≡◌, ◌≢◌, ◌↔◌, false, Ok, Err, IfOk, OnErr, OnOk, MatchOption};
+ghost use Rattle.std.specs.Prelude.{◌≡◌, ◌≢◌, ◌↔◌, false, Ok, Err, None, IfOk, OnErr, OnOk, MatchOption};
 ghost use Rattle.std.specs.Result.{IsErrOf};
 ghost use Rattle.sc_values.specs.Runs.{IsOver};
 ghost use Rattle.sc_graph.specs.Machine.{machine};
@@ -50,7 +50,7 @@ impl<'r, 'x, J: OfImage, G: Gate> Team<'r, 'x, J, G> {
     }
 
     /// Runs the next tick of the shared image as `tick` does, in place, from where the one in `last` ended. `Input`:
-    /// that one is there as it was. At `Memory` it may be lost: none is there then.
+    /// that one is there as it was. At `Memory` it is lost: none is there.
     pub fn go_on<'s, R, E>(
         &mut self,
         rt: &'s R,
@@ -70,6 +70,7 @@ impl<'r, 'x, J: OfImage, G: Gate> Team<'r, 'x, J, G> {
         ensures ended { OnOk result (NextEnded J.image inputs.now last.old last.new) }
         ensures refused { IsErrOf result BeginFault.Input ↔ ¬ (AreAccepted J.image.program inputs.now) }
         ensures same { IsErrOf result BeginFault.Input → last.new ≡ last.old }
+        ensures lost { IsErrOf result BeginFault.Memory → last.new ≡ None }
     {
         let Some(state) = last else { unreachable!() };
         if self.lead_on(state, inputs)? {
@@ -109,7 +110,8 @@ impl<'r, 'x, J: OfImage, G: Gate> Team<'r, 'x, J, G> {
         'r: 's,
         'x: 's,
         requires { MatchOption last.old ⊥ (λ s. s.image ≡ J.image) }
-        ensures { OnOk result (Completed last.old last.new) }
+        ensures ended { OnOk result (Completed last.old last.new) }
+        ensures lost { OnErr result (last.new ≡ None) }
     {
         let state = last.take().unwrap();
         let state = self.complete_wide(rt, scope, alloc, state)?;

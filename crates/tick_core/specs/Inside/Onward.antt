@@ -3,11 +3,12 @@ use Rattle.std.specs.Prelude.{ℕ, ◌≡◌, ◌<◌, IsSome, None, Some, List,
 use Rattle.buckets.specs.Rows.{Rows, IsIn}
 use Rattle.sc_values.specs.declared.value.Value.{Value}
 use Rattle.sc_graph.specs.declared.program.Step.{Step}
+use Rattle.sc_graph.specs.declared.program.Step.TheVariants as of_node
 use Rattle.sc_graph.specs.declared.control.Control.{Control}
 use Rattle.sc_graph.specs.declared.control.Status.{Status}
 use Rattle.sc_graph.specs.declared.control.Status.TheVariants as status
 use Rattle.sc_graph.specs.declared.tables.Tables.{Tables}
-use Rattle.sc_graph.specs.Program.{Program}
+use Rattle.sc_graph.specs.Program.{Program, step_at}
 use Rattle.sc_graph.specs.Control.{status_of, IsEnabled}
 use Rattle.sc_graph.specs.Priority.{Leads}
 use Rattle.sc_graph.specs.Steps.{step}
@@ -25,6 +26,18 @@ abbrev pub IsOwnAffair : Status → Type 0
 IsOwnAffair (status.At n) = Unit {0}
 IsOwnAffair (status.Paused d) = Unit {0}
 IsOwnAffair other = ⊥
+
+-- a step that concerns nobody else
+abbrev pub IsOwnStep : Step → Type 0
+IsOwnStep (of_node.Fork children join) = ⊥
+IsOwnStep (of_node.Join next) = ⊥
+IsOwnStep of_node.Exit = ⊥
+IsOwnStep other = Unit {0}
+
+-- the step of a thread that stands so, where it stands at a node
+abbrev pub step_here : Program → Status → Option Step
+step_here p (status.At n) = step_at p n
+step_here p other = None
 
 -- the row of a thread that stands at a node; who is paused stands in none
 abbrev pub own_row : Tables → Status → Option ℕ

@@ -1,7 +1,7 @@
 //! The end of a tick.
 
-ghost use Rattle.std.specs.Prelude.{◌≡◌, ◌↔◌, ◌<◌, ◌==◌, ◌≢◌, Some, ℕ, IfSome, IsTrue, count_by, length, slice_get};
-ghost use Rattle.std.specs.Prelude.{slice_index};
+ghost use Rattle.std.specs.Prelude.{◌≡◌, ◌↔◌, ◌<◌, ◌≤◌, ◌==◌, ◌≢◌, Some, ℕ, IfSome, IsTrue, count_by, length};
+ghost use Rattle.std.specs.Prelude.{slice_get, slice_index};
 ghost use Rattle.sc_values.specs.Runs.{IsOver};
 ghost use Rattle.sc_graph.specs.Machine.{machine};
 ghost use Rattle.sc_graph.specs.Priority.{Leads, PriorityRun};
@@ -10,7 +10,8 @@ ghost use Rattle.sc_graph.specs.Program.{kinds as variable_kinds};
 ghost use Rattle.sc_graph.specs.Control.{status_of};
 ghost use Rattle.sc_graph.specs.Valid.{IsValid};
 ghost use Rattle.tick_core.specs.Claims.{Claim as OpenClaim};
-ghost use Rattle.tick_core.specs.Inside.Work.{value_at};
+ghost use Rattle.tick_core.specs.Inside.Work.{value_at, value_of};
+ghost use Rattle.tick_core.specs.Inside.Onward.{IsOwnStep, step_here};
 ghost use Rattle.tick_core.specs.State.{Advances, threads_of};
 ghost use Rattle.tick_core.specs.Whole.{WholeTick};
 ghost use Rattle.tick_core.specs.Inside.Turns.{DropsClaims, IsNext};
@@ -18,14 +19,14 @@ ghost use Rattle.tick_core.specs.Inside.Turns.{DropsClaims, IsNext};
 use crate::history::{Entry, Report};
 use crate::kept_claim::KeptClaim;
 use crate::listed::Listed;
-use crate::onward::step_on;
+use crate::onward::{move_on, step_on};
 use crate::short_codes::short_value;
 use crate::sorting::sort_every;
 use crate::state::claiming::close_one;
 use crate::state::{ParkedSpace, TickSpace, TickState};
-use crate::stepping::code_at;
+use crate::stepping::{code_at, take_own_step};
 use crate::there::clear_unlisted;
-use sc_graph::{Control, Status, ThreadId};
+use sc_graph::{Control, Status, Step, ThreadId};
 use sc_values::{CheckedCode, Kind, Operands, Value, eval};
 use sqlite_items::Items;
 use verifier::Verified;
@@ -92,6 +93,33 @@ impl<'a> TickState<'a> {
         );
         self.history.push_reserved(Entry { thread, worker });
         next
+    }
+
+    // As `advance`, of a leading thread that stands at a node, whose step concerns nobody else.
+    #[inline(always)]
+    pub(super) fn advance_alone(
+        &mut self,
+        thread: ThreadId,
+        step: &Step,
+        worker: u8,
+        value: Option<Value>,
+    ) -> Option<Status>
+        requires leads { Leads self.old.image.program self.old.image.tables self.old.present thread }
+        requires at { step_here self.old.image.program (status_of self.old.present thread) ≡ Some step.now }
+        requires own { IsOwnStep step.now }
+        requires value { value ≡ value_of self.old.present step.now }
+        ensures step { Advances self.old self.new thread worker }
+        ensures within { length self.new.history ≤ self.new.image.tables.budget }
+        ensures next { IfSome result (IsNext self.new thread) }
+    {
+        let image = self.verified.image();
+        let claims = &mut self.claims;
+        close_one(claims, &mut self.claimed, thread);
+        let next = take_own_step(image.program(), &mut self.present, thread, step, value);
+        let stays = move_on(image.tables(), &mut self.rows, thread, next);
+        let entry = Entry { thread, worker };
+        self.history.push_reserved(entry);
+        if stays { Some(next) } else { None }
     }
 
     /// Of a tick that is over: the configuration in which it ended, which rests and is its only

@@ -1,21 +1,21 @@
 //! The steps that are taken one after another, until a tick is over.
 
-ghost use Rattle.std.specs.Prelude.{◌≡◌, ◌≤◌, IfSome, MatchOption, length};
+ghost use Rattle.std.specs.Prelude.{◌≡◌, ◌≤◌, MatchOption, Some, length};
 ghost use Rattle.sc_values.specs.Runs.{IsOver};
 ghost use Rattle.sc_graph.specs.Machine.{machine};
 ghost use Rattle.sc_graph.specs.Control.{status_of};
 ghost use Rattle.tick_core.specs.State.{Advances, GoesAlone, GoesBy};
-ghost use Rattle.tick_core.specs.Inside.Work.{value_at};
+ghost use Rattle.tick_core.specs.Inside.Work.{value_of};
+ghost use Rattle.tick_core.specs.Inside.Onward.{IsOwnStep, step_here};
 ghost use Rattle.tick_core.specs.Inside.Turns.{IsNext, IsUnclaimed, NothingToClaim};
 
 use crate::short_codes::short_value;
 use crate::state::TickState;
 use crate::state::ending::present_value;
 use crate::step_hook::{NoHook, StepHook};
-use crate::stepping::code_at;
-use sc_graph::{Control, Status, ThreadId};
+use crate::stepping::step_at;
+use sc_graph::{Status, Step, ThreadId};
 use sc_values::Value;
-use verifier::Verified;
 
 impl<'a> TickState<'a> {
     /// Drops all open claims, and then steps as worker 0 until nobody is enabled.
@@ -41,8 +41,8 @@ impl<'a> TickState<'a> {
         }
     }
 
-    // One step, of a thread that leads and stands so. Gives who steps next: the same thread, where it surely leads on,
-    // else whom the rows tell. A step of a code that is not short is taken by a call.
+    // One step, of a thread that leads and stands so. Gives who steps next. A step that concerns others, or whose code
+    // is not short, is taken by a call.
     #[inline(always)]
     fn step_past<H: StepHook>(
         &mut self,
@@ -56,36 +56,62 @@ impl<'a> TickState<'a> {
         ensures within { length self.new.history ≤ self.new.image.tables.budget }
         ensures next { MatchOption result (NothingToClaim self.new) (λ n. IsNext self.new n.0 n.1) }
     {
-        let Some(value) = short_value_at(self.verified, &self.present, status) else {
-            return self.step_by_call(thread, status, worker, hook);
-        };
+        let verified = self.verified;
+        match step_at(verified.image().program(), status) {
+            Some(step @ (Step::Surf { .. } | Step::Depth { .. })) => {
+                return self.step_alone(thread, step, worker, None, hook);
+            }
+            Some(
+                step @ (Step::Assign { code, .. }
+                | Step::Update { code, .. }
+                | Step::Cond { code, .. }),
+            ) => {
+                if let Some(value) = short_value(code, self.present.variables.as_slice()) {
+                    return self.step_alone(thread, step, worker, Some(value), hook);
+                }
+            }
+            _ => {}
+        }
+        self.step_by_call(thread, status, worker, hook);
+        self.leader()
+    }
+
+    // The step of a thread that leads and stands at a node, where it concerns nobody else and has this value. Gives
+    // who steps next: the same thread, where it surely leads on, else whom the rows tell.
+    #[inline(always)]
+    fn step_alone<H: StepHook>(
+        &mut self,
+        thread: ThreadId,
+        step: &Step,
+        worker: u8,
+        value: Option<Value>,
+        hook: &H,
+    ) -> Option<(ThreadId, Status)>
+        requires leads { IsUnclaimed self.old thread }
+        requires at { step_here self.old.image.program (status_of self.old.present thread) ≡ Some step.now }
+        requires own { IsOwnStep step.now }
+        requires value { value ≡ value_of self.old.present step.now }
+        ensures step { Advances self.old self.new thread worker }
+        ensures within { length self.new.history ≤ self.new.image.tables.budget }
+        ensures next { MatchOption result (NothingToClaim self.new) (λ n. IsNext self.new n.0 n.1) }
+    {
         hook.passing(worker, thread);
-        match self.advance(thread, status, worker, value) {
+        match self.advance_alone(thread, step, worker, value) {
             Some(status) => Some((thread, status)),
             None => self.leader(),
         }
     }
 
-    // As `step_past`, for any code.
+    // Any step of a thread that leads and stands so.
     #[inline(never)]
-    fn step_by_call<H: StepHook>(
-        &mut self,
-        thread: ThreadId,
-        status: Status,
-        worker: u8,
-        hook: &H,
-    ) -> Option<(ThreadId, Status)>
+    fn step_by_call<H: StepHook>(&mut self, thread: ThreadId, status: Status, worker: u8, hook: &H)
         requires leads { IsNext self.old thread status }
         ensures step { Advances self.old self.new thread worker }
         ensures within { length self.new.history ≤ self.new.image.tables.budget }
-        ensures next { MatchOption result (NothingToClaim self.new) (λ n. IsNext self.new n.0 n.1) }
     {
         let value = present_value(self.verified, &self.variable_kinds, &self.present, status);
         hook.passing(worker, thread);
-        match self.advance(thread, status, worker, value) {
-            Some(status) => Some((thread, status)),
-            None => self.leader(),
-        }
+        let _next = self.advance(thread, status, worker, value);
     }
 
     // A leading thread that has no open claim, and how it stands.
@@ -97,20 +123,5 @@ impl<'a> TickState<'a> {
             Some(thread) => Some((thread, self.present.status(thread))),
             None => None,
         }
-    }
-}
-
-// The value that the step from this status takes, over the present variables. None: its code is not a short one, or has
-// no value.
-#[inline(always)]
-fn short_value_at(verified: &Verified, control: &Control, status: Status) -> Option<Option<Value>>
-    ensures { IfSome result (λ value. value ≡ value_at verified.now.program control.now status) }
-{
-    match code_at(verified.image().program(), status) {
-        Some(code) => match short_value(code, control.variables.as_slice()) {
-            Some(value) => Some(Some(value)),
-            None => None,
-        },
-        None => Some(None),
     }
 }

@@ -4,10 +4,6 @@ use Rattle.tick_core.proofs.state.TickState.step_by_call.Goals as goal
 pub present_value-value-requires-clause-configuration : goal.present_value-value-requires-clause-configuration
 present_value-value-requires-clause-configuration g c = configuration _ c.self.invariant.0
 
-pub returns-in-Some-clause-within : goal.returns-in-Some-clause-within
-returns-in-Some-clause-within g c =
-    room_left _ _ _ c.args.thread c.args.worker c.self.view_is c.self.invariant.0 c.requires.leads.next.leads c.advance.ensures.step
-
-pub returns-in-None-clause-within : goal.returns-in-None-clause-within
-returns-in-None-clause-within g c =
-    room_left _ _ _ c.args.thread c.args.worker c.self.view_is c.self.invariant.0 c.requires.leads.next.leads c.advance.ensures.step
+pub returns-clause-within : goal.returns-clause-within
+returns-clause-within g c =
+    room_left _ _ _ c.args.thread c.args.worker c.self.view_is c.self.invariant.0 c.requires.leads.next.leads c.advance-next.ensures.step
