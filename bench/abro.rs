@@ -1,16 +1,18 @@
-//! ABRO by hand: what a line of input costs at the least. `abro < LINES`; a line of output has no steps.
-use std::io::{self, BufRead, Write};
+//! ABRO by hand: what a line of input costs at the least. `abro [held] < LINES`; a line of output has no steps. It is
+//! written at once, or with the word `held` where 64 KB are held, and at the end.
+use std::io::{self, BufRead, BufWriter, Write};
 
 fn main() -> io::Result<()> {
     let mut input = io::stdin().lock();
-    let mut output = io::stdout().lock();
+    let is_held = std::env::args().any(|word| word == "held");
+    let mut output = BufWriter::with_capacity(65536, io::stdout().lock());
     let (mut line, mut shown) = (String::new(), Vec::new());
     let (mut a, mut b, mut o) = (false, false, false);
     let mut tick = 0u64;
     loop {
         line.clear();
         if input.read_line(&mut line)? == 0 {
-            return Ok(());
+            return output.flush();
         }
         let (given_a, given_b, given_r) =
             (line.contains("\"A\":true"), line.contains("\"B\":true"), line.contains("\"R\":true"));
@@ -23,6 +25,8 @@ fn main() -> io::Result<()> {
         shown.clear();
         writeln!(shown, "{{\"out\":{{\"O\":{o}}},\"tick\":{tick}}}")?;
         output.write_all(&shown)?;
-        output.flush()?;
+        if !is_held {
+            output.flush()?;
+        }
     }
 }
