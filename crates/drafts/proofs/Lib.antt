@@ -13,3 +13,4 @@ pub mod Assigned
 pub mod OneFirst
 pub mod ToldInOrder
 pub mod ToldFlaws
+pub mod Outcomes
