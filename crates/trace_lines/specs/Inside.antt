@@ -4,3 +4,4 @@ pub mod Members
 pub mod Named
 pub mod Ordered
 pub mod Rows
+pub mod Kept

@@ -1,4 +1,5 @@
 pub mod Line
 pub mod Lines
 pub mod Output
+pub mod Reader
 pub mod Inside

@@ -7,7 +7,9 @@ mod giving;
 mod inputs;
 mod integers;
 mod interface;
+mod kept_line;
 mod line;
+mod line_reader;
 mod lines;
 mod members;
 mod ordered;
@@ -16,6 +18,7 @@ mod outputs;
 
 pub use interface::Interface;
 pub use line::{LineFault, object_of};
+pub use line_reader::LineReader;
 pub use lines::{LINE_LIMIT, LineEnd, Lines, LinesFault, feed_in};
 pub use members::LineRoom;
 pub use outputs::quoted;

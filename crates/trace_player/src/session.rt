@@ -13,7 +13,7 @@ use std::alloc::Global;
 use std::sync::Wait;
 use std::thread::Scope;
 use tick_core::{BeginFault, Control, Inputs, TickSpace, TickState};
-use trace_lines::{Interface, LineFault, LineRoom};
+use trace_lines::{Interface, LineFault, LineReader};
 use verifier::Verified;
 use worker_pool::{Gate, OfImage, Team};
 
@@ -95,12 +95,13 @@ where
     pub(crate) fn react(
         &mut self,
         interface: &Interface<'_>,
-        line_room: &mut LineRoom,
+        reader: &mut LineReader<'_, '_>,
         number: u64,
         line: &[u8],
         shown: &mut Vec<u8>,
     ) -> Result<(), PlayFault>
         requires interface { interface.now ≡ J.image.program.variables }
+        requires reader { reader.old.variables ≡ J.image.program.variables }
         requires rests { IsAtRest J.image self.old.last }
         requires short { length line.now ≤ line_limit }
         ensures rests { OnOk result (IsAtRest J.image self.new.last) }
@@ -108,14 +109,15 @@ where
         ensures shows { OnOk result (Shows J.image number (rest_behind J.image self.old.last) line.now
             (rest_behind J.image self.new.last) shown.new.items) }
         ensures fault { IfErr result (Tells J.image.program number line.now) }
+        ensures reader { reader.new.variables ≡ reader.old.variables }
     {
-        let inputs = match interface.read_line_in(self.alloc, line_room, line) {
-            Ok(inputs) => inputs,
+        match reader.read(self.alloc, line) {
+            Ok(()) => {}
             Err(LineFault::Memory) => return Err(PlayFault::Memory),
             Err(LineFault::NotJson) => return Err(PlayFault::NotJson(number)),
             Err(LineFault::Input) => return Err(PlayFault::Input(number)),
-        };
-        let steps = match self.tick(&inputs) {
+        }
+        let steps = match self.tick(reader.given()) {
             Ok(steps) => steps,
             Err(BeginFault::Memory) => return Err(PlayFault::Memory),
             Err(BeginFault::Input) => return Err(PlayFault::Input(number)),

@@ -10,7 +10,7 @@ use crate::lines::{is_last, next_number, unread_line};
 use crate::player::PlayFault;
 use crate::session::Session;
 use std::sync::Wait;
-use trace_lines::{Interface, LineRoom, Lines};
+use trace_lines::{Interface, LineReader, Lines};
 use worker_pool::{Gate, OfImage};
 
 /// Plays the lines of an input from the first configuration on, where no tick was. When it returns, no tick will be
@@ -51,15 +51,15 @@ where
     let program = session.verified.image().program();
     let interface = Interface::of(session.alloc, program.variables())?;
     let mut lines = Lines::new(session.alloc)?;
-    let mut line_room = LineRoom::new(session.alloc);
-    go_through(session, &interface, &mut line_room, &mut lines, channels)
+    let mut reader = LineReader::of(session.alloc, &interface)?;
+    go_through(session, &interface, &mut reader, &mut lines, channels)
 }
 
 // Plays the lines of an input, none of which was read, and writes what is held back at their end.
 fn go_through<'s, 'r: 's, 'x: 's, E: 's, R, J, G, P>(
     session: &mut Session<'s, 'r, 'x, E, R, J, G>,
     interface: &Interface<'_>,
-    line_room: &mut LineRoom,
+    reader: &mut LineReader<'_, '_>,
     lines: &mut Lines,
     channels: &mut P,
 ) -> Result<u64, PlayFault>
@@ -69,13 +69,14 @@ where
     G: Gate + Sync + 's,
     P: Channels,
     requires interface { interface.now ≡ J.image.program.variables }
+    requires reader { reader.old.variables ≡ J.image.program.variables }
     requires first { session.old.last ≡ None }
     requires lines { lines.old ≡ [] }
     ensures came { CameTo J.image (P.seen channels.old) (P.seen channels.new) result }
     ensures same { P.names channels.new ≡ P.names channels.old }
 {
     let mut held = Vec::new(session.alloc);
-    let result = go_on(session, interface, line_room, lines, channels, &mut held);
+    let result = go_on(session, interface, reader, lines, channels, &mut held);
     if settle(channels, &mut held) {
         return result;
     }
@@ -86,7 +87,7 @@ where
 fn go_on<'s, 'r: 's, 'x: 's, E: 's, R, J, G, P>(
     session: &mut Session<'s, 'r, 'x, E, R, J, G>,
     interface: &Interface<'_>,
-    line_room: &mut LineRoom,
+    reader: &mut LineReader<'_, '_>,
     lines: &mut Lines,
     channels: &mut P,
     held: &mut Vec<u8>,
@@ -97,6 +98,7 @@ where
     G: Gate + Sync + 's,
     P: Channels,
     requires interface { interface.now ≡ J.image.program.variables }
+    requires reader { reader.old.variables ≡ J.image.program.variables }
     requires first { session.old.last ≡ None }
     requires lines { lines.old ≡ [] }
     requires held { held.old.items ≡ [] }
@@ -116,7 +118,7 @@ where
             Ok(None) => return Ok(number),
             Err(fault) => return Err(unread_line(fault, next)),
         };
-        session.react(interface, line_room, next, &line, &mut shown)?;
+        session.react(interface, reader, next, &line, &mut shown)?;
         channels.publish(session.rt, session.verified, session.end())?;
         if !write_or_hold(channels, held, shown.as_slice(), lines.has_line()) {
             return Err(PlayFault::Write);

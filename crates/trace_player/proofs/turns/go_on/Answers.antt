@@ -31,6 +31,7 @@ loop-turn-init g c =
           c.requires.held;
       holds = holds_none i at c.args.held.now.items c.requires.held;
       at_hand = λ _. c.requires.held;
+      reader = c.requires.reader;
       rests = rests_first i last c.requires.first;
       none_read = refl;
       none_write = refl;
@@ -252,6 +253,7 @@ loop-turn-preserved g c =
           holds_more i before at told after held held' now' l.number n d played c.next_number-next.ensures l.invariant.holds sink
           (c.write_or_hold.ensures.grows c.if-not-write_or_hold.false) c.write_or_hold.ensures.unwatched;
       at_hand = λ none. c.write_or_hold.ensures.settled (c.has_line.ensures ∙ none);
+      reader = c.react.ensures.reader ∙ l.invariant.reader;
       rests = c.in_ok-react.ensures.rests;
       none_read = reads_same next.source after.source source ∙ reads ∙ l.invariant.none_read;
       none_write = all.failures ∙ writes_same at.sink told.sink sink ∙ l.invariant.none_write;

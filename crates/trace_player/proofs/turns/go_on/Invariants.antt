@@ -12,6 +12,7 @@ invariant-loop-turn g l = record {
       (ahead l.lines (g.P.Channels.seen l.channels).source.to_come) l.number (rest_behind g.J.OfImage.image l.session.last);
   holds : HoldsBack g.J.OfImage.image (g.P.Channels.seen l.fn.channels) (g.P.Channels.seen l.channels) l.held.items;
   at_hand : has_feed l.lines ≡ false → l.held.items ≡ [];
+  reader : l.reader.variables ≡ g.J.OfImage.image.program.variables;
   rests : IsAtRest g.J.OfImage.image l.session.last;
   none_read : (g.P.Channels.seen l.channels).source.failures ≡ (g.P.Channels.seen l.fn.channels).source.failures;
   none_write : (g.P.Channels.seen l.channels).sink.failures ≡ (g.P.Channels.seen l.fn.channels).sink.failures;
