@@ -13,10 +13,10 @@ use Rattle.core_charts.specs.declared.region.Region.TheViews.{out-Region, out-St
 use Rattle.core_charts.specs.declared.region.Region.TheFolds.{fold_out-Region, fold_out-State}
 use Rattle.core_charts.specs.Tests.{is_join}
 use Rattle.core_charts.specs.Rules.{IsEffect, IsTransition, IsState, IsRegion, AreRegions, has_regions, kinds_of}
-use Rattle.sc_text.proofs.EachItem.{Each, each_of, each_more}
+use Rattle.sc_text.proofs.EachItem.{Each, each_of, each_more, each_map}
 use Rattle.abort_expansion.specs.Pieces.{RegionPiece, StatePiece}
 use Rattle.abort_expansion.specs.Expansion.{region_piece, state_piece, piece_of_region, piece_of_state}
-use Rattle.abort_expansion.proofs.Lists.{each_mapped, at_front, count_is}
+use Rattle.abort_expansion.proofs.Lists.{at_front, count_is}
 use Rattle.abort_expansion.proofs.Expressions.{expression_over_more}
 use Rattle.abort_expansion.proofs.Leaving.{InText}
 use Rattle.abort_expansion.proofs.Apart.{Apart, IsText, apart_if_distinct}
@@ -99,7 +99,7 @@ region_keeps_rules declared more levels inner r h =
           (λ s. StateKeeps (declared ++ more) levels (length states) (out-State s).name (piece_of_state s)) states
           (state_keeps_rules declared more levels (length states) inner) each;
       texts =
-          each_mapped IsText (λ s. (out-State s).name) states
+          each_map IsText (λ s. (out-State s).name) states
           (each_more (IsState features.Extended declared (AreRegions features.Extended declared levels) (length states)) (λ s. IsText (out-State s).name) states
           (λ s k. k.named) each);
       apart = apart_if_distinct (names_of states) h.distinct;
@@ -115,7 +115,7 @@ inner_keep declared more (suc levels) regions h =
           (λ r. RegionKeeps (declared ++ more) levels (out-Region r).name (piece_of_region r)) regions
           (region_keeps_rules declared more levels (inner_keep declared more levels)) each,
       h.count,
-      each_mapped IsText (λ r. (out-Region r).name) regions
+      each_map IsText (λ r. (out-Region r).name) regions
           (each_more (IsRegion features.Extended declared (AreRegions features.Extended declared levels)) (λ r. IsText (out-Region r).name) regions
           (λ r k. k.named) each),
       apart_if_distinct (region_names regions) h.distinct,

@@ -17,13 +17,13 @@ use Rattle.core_charts.specs.declared.region.Region.TheOpen.{State-F}
 use Rattle.core_charts.specs.declared.region.Region.TheViews.{roll-State, out-State, out-roll-State}
 use Rattle.core_charts.specs.Rules.{IsEffect, IsState, IsTransition, AreRegions, has_regions, allows, fits_state}
 use Rattle.core_charts.specs.Tests.{is_join, is_strong, is_weak, at_once, strong_aborts, weak_aborts, terminations}
-use Rattle.sc_text.proofs.EachItem.{Each, each_append, each_at, each_more}
+use Rattle.sc_text.proofs.EachItem.{Each, each_append, each_at, each_more, each_filter, each_map}
 use Rattle.abort_expansion.specs.declared.flags.Flags.{Flags}
 use Rattle.abort_expansion.specs.declared.places.RegionPlaces.{RegionPlaces}
 use Rattle.abort_expansion.specs.Flags.{preparation_name, continuation_name, is_there, aborts_around, weak_around}
 use Rattle.abort_expansion.specs.Transitions.{is_number, put, on, go, strong_checks, weak_checks, led, led_by, answers, raising}
 use Rattle.abort_expansion.specs.Superstates.{simple_transitions, preparation, continuation, closing, joined_or_left, monitor_transitions, all_ended}
-use Rattle.abort_expansion.proofs.Lists.{each_chosen, each_mapped, count, count_is, count_none}
+use Rattle.abort_expansion.proofs.Lists.{count, count_is, count_none}
 use Rattle.abort_expansion.proofs.Taken.{IsFlagIfAny, AreFlags, IsTaken, ArePlaces, Goes, go_goes, no_trigger, number_trigger, putting_effects}
 use Rattle.abort_expansion.proofs.Taken.{counting_effects, strong_checks_go, weak_checks_go, led_by_goes, answers_go, raising_goes}
 
@@ -113,7 +113,7 @@ simple_transitions_go declared variables m n around at own flags within places h
     each_append (Goes variables n) (strong_checks false at.left around ++ map (led at) own) (weak_checks true at.left around)
     (each_append (Goes variables n) (strong_checks false at.left around) (map (led at) own)
     (strong_checks_go variables n at.left false around flags within)
-    (each_mapped (Goes variables n) (led at) own
+    (each_map (Goes variables n) (led at) own
     (each_more (InText declared variables m false) (λ t. Goes variables n (led at t)) own
     (λ t g. led_keeps variables m n at features.Extended declared false t places g.taken g.kept (allowed_by_go t.kind g.kept.fits)) h)))
     (weak_checks_go variables n at.left true around flags within)
@@ -128,7 +128,7 @@ preparation_keeps variables levels m n s flags regions own at fork begins named 
     let aborts : List Transition = at_once (strong_aborts own) in
     let first : List Transition = map (λ t. led_by at t.trigger t) aborts in
     let chosen : Each (IsTaken variables m) aborts =
-    each_chosen (IsTaken variables m) (λ t. t.immediate) (strong_aborts own) (each_chosen (IsTaken variables m) (λ t. is_strong t.kind) own taken) in
+    each_filter (IsTaken variables m) (λ t. t.immediate) (strong_aborts own) (each_filter (IsTaken variables m) (λ t. is_strong t.kind) own taken) in
     let effects : List Effect = on flags.strong (λ x. put x 0) ++ on flags.weak (λ x. put x 0) ++ on flags.counter (λ x. put x regions) in
     let resets_go : Goes variables n (go true None effects fork) =
     go_goes variables n true None effects fork (no_trigger variables)
@@ -139,7 +139,7 @@ preparation_keeps variables levels m n s flags regions own at fork begins named 
     within in
     left_by variables levels n (preparation_name s) begins (first ++ go true None effects fork ∷ []) named
     (each_append (Goes variables n) first (go true None effects fork ∷ [])
-    (each_mapped (Goes variables n) (λ t. led_by at t.trigger t) aborts
+    (each_map (Goes variables n) (λ t. led_by at t.trigger t) aborts
     (each_more (IsTaken variables m) (λ t. Goes variables n (led_by at t.trigger t)) aborts
     (λ t k. led_by_goes variables m n at t.trigger t places k k.trigger) chosen))
     (resets_go, tt))
@@ -186,7 +186,7 @@ continuation_keeps variables levels m n s around flags at own named each within 
     let strong : List Transition = answers at flags.strong 1 (strong_aborts own) in
     let weak : List Transition = answers at flags.weak 1 (weak_aborts own) in
     let end : List Transition = closing around flags at (terminations own) in
-    let Chosen : (p : Transition → Bool) → Each (IsTaken variables m) (filter p own) = λ p. each_chosen (IsTaken variables m) p own taken in
+    let Chosen : (p : Transition → Bool) → Each (IsTaken variables m) (filter p own) = λ p. each_filter (IsTaken variables m) p own taken in
     let checks : List Transition = strong_checks true at.left around in
     left_by variables levels n (continuation_name s) false (checks ++ strong ++ weak ++ end) named
     (each_append (Goes variables n) (checks ++ strong ++ weak) end
@@ -218,8 +218,8 @@ monitor_goes variables m around flags own each h taken =
     (each_append (Goes variables 2) first strong
     (strong_checks_go variables 2 1 false around each (λ there. omega arith))
     (raising_goes variables m 2 1 (λ t. false) flags.strong 1 (strong_aborts own) (omega arith) h.strong
-    (each_chosen (IsTaken variables m) (λ t. is_strong t.kind) own taken)))
+    (each_filter (IsTaken variables m) (λ t. is_strong t.kind) own taken)))
     (raising_goes variables m 2 1 (λ t. t.immediate) flags.weak 1 (weak_aborts own) (omega arith) h.weak
-    (each_chosen (IsTaken variables m) (λ t. is_weak t.kind) own taken)))
+    (each_filter (IsTaken variables m) (λ t. is_weak t.kind) own taken)))
     (all_ended_goes variables flags.counter h.counter))
     (weak_checks_go variables 2 1 true around each (λ there. omega arith))

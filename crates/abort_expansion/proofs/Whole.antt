@@ -12,11 +12,11 @@ use Rattle.core_charts.specs.declared.region.Region.{Region}
 use Rattle.core_charts.specs.Chart.{Chart}
 use Rattle.core_charts.specs.Rules.{AreRegions, IsChart}
 use Rattle.sc_text.proofs.AddedNames.{added_is_named}
-use Rattle.sc_text.proofs.EachItem.{Each, each_append, each_of, each_at, each_more}
+use Rattle.sc_text.proofs.EachItem.{Each, each_append, each_of, each_at, each_more, each_map}
 use Rattle.abort_expansion.specs.Flags.{local}
 use Rattle.abort_expansion.specs.Pieces.{superstates_in, variables_in}
 use Rattle.abort_expansion.specs.Expansion.{piece_of_region, whole, expansion, expanded, IsExpandable}
-use Rattle.abort_expansion.proofs.Lists.{each_mapped, count, count_is, count_append, count_none}
+use Rattle.abort_expansion.proofs.Lists.{count, count_is, count_append, count_none}
 use Rattle.abort_expansion.proofs.Apart.{Unlike, Apart, IsAdded, IsText, apart_append, apart_if_distinct, distinct_if_apart, text_is_named, text_has_no_bar}
 use Rattle.abort_expansion.proofs.Added.{Located, AreAdded}
 use Rattle.abort_expansion.proofs.Joined.{RegionsKeep, region_names, regions_named, regions_added, regions_keep}
@@ -58,7 +58,7 @@ each_name P [] h = tt
 each_name P (v ∷ those) h = (h.0, each_name P those h.1)
 
 texts_of : (declared : List Variable) → AreVariables languages.Chart declared → Each IsText (names declared)
-texts_of declared h = each_mapped IsText (λ v. v.name) declared (each_of (λ v. IsText v.name) declared h.named)
+texts_of declared h = each_map IsText (λ v. v.name) declared (each_of (λ v. IsText v.name) declared h.named)
 
 all_variables : (declared more : List Variable) (low high size : ℕ) → AreVariables languages.Chart declared → AreAdded low high size more
     → length (declared ++ more) ≤ variable_limit → AreVariables languages.Scl (declared ++ more)

@@ -5,7 +5,7 @@ use Rattle.std.specs.Prelude.{IsTrue}
 use Rattle.std.specs.List.{list_any}
 use Rattle.std.proofs.lemmas.List.Recursion.{is_count_by}
 use Rattle.sc_graph.specs.declared.program.Variable.{Variable}
-use Rattle.sc_text.proofs.EachItem.{Each, each_of, each_append}
+use Rattle.sc_text.proofs.EachItem.{Each, each_of, each_append, each_map}
 use Rattle.core_charts.specs.declared.features.Features.{Features}
 use Rattle.core_charts.specs.declared.region.Region.{Region}
 use Rattle.core_charts.specs.declared.region.Region.TheViews.{out-Region, out-State}
@@ -182,15 +182,13 @@ region_has r s others some have = subst AllHave (sym (fold_out-Region Subtree Su
         (inside_region at) in
         (numbers at, each_append HasState _ _ inner.0 inner.1)
 
-each_map : {A : Type 0} (f : A → Subtree) (P : Subtree → Type 0) (xs : List A) → ((i : ℕ) (x : A) → slice_get xs i ≡ Some x → P (f x)) → Each P (map f xs)
-each_map f P [] h = tt
-each_map f P (x ∷ xs) h = (h 0 x refl, each_map f P xs (λ i y at. h (suc i) y at))
-
 pub regions_have : (f : Features) (variables : List Variable) (levels : ℕ) (regions : List Region) → AreRegions f variables levels regions →
     Each AllHave (map subtree_of_region regions)
 regions_have f variables zero regions rules = subst (λ rs. Each AllHave (map subtree_of_region rs)) (sym rules) tt
 regions_have f variables (suc levels) regions rules =
-    each_map subtree_of_region AllHave regions (λ i r at. one r (rules.each i r at) (λ rs inner. regions_have f variables levels rs inner))
+    each_map AllHave subtree_of_region regions
+    (each_of (λ r. AllHave (subtree_of_region r)) regions
+        (λ i r at. one r (rules.each i r at) (λ rs inner. regions_have f variables levels rs inner)))
   where
     one : (r : Region) → IsRegion f variables (AreRegions f variables levels) r →
         ((rs : List Region) → AreRegions f variables levels rs → Each AllHave (map subtree_of_region rs)) → AllHave (subtree_of_region r)
@@ -198,7 +196,9 @@ regions_have f variables (suc levels) regions rules =
         let states : List State = (out-Region r).states in
         let some = some_state states (count_is states ∙ rules.one_initial) in
         region_has r some.0 some.1.0 some.1.1
-        (each_map subtree_of_state AllHave states (λ j s is. state_has s (inner (out-State s).regions (rules.states j s is).regions)))
+        (each_map AllHave subtree_of_state states
+            (each_of (λ s. AllHave (subtree_of_state s)) states
+                (λ j s is. state_has s (inner (out-State s).regions (rules.states j s is).regions))))
 
 pub rows_have : (f : Features) (variables : List Variable) (levels : ℕ) (regions : List Region) → AreRegions f variables levels regions → (at : TablePosition) →
     Each HasState (side_by_side (map subtree_of_region regions) at).regions

@@ -1,7 +1,7 @@
 -- What is so of each way to be entered is so of each move of entering a state. So who is entered comes to stand somewhere.
 use Rattle.std.proofs.Common.{◌≢◌, ℕ, zero, suc, ◌+◌, Bool, true, false, List, [], ◌∷◌, map, slice_get, unwrap_or, sym, subst}
 use Rattle.sc_graph.specs.declared.program.Variable.{Variable}
-use Rattle.sc_text.proofs.EachItem.{Each, each_append, each_of}
+use Rattle.sc_text.proofs.EachItem.{Each, each_append, each_of, each_map}
 use Rattle.core_charts.specs.declared.features.Features.{Features}
 use Rattle.core_charts.specs.declared.region.Transition.{Transition}
 use Rattle.core_charts.specs.declared.region.Region.{Region}
@@ -22,7 +22,6 @@ use Rattle.chart_machine.specs.declared.table.TablePosition.{TablePosition}
 use Rattle.chart_machine.specs.Table.{Subtree, side_by_side, behind, within, come_to, entered_state, is_superstate, state_subtree, rows_of_state_at}
 use Rattle.chart_machine.specs.Table.{with_region, past_states, next_behind, in_region, regions_in_initial, inside_region, region_subtree}
 use Rattle.chart_machine.specs.Table.{subtree_of_region, subtree_of_state, whole, table, table_of, state_at}
-use Rattle.chart_machine_laws.proofs.SoundRows.{each_map}
 
 module _ (Fits : Move → Type 0) where
   pub record EnteredBy (row : StateRow) : Type 0 where

@@ -4,7 +4,7 @@ use Rattle.std.proofs.Common.{◌≡◌, ℕ, zero, suc, ◌+◌, ◌<◌, ⊎_e
 use Rattle.std.proofs.Common.{Contains, refl, sym, ap, subst, ◌∙◌, arith}
 use Rattle.std.proofs.lemmas.List.{length-map}
 use Rattle.sc_graph.specs.declared.program.Variable.{Variable}
-use Rattle.sc_text.proofs.EachItem.{Each, each_of, each_append, each_more}
+use Rattle.sc_text.proofs.EachItem.{Each, each_of, each_append, each_more, each_filter}
 use Rattle.core_charts.specs.declared.features.Features.{Features}
 use Rattle.core_charts.specs.declared.region.Region.{Region}
 use Rattle.core_charts.specs.declared.region.Region.TheOpen.{Region-F}
@@ -29,7 +29,6 @@ use Rattle.chart_machine.specs.Steps.{moved}
 use Rattle.chart_machine_laws.specs.Tree.{around, holder}
 use Rattle.abort_expansion_laws.specs.CoreRows.{own}
 use Rattle.chart_machine_laws.proofs.LyingIn.{none_in, head_in, tail_in, head_or_tail}
-use Rattle.chart_machine_laws.proofs.SoundRows.{each_filter}
 use Rattle.chart_machine_laws.proofs.RowsOfSubtrees.{Holds, IsSized, AllSized, state_sized, region_sized, side_states}
 use Rattle.chart_machine_laws.proofs.TableTrees.{OnceInitial}
 use Rattle.chart_machine_laws.proofs.ChartTables.{holds_whole}

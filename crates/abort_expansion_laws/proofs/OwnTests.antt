@@ -4,7 +4,7 @@ use Rattle.std.proofs.Common.{unwrap_or, Contains, refl, sym, ap, subst, ◌∙�
 use Rattle.std.proofs.lemmas.Option.{slice_get_past}
 use Rattle.std.specs.List.{list_all}
 use Rattle.std.proofs.lemmas.Bool.{cases_lt}
-use Rattle.sc_text.proofs.EachItem.{Each, each_append, each_more, each_of}
+use Rattle.sc_text.proofs.EachItem.{Each, each_append, each_more, each_of, each_filter}
 use Rattle.sc_graph.specs.Tick.{Inputs}
 use Rattle.core_charts.specs.declared.region.Effect.{Effect}
 use Rattle.core_charts.specs.declared.region.Transition.{Transition}
@@ -22,7 +22,6 @@ use Rattle.chart_machine.specs.Machine.{initial, start, woken, guarded_first, is
 use Rattle.tick_laws.proofs.Lists.{same_or_not, contains_get}
 use Rattle.chart_machine_laws.proofs.LyingIn.{around, holder, head_in, tail_in}
 use Rattle.chart_machine_laws.proofs.ChartTables.{within_or_past, around_there}
-use Rattle.chart_machine_laws.proofs.SoundRows.{each_filter}
 use Rattle.abort_expansion_laws.specs.CoreRows.{own, IsState, IsSuper, Images}
 use Rattle.abort_expansion_laws.proofs.ChartSteps.{Makes, takes_trying, takes_entering, takes_guarding, takes_within, tries_on, enters_on, guards_on}
 use Rattle.abort_expansion_laws.proofs.ChartSteps.{waits_on, acts_on, StepMade, step_made}

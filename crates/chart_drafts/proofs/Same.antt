@@ -1,6 +1,6 @@
 -- Two ways of reading that give the same.
 use Rattle.std.proofs.Common.{◌≡◌, ℕ, List, refl, sym, ◌∙◌, ap, subst}
-use Rattle.std.specs.Prelude.{Result, Ok, Err, MatchResult, IfOk, IfErr, OnOk}
+use Rattle.std.specs.Prelude.{Result, Ok, Err, MatchResult, OnOk}
 use Rattle.grammar.specs.Grammar.{one}
 use Rattle.grammar.specs.Read.{Outcome, Got, Failed, next, read}
 use Rattle.sc_text.specs.declared.token.Token.{Token}
@@ -34,21 +34,6 @@ module _ {A : Type 0} where
       → read (after ks g) text ≡ read g rest
   after_read ks g text rest t =
       ap (λ o. next (next o (λ a rest. next (read g rest) (λ b end. Got (beside a b) end))) (λ x end. Got x.1 end)) t.is ∙ second_alone t.token (read g rest)
-
--- what an answer says in one way it says in the other
-pub either_way : {T : Type 0} {K L : T → Type 0} {P Q : ReadFault → Type 0} (r : Result T ReadFault) → MatchResult r K P → ((x : T) → K x → L x)
-    → ((f : ReadFault) → P f → Q f) → MatchResult r L Q
-either_way (Ok x) m k p = k x m
-either_way (Err f) m k p = p f m
-
-pub when_ok : {T : Type 0} {K L : T → Type 0} (P : ReadFault → Type 0) (r : Result T ReadFault) → MatchResult r K P → ((x : T) → K x → L x) → IfOk r L
-when_ok P (Ok x) m k = k x m
-when_ok P (Err f) m k = tt
-
-pub when_err : {T : Type 0} (K : T → Type 0) {P Q : ReadFault → Type 0} (r : Result T ReadFault) → MatchResult r K P → ((f : ReadFault) → P f → Q f)
-    → IfErr r Q
-when_err K (Ok x) m p = tt
-when_err K (Err f) m p = p f m
 
 pub on_ok_is : {T E A : Type 0} {y z : A} (x : A) (r : Result T E) → OnOk r (x ≡ y) → y ≡ z → OnOk r (x ≡ z)
 on_ok_is x (Ok a) m e = m ∙ e

@@ -1,7 +1,6 @@
 -- The texts of a core chart's states and regions are pieces, since the chart keeps its rules.
 use Rattle.std.proofs.Common.{◌≡◌, ℕ, zero, suc, ◌+◌, ◌≤◌, Bool, true, false, cond, List, [], ◌∷◌, map, length, count_by, refl, ap, sym, subst, ◌∙◌, arith}
 use Rattle.std.proofs.lemmas.List.Recursion.{is_count_by}
-use Rattle.std.specs.Prelude.{filter}
 use Rattle.sc_graph.specs.declared.program.Variable.{Variable}
 use Rattle.sc_graph.specs.Limits.{child_limit}
 use Rattle.scl.specs.declared.statement.Statement.TheVariants as statement
@@ -14,23 +13,11 @@ use Rattle.core_charts.specs.declared.region.Region.TheViews.{out-Region, out-St
 use Rattle.core_charts.specs.declared.region.Region.TheFolds.{fold_out-Region, fold_out-State}
 use Rattle.core_charts.specs.Rules.{IsEffect, IsTransition, IsState, IsRegion, AreRegions, has_regions, region_limit}
 use Rattle.core_charts.specs.Tests.{at_once, is_join, terminations}
-use Rattle.sc_text.proofs.EachItem.{Each, each_of}
+use Rattle.sc_text.proofs.EachItem.{Each, each_of, each_map, each_filter}
 use Rattle.chart_lowering.specs.Lowering.{branches, transitions, depth, behind, labels_in, RegionPiece, StatePiece, text_of, labels_of, region_piece}
 use Rattle.chart_lowering.specs.Lowering.{state_piece, piece_of_region, piece_of_state}
 use Rattle.chart_lowering.proofs.Inside.{IsTaken, IsBody, begins_with, simple_piece, final_piece, superstate_piece}
 use Rattle.chart_lowering.proofs.Bodies.{IsText, initial_count, body_is_piece}
-
-pub each_mapped : {A B : Type 0} (P : B → Type 0) (f : A → B) (xs : List A) → Each (λ x. P (f x)) xs → Each P (map f xs)
-each_mapped P f [] h = tt
-each_mapped P f (x ∷ xs) h = (h.0, each_mapped P f xs h.1)
-
-one_chosen : {A : Type 0} (P : A → Type 0) (b : Bool) (x : A) (xs : List A) → P x → Each P xs → Each P (cond b (x ∷ xs) xs)
-one_chosen P true x xs h k = (h, k)
-one_chosen P false x xs h k = k
-
-each_chosen : {A : Type 0} (P : A → Type 0) (p : A → Bool) (xs : List A) → Each P xs → Each P (filter p xs)
-each_chosen P p [] h = tt
-each_chosen P p (x ∷ xs) h = one_chosen P (p x) x (filter p xs) h.0 (each_chosen P p xs h.1)
 
 taken_of : (f : Features) (variables : List Variable) (n : ℕ) (super : Bool) (t : Transition) → IsTransition f variables n super t → IsTaken variables t
 taken_of f variables n super t h = record { trigger = h.trigger; effects = each_of (λ e. IsEffect variables e) t.effects h.effects }
@@ -60,7 +47,7 @@ state_text variables levels is_initial true regions all inner h = record {
   begins = λ at n. begins_with n (statement.Goto at.end ∷ []);
 }
 state_text variables levels is_initial false [] all inner h = record {
-  piece = λ at n. simple_piece variables levels n at all h (each_chosen (IsTaken variables) (λ t. t.immediate) all h);
+  piece = λ at n. simple_piece variables levels n at all h (each_filter (IsTaken variables) (λ t. t.immediate) all h);
   begins = λ at n. begins_with n (transitions at (at_once all) (depth at all (suc n)));
 }
 state_text variables zero is_initial false (r ∷ regions) all inner h = absurd cc
@@ -70,8 +57,8 @@ state_text variables (suc levels) is_initial false (r ∷ regions) all inner h =
     record {
       piece = λ at n.
           superstate_piece variables levels n at pieces all (some_there (piece_of_region r) (map piece_of_region regions)) few
-          (each_mapped (IsBody variables levels) piece_of_region (r ∷ regions) inner.1)
-          (each_chosen (IsTaken variables) (λ t. is_join t.kind) all h);
+          (each_map (IsBody variables levels) piece_of_region (r ∷ regions) inner.1)
+          (each_filter (IsTaken variables) (λ t. is_join t.kind) all h);
       begins = λ at n.
           begins_with n (statement.Fork (branches pieces (suc n)) ∷ behind at (terminations all) (suc n + labels_in pieces));
     }
@@ -111,7 +98,7 @@ region_is_body f variables levels inner r h =
     (record {
       piece = λ targets n.
           body_is_piece variables levels (map piece_of_state states)
-          (each_mapped (IsText variables levels) piece_of_state states
+          (each_map (IsText variables levels) piece_of_state states
           (each_of (λ s. IsText variables levels (piece_of_state s)) states
           (λ i s at. state_is_text f variables levels inner (length states) s (h.states i s at))))
           (one_initial states h.one_initial) targets n;

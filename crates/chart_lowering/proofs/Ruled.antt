@@ -10,7 +10,7 @@ use Rattle.scl.specs.Rules.{Part, in_row, thread, fork_limit, IsAssignment, Keep
 use Rattle.core_charts.specs.declared.features.Features.{Features}
 use Rattle.core_charts.specs.Chart.{Chart}
 use Rattle.core_charts.specs.Rules.{IsChart, language as features_language}
-use Rattle.sc_text.proofs.EachItem.{Each, each_at, each_more}
+use Rattle.sc_text.proofs.EachItem.{Each, each_at, each_more, each_map}
 use Rattle.chart_lowering.specs.Lowering.{label_name, RegionPiece, labels_in, piece_of_region, lowered}
 use Rattle.chart_lowering.proofs.Names.{IsCountable, label_in_scl}
 use Rattle.chart_lowering.proofs.Once.{count}
@@ -18,7 +18,7 @@ use Rattle.chart_lowering.proofs.Parts.{row, parts_are}
 use Rattle.chart_lowering.proofs.Pieces.{IsPiece, empty_piece, thread_piece}
 use Rattle.chart_lowering.proofs.Inside.{IsBody, fork_row}
 use Rattle.chart_lowering.proofs.Distinct.{names_distinct, all_below}
-use Rattle.chart_lowering.proofs.PiecesKept.{each_mapped, inner, same_length}
+use Rattle.chart_lowering.proofs.PiecesKept.{inner, same_length}
 
 each_name : (ns : List ℕ) → Each (λ name. IsNameIn language.Scl name) (map label_name ns)
 each_name [] = tt
@@ -68,7 +68,7 @@ keeps_rules f c h small =
     let size : ℕ = labels_in pieces in
     let text : IsPiece c.variables [] fork_limit 1 1 size (row (lowered c)) =
     fork_row c.variables [] 31 1 0 (1 + size) size pieces [] refl (omega arith) (omega (arith, same, some)) (omega (arith, same, inside.0))
-    (each_mapped (IsBody c.variables 31) piece_of_region c.regions inside.1) (empty_piece c.variables [] fork_limit 1 (1 + size)) in
+    (each_map (IsBody c.variables 31) piece_of_region c.regions inside.1) (empty_piece c.variables [] fork_limit 1 (1 + size)) in
     record {
       named = name_in_scl (features_language f) c.name h.named;
       declared = variables_in_scl (features_language f) c.variables h.variables;

@@ -2,7 +2,7 @@
 use Rattle.std.proofs.Common.{◌≡◌, ℕ, zero, suc, ◌<◌, ◌≤◌, ⊎_elim, Bool, true, false, if◌then◌else◌, Option, Some, None, List, [], ◌∷◌, map, length}
 use Rattle.std.proofs.Common.{unwrap_or, Contains, refl, sym, ap, subst, ◌∙◌, arith}
 use Rattle.std.proofs.lemmas.Option.{slice_get_past}
-use Rattle.sc_text.proofs.EachItem.{Each}
+use Rattle.sc_text.proofs.EachItem.{Each, each_filter}
 use Rattle.sc_values.specs.declared.expression.Expr.{Expr}
 use Rattle.core_charts.specs.declared.region.Region.TheViews.{out-State}
 use Rattle.core_charts.specs.declared.region.Transition.{Transition}
@@ -34,7 +34,7 @@ use Rattle.chart_lowering_laws.proofs.Finding.{MainPlace, label_found, main_labe
 use Rattle.chart_lowering_laws.proofs.Reading.{acts_at, tries_at, tries_map}
 use Rattle.chart_lowering_laws.proofs.Walking.{StateAt, low_open_state, less_or_not}
 use Rattle.chart_lowering_laws.proofs.ReadingOff.{begin_of, pause_of, into_of, BeginsWith, begins_with, Leads, each_found, simple_begins, final_begins}
-use Rattle.chart_lowering_laws.proofs.Leading.{holder_is, transitions_are, all_lead, each_filter}
+use Rattle.chart_lowering_laws.proofs.Leading.{holder_is, transitions_are, all_lead}
 
 -- who has no regions has nothing inside
 pub none_around : (k : Table) (l : Layout) → IsTree k l → (s : ℕ) → (state_at k s).regions ≡ [] → (q : ℕ) → ¬ Contains (region_at k q).around s

@@ -3,7 +3,7 @@ use Rattle.std.proofs.Common.{◌≡◌, ℕ, zero, suc, ◌<◌, Bool, true, fa
 use Rattle.std.proofs.Common.{slice_get, get_or, unwrap_or, option_map, option_and_then, refl, sym, ap, subst, ◌∙◌, arith}
 use Rattle.std.specs.List.{filter}
 use Rattle.std.proofs.lemmas.Option.{none-some, slice_get-get_or}
-use Rattle.sc_text.proofs.EachItem.{Each, each_of}
+use Rattle.sc_text.proofs.EachItem.{Each, each_of, each_filter}
 use Rattle.core_charts.specs.declared.features.Features.TheVariants as features
 use Rattle.core_charts.specs.declared.region.Effect.{Effect}
 use Rattle.core_charts.specs.declared.region.Region.{Region}
@@ -65,14 +65,6 @@ hops_fall root (suc m) g name into first found h =
     omega (arith, more, here)
 
 -- ---- transitions of superstates
-
-pub each_filter : {X : Type 0} (P : X → Type 0) (p : X → Bool) (xs : List X) → Each P xs → Each P (filter p xs)
-each_filter P p [] h = tt
-each_filter P p (x ∷ xs) h = by (p x) (each_filter P p xs h.1)
-  where
-    by : (b : Bool) → Each P (filter p xs) → Each P (if b then x ∷ filter p xs else filter p xs)
-    by true rest = (h.0, rest)
-    by false rest = rest
 
 pub none_filtered : {X : Type 0} (p : X → Bool) (xs : List X) → Each (λ x. p x ≡ false) xs → filter p xs ≡ []
 none_filtered p [] h = refl

@@ -1,6 +1,6 @@
 -- The project's lowering of a core chart is a lowering of its table.
 use Rattle.std.proofs.Common.{◌≡◌, ◌≢◌, ℕ, suc, ◌+◌, ◌<◌, inl, inr, Bool, true, false, List, [], ◌∷◌, map, length, Contains, refl, ap, subst, ◌∙◌, arith}
-use Rattle.sc_text.proofs.EachItem.{Each}
+use Rattle.sc_text.proofs.EachItem.{Each, each_map}
 use Rattle.core_charts.specs.declared.region.Region.{Region}
 use Rattle.core_charts.specs.declared.region.Region.TheViews.{out-State}
 use Rattle.core_charts.specs.Chart.{Chart}
@@ -28,7 +28,7 @@ use Rattle.scl_graph_laws.proofs.Members.{contains_head}
 use Rattle.chart_lowering_laws.proofs.Texts.{made, fork_piece}
 use Rattle.chart_lowering_laws.proofs.Counting.{threads_in, branches_count, regions_count}
 use Rattle.chart_lowering_laws.proofs.Finding.{MainPlace, main_whole, main_branch}
-use Rattle.chart_lowering_laws.proofs.Rows.{Rowed, RegionRowed, mapped, side_states, side_regions, regions_rowed}
+use Rattle.chart_lowering_laws.proofs.Rows.{Rowed, RegionRowed, side_states, side_regions, regions_rowed}
 use Rattle.chart_lowering_laws.proofs.Marking.{regions_marked}
 use Rattle.chart_lowering_laws.proofs.Walking.{Found, StateAt}
 use Rattle.chart_lowering_laws.proofs.Whole.{chart_found}
@@ -73,7 +73,7 @@ module _ (c : Chart) (p : Scl) (low : IsLowering c p) where
   rowed = regions_rowed c.variables depth_limit c.regions low.core.regions
 
   pieces_rowed : Each Rowed (map subtree_of_region c.regions)
-  pieces_rowed = mapped Rowed subtree_of_region c.regions rowed
+  pieces_rowed = each_map Rowed subtree_of_region c.regions rowed
 
   pub many_states : length k.states ≡ states_in (map subtree_of_region c.regions)
   many_states = side_states (map subtree_of_region c.regions) pieces_rowed whole

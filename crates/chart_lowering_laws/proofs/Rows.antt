@@ -1,7 +1,7 @@
 -- The rows of a chart's table, as many as its pieces say.
 use Rattle.std.proofs.Common.{◌≡◌, ℕ, zero, suc, ◌+◌, Bool, true, false, List, [], ◌∷◌, ◌++◌, map, length, length-append, refl, sym, ap, subst, ◌∙◌, arith}
 use Rattle.sc_graph.specs.declared.program.Variable.{Variable}
-use Rattle.sc_text.proofs.EachItem.{Each, each_of}
+use Rattle.sc_text.proofs.EachItem.{Each, each_of, each_map}
 use Rattle.core_charts.specs.declared.features.Features.TheVariants as features
 use Rattle.core_charts.specs.declared.region.Region.{Region}
 use Rattle.core_charts.specs.declared.region.State.{State}
@@ -87,10 +87,6 @@ region_rowed r each = record {
       (Rattle.chart_machine.specs.Table.inside_region at));
 }
 
-pub mapped : {A B : Type 0} (P : B → Type 0) (f : A → B) (xs : List A) → Each (λ x. P (f x)) xs → Each P (map f xs)
-mapped P f [] h = tt
-mapped P f (x ∷ xs) h = (h.0, mapped P f xs h.1)
-
 abbrev pub RegionRowed : Region → Type 0
 RegionRowed r = Rowed (subtree_of_region r)
 
@@ -116,14 +112,14 @@ pub state_is_rowed : (variables : List Variable) (levels count : ℕ) → ((regi
     (s : State) → IsState features.Core variables (AreRegions features.Core variables levels) count s → StateRowed s
 state_is_rowed variables levels count inner s h =
     subst Rowed (sym (fold_out-State Subtree Subtree region_subtree state_subtree s))
-    (state_rowed (open_state s) (mapped Rowed subtree_of_region (out-State s).regions (inner (out-State s).regions h.regions)))
+    (state_rowed (open_state s) (each_map Rowed subtree_of_region (out-State s).regions (inner (out-State s).regions h.regions)))
 
 region_is_rowed : (variables : List Variable) (levels : ℕ) → ((regions : List Region) → AreRegions features.Core variables levels regions →
     Each RegionRowed regions) →
     (r : Region) → IsRegion features.Core variables (AreRegions features.Core variables levels) r → RegionRowed r
 region_is_rowed variables levels inner r h =
     subst Rowed (sym (fold_out-Region Subtree Subtree region_subtree state_subtree r))
-    (region_rowed (open_region r) (mapped Rowed subtree_of_state (out-Region r).states
+    (region_rowed (open_region r) (each_map Rowed subtree_of_state (out-Region r).states
     (each_of StateRowed (out-Region r).states (λ i s at. state_is_rowed variables levels (length (out-Region r).states) inner s (h.states i s at)))))
 
 pub regions_rowed : (variables : List Variable) (levels : ℕ) (regions : List Region) → AreRegions features.Core variables levels regions →

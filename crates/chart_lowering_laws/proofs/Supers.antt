@@ -2,7 +2,7 @@
 use Rattle.std.proofs.Common.{◌≡◌, ℕ, suc, ◌+◌, ◌<◌, ◌≤◌, true, false, Some, None, List, [], ◌∷◌, ◌++◌, map, length, unwrap_or, count_by, refl, sym, ap}
 use Rattle.std.proofs.Common.{subst, ◌∙◌, arith}
 use Rattle.std.proofs.lemmas.List.Sums.{length-filter}
-use Rattle.sc_text.proofs.EachItem.{Each}
+use Rattle.sc_text.proofs.EachItem.{Each, each_filter}
 use Rattle.core_charts.specs.declared.region.Effect.{Effect}
 use Rattle.core_charts.specs.declared.region.Region.{Region}
 use Rattle.core_charts.specs.declared.region.Region.TheViews.{out-State}
@@ -37,7 +37,7 @@ use Rattle.chart_lowering_laws.proofs.Marking.{lows_same, regions_marked}
 use Rattle.chart_lowering_laws.proofs.Reading.{acts_at}
 use Rattle.chart_lowering_laws.proofs.Walking.{StateAt, low_open_state}
 use Rattle.chart_lowering_laws.proofs.ReadingOff.{into_of, BeginsWith, begins_with, Leads, leads_found}
-use Rattle.chart_lowering_laws.proofs.Leading.{holder_is, transitions_are, all_lead, all_joins, each_filter, none_filtered}
+use Rattle.chart_lowering_laws.proofs.Leading.{holder_is, transitions_are, all_lead, all_joins, none_filtered}
 use Rattle.chart_lowering_laws.proofs.Depths.{Depth, depth_at, entered_is, takes_of}
 use Rattle.chart_lowering_laws.proofs.Opening.{OpenBeside, open_beside, regions_begin}
 

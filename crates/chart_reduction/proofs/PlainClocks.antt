@@ -17,7 +17,7 @@ use Rattle.sc_values.proofs.Induction.{induct, kind-load, kind-unary, kind-binar
 use Rattle.sc_values.proofs.Loading.{loads-literal, loads-load, loads-unary, loads-binary}
 use Rattle.std.proofs.lemmas.List.Folds.{list_any-append}
 use Rattle.sc_text.specs.Parts.{IsExpression}
-use Rattle.sc_text.proofs.EachItem.{Each}
+use Rattle.sc_text.proofs.EachItem.{Each, each_map}
 use Rattle.core_charts.specs.Rules.{kinds_of}
 use Rattle.core_charts.specs.declared.region.Transition.{Transition}
 use Rattle.core_charts.specs.declared.region.Region.{Region}
@@ -30,7 +30,7 @@ use Rattle.value_passes.specs.Clocks.{timed_state}
 use Rattle.chart_reduction.specs.Laws.{of_region, of_state}
 use Rattle.chart_reduction.proofs.ByRules.{Cases, Keeps}
 use Rattle.extended_charts.proofs.Walks.{none_counted}
-use Rattle.chart_reduction.proofs.PlainParts.{each_map, state_folded, region_folded}
+use Rattle.chart_reduction.proofs.PlainParts.{state_folded, region_folded, from_zero}
 
 -- ---- a variable that there is not is not read
 
@@ -82,9 +82,6 @@ trigger_unread : (kinds : List Kind) (trigger : Option Expr) → ((e : Expr) →
 trigger_unread kinds None h few = refl
 trigger_unread kinds (Some e) h few = unread e kinds of_kind.Bool elapsed (h e refl).kinded few
 
-none_more : (n : ℕ) → n ≡ 0 → 0 + n ≡ 0
-none_more n h = omega (arith, h)
-
 -- ---- no state asks
 
 module _ (variables : List Variable) (few : length (kinds_of variables) ≤ elapsed) where
@@ -113,7 +110,7 @@ module _ (variables : List Variable) (few : length (kinds_of variables) ≤ elap
     of_state = λ count s rules inside.
         ap (λ t. t.clocks) (state_folded TimedRegion TimedState region_step state_step s)
         ∙ ap (λ b. one b + clocks_in (map timed_region (map of_region (out-State s).regions))) (nobody_asks count s (out-State s).transitions rules)
-        ∙ none_more (clocks_in (map timed_region (map of_region (out-State s).regions))) (no_clocks_in (out-State s).regions inside);
+        ∙ from_zero (clocks_in (map timed_region (map of_region (out-State s).regions))) ∙ no_clocks_in (out-State s).regions inside;
     of_region = λ r inside.
         ap (λ t. t.clocks) (region_folded TimedRegion TimedState region_step state_step r)
         ∙ no_clocks_among (length (out-Region r).states) (out-Region r).states inside;

@@ -1,7 +1,7 @@
 -- A chart without during actions has none that end.
-use Rattle.std.proofs.Common.{◌≡◌, ℕ, ◌+◌, List, map, length, ap, ◌∙◌, arith}
+use Rattle.std.proofs.Common.{◌≡◌, ℕ, List, map, length, ap, ◌∙◌}
 use Rattle.sc_graph.specs.declared.program.Variable.{Variable}
-use Rattle.sc_text.proofs.EachItem.{Each}
+use Rattle.sc_text.proofs.EachItem.{Each, each_map}
 use Rattle.core_charts.specs.declared.region.Region.{Region}
 use Rattle.core_charts.specs.declared.region.State.{State}
 use Rattle.core_charts.specs.declared.region.Region.TheViews.{out-Region, out-State}
@@ -9,10 +9,7 @@ use Rattle.value_passes.specs.Endings.{EndingRegion, EndingState, endings_in, en
 use Rattle.chart_reduction.specs.Laws.{of_region, of_state}
 use Rattle.chart_reduction.proofs.ByRules.{Cases}
 use Rattle.extended_charts.proofs.Walks.{none_counted}
-use Rattle.chart_reduction.proofs.PlainParts.{each_map, state_folded, region_folded}
-
-none_more : (n : ℕ) → n ≡ 0 → 0 + n ≡ 0
-none_more n h = omega (arith, h)
+use Rattle.chart_reduction.proofs.PlainParts.{state_folded, region_folded, from_zero}
 
 abbrev pub RegionUnended : Region → Type 0
 RegionUnended r = (ending_in_region (of_region r)).endings ≡ 0
@@ -32,7 +29,7 @@ pub nothing_ends : (variables : List Variable) → Cases variables RegionUnended
 nothing_ends variables = record {
   of_state = λ count s rules inside.
       ap (λ e. e.endings) (state_folded EndingRegion EndingState region_step state_step s)
-      ∙ none_more (endings_in (map ending_in_region (map of_region (out-State s).regions))) (no_endings_in (out-State s).regions inside);
+      ∙ from_zero (endings_in (map ending_in_region (map of_region (out-State s).regions))) ∙ no_endings_in (out-State s).regions inside;
   of_region = λ r inside.
       ap (λ e. e.endings) (region_folded EndingRegion EndingState region_step state_step r)
       ∙ no_endings_among (length (out-Region r).states) (out-Region r).states inside;

@@ -10,7 +10,7 @@ use Rattle.core_charts.specs.declared.region.Region.TheViews.{out-Region, out-St
 use Rattle.entry_passes.specs.Entry.{Entered, entrances, nowhere, led, standing, all_laid, region_step, state_step, without_entry, entered}
 use Rattle.chart_reduction.specs.Laws.{of_region, of_state}
 use Rattle.chart_reduction.proofs.ByRules.{Cases, Keeps}
-use Rattle.chart_reduction.proofs.PlainParts.{state_folded, region_folded}
+use Rattle.chart_reduction.proofs.PlainParts.{state_folded, region_folded, from_zero}
 
 -- ---- each state is entered at its place
 
@@ -36,9 +36,6 @@ entered_there (s ∷ states) place (suc n) less =
   where
     one_later : (m n : ℕ) → m + 1 + n ≡ m + suc n
     one_later m n = omega arith
-
-from_zero : (n : ℕ) → 0 + n ≡ n
-from_zero n = omega arith
 
 -- transitions among the states of a region
 abbrev Within : ℕ → Transition → Type 0

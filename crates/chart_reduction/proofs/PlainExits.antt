@@ -1,7 +1,7 @@
 -- A chart without exit actions keeps its states and transitions, and no region notes where it is.
 use Rattle.std.proofs.Common.{◌≡◌, ℕ, ◌+◌, None, List, [], ◌∷◌, ◌++◌, map, length, refl, sym, ap, ◌∙◌, arith, if◌then◌else◌}
 use Rattle.sc_graph.specs.declared.program.Variable.{Variable}
-use Rattle.sc_text.proofs.EachItem.{Each, each_more}
+use Rattle.sc_text.proofs.EachItem.{Each, each_more, each_map}
 use Rattle.core_charts.specs.declared.region.Effect.{Effect}
 use Rattle.core_charts.specs.declared.region.Transition.{Transition}
 use Rattle.core_charts.specs.declared.region.Region.{Region}
@@ -18,7 +18,7 @@ use Rattle.entry_passes.specs.Exits.{all_behind, all_inside, outer_regions}
 use Rattle.chart_reduction.specs.Laws.{of_region, of_state}
 use Rattle.chart_reduction.proofs.ByRules.{Cases}
 use Rattle.extended_charts.proofs.Walks.{walked, none_counted}
-use Rattle.chart_reduction.proofs.PlainParts.{each_map, over_state, over_region, state_is, region_is, state_folded, region_folded}
+use Rattle.chart_reduction.proofs.PlainParts.{over_state, over_region, state_is, region_is, state_folded, region_folded}
 
 -- such a region, as it is left: to this one
 pub record Unleft (left : LeftRegion) (made : ExtendedRegion) : Type 0 where

@@ -1,5 +1,5 @@
 -- What folds make of the parts of a chart without constructs.
-use Rattle.std.proofs.Common.{◌≡◌, true, List, [], ◌∷◌, map, refl, ap, ◌∙◌}
+use Rattle.std.proofs.Common.{◌≡◌, ℕ, ◌+◌, true, List, [], ◌∷◌, map, refl, ap, ◌∙◌, arith}
 use Rattle.sc_text.proofs.EachItem.{Each}
 use Rattle.core_charts.specs.declared.region.Region.{Region}
 use Rattle.core_charts.specs.declared.region.State.{State}
@@ -23,9 +23,8 @@ pub both_same : {A B : Type 0} (f : B → B) (g : A → B) (xs : List A) → Eac
 both_same f g [] h = refl
 both_same f g (x ∷ xs) h = ap (λ y. y ∷ map f (map g xs)) h.0 ∙ ap (λ ys. g x ∷ ys) (both_same f g xs h.1)
 
-pub each_map : {A B : Type 0} (P : B → Type 0) (f : A → B) (xs : List A) → Each (λ x. P (f x)) xs → Each P (map f xs)
-each_map P f [] h = tt
-each_map P f (x ∷ xs) h = (h.0, each_map P f xs h.1)
+pub from_zero : (n : ℕ) → 0 + n ≡ n
+from_zero n = omega arith
 
 -- ---- states and regions, over what stands for the regions and states in them
 

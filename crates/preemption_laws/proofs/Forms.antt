@@ -3,7 +3,7 @@
 use Rattle.std.proofs.Common.{◌≡◌, ℕ, suc, ◌<◌, ◌⊎◌, Bool, true, false, cond, List, [], ◌∷◌, ◌++◌, map, filter}
 use Rattle.std.proofs.Common.{length, Contains, refl, sym, ap, subst, ◌∙◌}
 use Rattle.std.proofs.lemmas.List.Elements.{filter-append}
-use Rattle.sc_text.proofs.EachItem.{Each, each_of, each_append}
+use Rattle.sc_text.proofs.EachItem.{Each, each_of, each_append, each_filter}
 use Rattle.core_charts.specs.declared.region.Effect.{Effect}
 use Rattle.core_charts.specs.declared.region.Transition.{Transition}
 use Rattle.core_charts.specs.Tests.{is_join, at_once, terminations, closing_tests, first_closing_tests}
@@ -15,7 +15,6 @@ use Rattle.chart_machine.specs.Steps.{moved, state_in, dropped, acts, taken}
 use Rattle.chart_machine.specs.Table.{state_at, region_at}
 use Rattle.chart_machine.specs.Turns.{inside}
 use Rattle.chart_machine_laws.specs.Tree.{IsThere, holder}
-use Rattle.chart_machine_laws.proofs.SoundRows.{each_filter}
 use Rattle.tick_laws.proofs.Lists.{contains_get}
 use Rattle.abort_expansion.specs.Transitions.{put}
 use Rattle.abort_expansion_laws.specs.CoreRows.{own, IsState}

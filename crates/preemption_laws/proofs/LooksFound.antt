@@ -2,7 +2,7 @@
 use Rattle.std.proofs.Common.{◌≡◌, ℕ, ⊎_elim, Bool, true, false, ◌||◌}
 use Rattle.std.proofs.Common.{Option, Some, None, List, [], ◌∷◌, ◌++◌, map, length, Contains, refl, sym, ap, subst, ◌∙◌}
 use Rattle.std.specs.Prelude.{reverse}
-use Rattle.sc_text.proofs.EachItem.{Each, each_append}
+use Rattle.sc_text.proofs.EachItem.{Each, each_append, each_filter}
 use Rattle.core_charts.specs.declared.features.Features.TheVariants as features
 use Rattle.core_charts.specs.declared.region.Transition.{Transition}
 use Rattle.core_charts.specs.Aborts.{has_aborts}
@@ -16,7 +16,7 @@ use Rattle.chart_machine.specs.Table.{table, state_at}
 use Rattle.chart_machine.specs.Steps.{to, state_in}
 use Rattle.chart_machine_laws.specs.Tree.{IsThere, around, holder}
 use Rattle.chart_machine_laws.proofs.LyingIn.{none_in, head_in, tail_in, head_or_tail}
-use Rattle.chart_machine_laws.proofs.SoundRows.{SoundTest, each_filter}
+use Rattle.chart_machine_laws.proofs.SoundRows.{SoundTest}
 use Rattle.abort_expansion.specs.declared.flags.Flags.{Flags}
 use Rattle.abort_expansion.specs.Expansion.{expanded}
 use Rattle.abort_expansion.specs.Flags.{aborts_around, is_there, has_join}

@@ -4,7 +4,7 @@ use Rattle.std.proofs.Common.{subst, ◌∙◌, arith}
 use Rattle.std.specs.List.{list_all}
 use Rattle.std.proofs.lemmas.List.{length-append}
 use Rattle.std.proofs.lemmas.List.Elements.{filter-append}
-use Rattle.sc_text.proofs.EachItem.{Each, each_append}
+use Rattle.sc_text.proofs.EachItem.{Each, each_append, each_filter}
 use Rattle.sc_graph.specs.Tick.{Inputs}
 use Rattle.core_charts.specs.declared.region.Effect.{Effect}
 use Rattle.core_charts.specs.declared.region.Transition.{Transition}
@@ -19,7 +19,6 @@ use Rattle.chart_machine.specs.Steps.{moved, state_in, dropped, acts, taken, ste
 use Rattle.chart_machine.specs.Table.{state_at, region_at}
 use Rattle.chart_machine.specs.Turns.{standing_of, inside}
 use Rattle.chart_machine_laws.specs.Tree.{IsThere}
-use Rattle.chart_machine_laws.proofs.SoundRows.{each_filter}
 use Rattle.tick_laws.proofs.Lists.{contains_head, contains_tail}
 use Rattle.abort_expansion_laws.specs.CoreRows.{own, IsState}
 use Rattle.abort_expansion_laws.proofs.ChartSteps.{Makes, takes_trying, takes_entering, takes_guarding, takes_within, tries_on, enters_on, guards_on}

@@ -4,7 +4,7 @@ use Rattle.std.proofs.Common.{◌≡◌, ℕ, suc, Bool, true, false, if◌then�
 use Rattle.std.proofs.Common.{◌∙◌, unwrap_or, slice_get, inl, inr}
 use Rattle.std.proofs.lemmas.Bool.{or_parts}
 use Rattle.sc_values.specs.declared.expression.Expr.{Expr}
-use Rattle.sc_text.proofs.EachItem.{Each, each_append, each_more}
+use Rattle.sc_text.proofs.EachItem.{Each, each_append, each_more, each_filter}
 use Rattle.core_charts.specs.declared.features.Features.TheVariants as features
 use Rattle.core_charts.specs.declared.region.Effect.{Effect}
 use Rattle.core_charts.specs.declared.region.Transition.{Transition}
@@ -15,7 +15,7 @@ use Rattle.core_charts.specs.Tests.{is_strong, is_weak, strong_aborts, weak_abor
 use Rattle.chart_machine.specs.declared.table.Table.{Table}
 use Rattle.chart_machine.specs.Table.{table}
 use Rattle.chart_machine_laws.specs.Tree.{IsThere, around}
-use Rattle.chart_machine_laws.proofs.SoundRows.{SoundTest, rows_sound, row_sound, each_filter}
+use Rattle.chart_machine_laws.proofs.SoundRows.{SoundTest, rows_sound, row_sound}
 use Rattle.abort_expansion.specs.declared.flags.Flags.{Flags}
 use Rattle.abort_expansion.specs.declared.places.RegionPlaces.{RegionPlaces}
 use Rattle.abort_expansion.specs.Expansion.{expanded}

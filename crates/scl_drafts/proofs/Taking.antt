@@ -1,6 +1,5 @@
 -- Reading a phrase between tokens: what is got and where it stops.
 use Rattle.std.proofs.Common.{◌≡◌, ℕ, Bool, true, false, List, [], ◌∷◌, refl, sym, ◌∙◌, ap, subst}
-use Rattle.std.specs.Prelude.{Result, Ok, Err, MatchResult, IfOk, IfErr}
 use Rattle.grammar.specs.Grammar.{one, seq, is_in}
 use Rattle.grammar.specs.Read.{Wrong, Deep, Outcome, Got, Failed, next, choose, read}
 use Rattle.sc_text.specs.declared.token.Token.{Token}
@@ -12,21 +11,6 @@ use Rattle.sc_text.proofs.Steps.{next_stops, stops_as, seq_got, seq_stops_first,
 use Rattle.sc_text.proofs.Nesting.{deep_at}
 use Rattle.scl_drafts.specs.Program.{Grows}
 use Rattle.scl_drafts.specs.Inside.{Adds}
-
--- what either answer says in one way it says in the other
-pub either_way : {T : Type 0} {K L : T → Type 0} {P Q : ReadFault → Type 0} (r : Result T ReadFault) → MatchResult r K P → ((x : T) → K x → L x)
-    → ((f : ReadFault) → P f → Q f) → MatchResult r L Q
-either_way (Ok x) m k p = k x m
-either_way (Err f) m k p = p f m
-
-pub when_ok : {T : Type 0} {K L : T → Type 0} (P : ReadFault → Type 0) (r : Result T ReadFault) → MatchResult r K P → ((x : T) → K x → L x) → IfOk r L
-when_ok P (Ok x) m k = k x m
-when_ok P (Err f) m k = tt
-
-pub when_err : {T : Type 0} (K : T → Type 0) {P Q : ReadFault → Type 0} (r : Result T ReadFault) → MatchResult r K P → ((f : ReadFault) → P f → Q f)
-    → IfErr r Q
-when_err K (Ok x) m p = tt
-when_err K (Err f) m p = p f m
 
 module _ {A : Type 0} (ks : List Class) (g : Grows A) where
   pub after_got : (text mid rest : List Token) (x : A) → Takes (read (one {L = text_tokens} ks) text) mid → read g mid ≡ Got x rest → read (after ks g) text

@@ -5,12 +5,13 @@ use Rattle.sc_text.specs.declared.word.Word.TheVariants as word
 use Rattle.sc_text.specs.declared.sign.Sign.TheVariants as sign
 use Rattle.sc_text.specs.Expression.{text_tokens, expression}
 use Rattle.sc_text.specs.Reading.{Stops}
+use Rattle.drafts.proofs.Outcomes.{either_way}
 use Rattle.chart_drafts.specs.Inside.{FillsBoth}
 use Rattle.chart_drafts.specs.ChartText.{the_word, the_sign, listed, state_first, state, states, region, within}
 use Rattle.chart_drafts.proofs.Nesting.{regions_fill, states_fill, inside_read, braced_fills, braced_fills_stops, bare_fills, bare_stops, nested_fills}
 use Rattle.chart_drafts.proofs.Nesting.{leaving_stops}
 use Rattle.chart_drafts.proofs.Filling.{filling_ends, filling_over, filling_stops, filling_on}
-use Rattle.chart_drafts.proofs.Same.{reading_so, either_way}
+use Rattle.chart_drafts.proofs.Same.{reading_so}
 use Rattle.chart_drafts.proofs.regions.+regions.Goals as goal
 
 pub regions-loop-used-init : goal.regions-loop-used-init

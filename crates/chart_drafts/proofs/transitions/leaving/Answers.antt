@@ -1,9 +1,9 @@
 use Rattle.sc_text.specs.declared.sign.Sign.TheVariants as sign
 use Rattle.sc_text.specs.Expression.{expression}
 use Rattle.grammar.specs.Grammar.{many}
+use Rattle.drafts.proofs.Outcomes.{either_way}
 use Rattle.chart_drafts.specs.ChartText.{the_sign, transition, leaving}
 use Rattle.chart_drafts.proofs.Filling.{before_fills, before_fills_stops}
-use Rattle.chart_drafts.proofs.Same.{either_way}
 use Rattle.chart_drafts.proofs.transitions.leaving.Goals as goal
 
 pub returns : goal.returns

@@ -1,5 +1,5 @@
+use Rattle.drafts.proofs.Outcomes.{either_way}
 use Rattle.chart_drafts.proofs.Nesting.{braced_both, braced_both_stops, parts}
-use Rattle.chart_drafts.proofs.Same.{either_way}
 use Rattle.chart_drafts.proofs.whole.braced_parts.Goals as goal
 
 pub returns : goal.returns

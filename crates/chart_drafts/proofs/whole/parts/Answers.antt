@@ -1,9 +1,9 @@
 use Rattle.grammar.specs.Grammar.{many}
+use Rattle.drafts.proofs.Outcomes.{either_way}
 use Rattle.core_charts.specs.Rules.{inner_depth_limit}
 use Rattle.chart_drafts.specs.ChartText.{declaration}
 use Rattle.chart_drafts.proofs.Filling.{seq_fills, seq_fills_stops}
 use Rattle.chart_drafts.proofs.Nesting.{regions_of}
-use Rattle.chart_drafts.proofs.Same.{either_way}
 use Rattle.chart_drafts.proofs.whole.parts.Goals as goal
 
 pub returns : goal.returns

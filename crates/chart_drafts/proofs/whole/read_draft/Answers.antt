@@ -1,10 +1,10 @@
 use Rattle.std.proofs.Common.{[], length}
 use Rattle.grammar.specs.Read.{read_all}
 use Rattle.sc_text.specs.Reading.{Stops}
+use Rattle.drafts.proofs.Outcomes.{when_ok, when_err}
 use Rattle.chart_drafts.specs.ChartText.{chart_text}
 use Rattle.chart_drafts.specs.Phrase.{Gives}
 use Rattle.chart_drafts.proofs.Drafting.{drafted, stopped}
-use Rattle.chart_drafts.proofs.Same.{when_ok, when_err}
 use Rattle.chart_drafts.proofs.whole.read_draft.Goals as goal
 
 pub returns-clause-ok : goal.returns-clause-ok

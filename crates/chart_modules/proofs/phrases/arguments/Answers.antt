@@ -1,7 +1,7 @@
 use Rattle.std.proofs.Common.{rules, ◌≡◌, true}
 use Rattle.grammar.specs.Read.{starts}
 use Rattle.sc_text.specs.Expression.{text_tokens}
-use Rattle.chart_drafts.proofs.Same.{either_way}
+use Rattle.drafts.proofs.Outcomes.{either_way}
 use Rattle.chart_modules.specs.Phrases.{argument_classes}
 use Rattle.chart_modules.proofs.UseParts.{arguments_there, arguments_stop}
 use Rattle.chart_modules.proofs.phrases.arguments.Goals as goal

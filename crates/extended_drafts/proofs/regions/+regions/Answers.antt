@@ -5,8 +5,9 @@ use Rattle.sc_text.specs.declared.word.Word.TheVariants as word
 use Rattle.sc_text.specs.declared.sign.Sign.TheVariants as sign
 use Rattle.sc_text.specs.Expression.{text_tokens, expression}
 use Rattle.sc_text.specs.Reading.{Stops}
+use Rattle.drafts.proofs.Outcomes.{either_way}
 use Rattle.chart_drafts.specs.ChartText.{the_word, the_sign, state_first}
-use Rattle.chart_drafts.proofs.Same.{reading_so, either_way}
+use Rattle.chart_drafts.proofs.Same.{reading_so}
 use Rattle.extended_drafts.specs.Draft.{gathered}
 use Rattle.extended_drafts.specs.ExtendedText.{rowed, state, region, within}
 use Rattle.extended_drafts.specs.Inside.{Puts, put_part, put_parts, put_body}

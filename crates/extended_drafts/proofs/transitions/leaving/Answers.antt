@@ -1,7 +1,7 @@
 use Rattle.sc_text.specs.declared.sign.Sign.TheVariants as sign
 use Rattle.sc_text.specs.Expression.{expression}
+use Rattle.drafts.proofs.Outcomes.{either_way}
 use Rattle.chart_drafts.specs.ChartText.{the_sign}
-use Rattle.chart_drafts.proofs.Same.{either_way}
 use Rattle.extended_drafts.specs.ExtendedText.{transitions, leaving}
 use Rattle.extended_drafts.specs.Inside.{put_ways}
 use Rattle.extended_drafts.proofs.Putting.{before_puts, before_puts_stops}

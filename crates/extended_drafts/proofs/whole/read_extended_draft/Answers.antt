@@ -1,8 +1,8 @@
 use Rattle.std.proofs.Common.{[], length}
 use Rattle.grammar.specs.Read.{read_all}
 use Rattle.sc_text.specs.Reading.{Stops}
+use Rattle.drafts.proofs.Outcomes.{when_ok, when_err}
 use Rattle.chart_drafts.specs.Phrase.{Gives}
-use Rattle.chart_drafts.proofs.Same.{when_ok, when_err}
 use Rattle.extended_drafts.specs.ExtendedText.{extended_text}
 use Rattle.extended_drafts.proofs.Drafting.{drafted, stopped}
 use Rattle.extended_drafts.proofs.whole.read_extended_draft.Goals as goal

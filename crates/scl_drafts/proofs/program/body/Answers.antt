@@ -1,5 +1,5 @@
+use Rattle.drafts.proofs.Outcomes.{either_way}
 use Rattle.scl_drafts.proofs.Programs.{body_reads, close_stops}
-use Rattle.scl_drafts.proofs.Taking.{either_way}
 use Rattle.scl_drafts.proofs.program.body.Goals as goal
 
 pub returns : goal.returns

@@ -1,10 +1,10 @@
 use Rattle.std.proofs.Common.{length, refl}
 use Rattle.grammar.specs.Read.{read_all}
 use Rattle.sc_text.specs.Reading.{Stops}
+use Rattle.drafts.proofs.Outcomes.{when_ok, when_err}
 use Rattle.scl_drafts.specs.Inside.{Drafts}
 use Rattle.scl_drafts.specs.Program.{scl}
 use Rattle.scl_drafts.proofs.Drafting.{drafted, stopped}
-use Rattle.scl_drafts.proofs.Taking.{when_ok, when_err}
 use Rattle.scl_drafts.proofs.program.read_draft.Goals as goal
 
 pub returns-clause-ok : goal.returns-clause-ok

@@ -3,8 +3,8 @@ use Rattle.grammar.specs.Read.{starts}
 use Rattle.sc_text.specs.declared.word.Word.TheVariants as word
 use Rattle.sc_text.specs.Classes.{AName, TheWord}
 use Rattle.sc_text.specs.Expression.{text_tokens}
+use Rattle.drafts.proofs.Outcomes.{either_way}
 use Rattle.scl_drafts.proofs.Single.{simple_named_reads, simple_named_stops, simple_goto_reads, simple_goto_stops, simple_pause_reads, simple_pause_stops}
-use Rattle.scl_drafts.proofs.Taking.{either_way}
 use Rattle.scl_drafts.proofs.simple.simple.Goals as goal
 
 pub returns-then-name_follows : goal.returns-then-name_follows

@@ -7,13 +7,13 @@ use Rattle.sc_text.specs.declared.read_fault.ReadFault.{ReadFault}
 use Rattle.sc_text.specs.Classes.{TheWord, TheSign}
 use Rattle.sc_text.specs.Expression.{text_tokens}
 use Rattle.sc_text.specs.Reading.{Stops}
+use Rattle.drafts.proofs.Outcomes.{either_way}
 use Rattle.scl.specs.Rules.{if_limit}
 use Rattle.scl_drafts.specs.Program.{branch, fork}
 use Rattle.scl_drafts.specs.Inside.{statement_classes}
 use Rattle.scl_drafts.specs.Within.{within}
 use Rattle.scl_drafts.proofs.Blocks.{close_stops, block_reads, else_reads, else_stops}
 use Rattle.scl_drafts.proofs.Choosing.{no_if_reads, no_if_stops, if_reads, if_stops, simple_reads, simple_stops, fork_reads, fork_stops}
-use Rattle.scl_drafts.proofs.Taking.{either_way}
 use Rattle.scl_drafts.proofs.Forks.{join_stops, join_end_stops}
 use Rattle.scl_drafts.proofs.Loops.{within_ends, within_stops, branches_end, branch_stops}
 use Rattle.scl_drafts.proofs.statements.+statement.Goals as goal

@@ -1,5 +1,5 @@
+use Rattle.drafts.proofs.Outcomes.{either_way}
 use Rattle.scl_drafts.proofs.Blocks.{tested_taken, tested_stops}
-use Rattle.scl_drafts.proofs.Taking.{either_way}
 use Rattle.scl_drafts.proofs.statements.test.Goals as goal
 
 pub returns : goal.returns
