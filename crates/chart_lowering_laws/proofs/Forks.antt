@@ -20,7 +20,7 @@ use Rattle.scl.specs.Rules.{in_row as parts_in_row}
 use Rattle.scl_graph.specs.Graph.{node, program_of}
 use Rattle.scl_graph_laws.specs.Mirrors.{leads, HasFork, Mirrors}
 use Rattle.scl_graph_laws.proofs.Members.{contains_head}
-use Rattle.scl_graph_laws.proofs.Numbers.{own_count, row_runs_on}
+use Rattle.scl_graph_laws.proofs.Numbers.{own_nodes, row_runs_on}
 use Rattle.scl_graph_laws.proofs.Segments.{stand_all}
 use Rattle.scl_graph_laws.proofs.Whole.{IsWhole}
 use Rattle.scl_graph_laws.proofs.Texts.{at_first, text_is_whole, all_run_on, program_mirrors}
@@ -52,7 +52,7 @@ module _ (p : Scl) (kept : KeepsRules p.name p.variables p.body) where
   all = (0, 0) ∷ forkers root
 
   all_forked : ForkedIn all root
-  all_forked = forked_in all root 0 1 (suc (own_count root)) is_whole.numbers (stand_all all).1
+  all_forked = forked_in all root 0 1 (suc (own_nodes root)) is_whole.numbers (stand_all all).1
 
   -- two forks with a branch of one thread are one fork
   pub one_fork : (t n : ℕ) (bs : Branches) (rest : Block) → Place root t (Fork n bs rest) → (s m : ℕ) (cs : Branches) (more : Block) →

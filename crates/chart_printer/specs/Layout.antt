@@ -4,7 +4,7 @@ use Rattle.std.specs.Prelude.{ℕ, Bool, true, false, if◌then◌else◌, Optio
 use Rattle.sc_values.specs.declared.expression.Expr.{Expr}
 use Rattle.sc_graph.specs.declared.program.Variable.{Variable}
 use Rattle.scl_printer.specs.Expressions.{variable_text, expression_text}
-use Rattle.scl_printer.specs.Layout.{role_text, kind_text}
+use Rattle.scl_printer.specs.Layout.{role_prefix, kind_prefix}
 use Rattle.core_charts.specs.declared.region.Effect.{Effect}
 use Rattle.core_charts.specs.declared.region.Transition.{Transition}
 use Rattle.core_charts.specs.declared.region.TransitionKind.{TransitionKind}
@@ -135,7 +135,7 @@ piece_of_state variables = fold-State Piece StatePiece region_over (state_piece 
 -- ---- charts
 
 abbrev pub declaration_text : Variable → List ℕ
-declaration_text v = role_text v.role ++ (kind_text v.kind ++ (v.name ++ codes ";"))
+declaration_text v = role_prefix v.role ++ (kind_prefix v.kind ++ (v.name ++ codes ";"))
 
 abbrev pub declarations_text : List Variable → Piece
 declarations_text [] margin = []

@@ -7,14 +7,14 @@ use crate::lines::{put_head, put_line};
 use crate::regions::put_regions;
 use core_charts::Chart;
 use sc_graph::Variable;
-use scl_printer::{kind_text, role_text};
+use scl_printer::{kind_prefix, role_prefix};
 use std::alloc::{AllocError, Global};
 
 fn declaration_text(alloc: Global, variable: &Variable) -> Result<String, AllocError>
     ensures { IfOk result (λ text. string_bytes text ≡ declaration_text variable.now) }
 {
-    let role = role_text(variable.role);
-    let kind = kind_text(variable.kind);
+    let role = role_prefix(variable.role);
+    let kind = kind_prefix(variable.kind);
     let name = variable.name;
     format!(in alloc; "{role}{kind}{name};")
 }

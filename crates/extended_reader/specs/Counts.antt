@@ -10,13 +10,13 @@ use Rattle.extended_drafts.specs.declared.draft.DraftDelay.{DraftDelay}
 use Rattle.extended_drafts.specs.declared.draft.DraftWay.{DraftWay}
 use Rattle.extended_charts.specs.Reading.{elapsed}
 
-abbrev pub own_count : Option DraftCount → List DraftCount
-own_count None = []
-own_count (Some c) = c ∷ []
+abbrev pub listed_count : Option DraftCount → List DraftCount
+listed_count None = []
+listed_count (Some c) = c ∷ []
 
 abbrev pub own_counts : Option DraftDelay → List DraftCount
 own_counts None = []
-own_counts (Some d) = own_count d.count
+own_counts (Some d) = listed_count d.count
 
 -- the counts of transitions of which this is new
 abbrev pub counts_of : List DraftWay → List DraftCount

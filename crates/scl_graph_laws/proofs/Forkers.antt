@@ -5,7 +5,7 @@ use Rattle.scl.specs.Block.{Block, End, Assign, Label, Goto, Pause, If, Fork, Br
 use Rattle.scl.specs.Labels.{before}
 use Rattle.scl.specs.Places.{Place, whole, after_assign, after_label, after_goto, after_pause, in_first, in_second, after_if, after_fork, in_branch, IsBranch}
 use Rattle.scl.specs.Places.{here, later, threads_of}
-use Rattle.scl_graph_laws.proofs.Numbers.{thread_count, threads_among, IsNumbered, AreNumbered, own_count, lower_count, lower_among}
+use Rattle.scl_graph_laws.proofs.Numbers.{thread_count, threads_among, IsNumbered, AreNumbered, own_nodes, lower_nodes, lower_among}
 use Rattle.scl_graph_laws.proofs.Segments.{StandAt, stand_from, stand_first, stand_second}
 
 abbrev mutual
@@ -83,11 +83,11 @@ mutual
       let j : length (a ++ b) ≡ length a + length b = length-append a b in
       let k : length b ≡ thread_count second = forkers_length second in (
         forked_in all first (suc n) th base num.1 (stand_first all th a b (stand_first all th (a ++ b) (forkers rest) at)),
-        forked_in all second (suc n + own_count first) (th + thread_count first) (base + lower_count first) num.2
+        forked_in all second (suc n + own_nodes first) (th + thread_count first) (base + lower_nodes first) num.2
             (stand_from all (th + length a) (th + thread_count first) b (omega (arith, i))
             (stand_second all th a b (stand_first all th (a ++ b) (forkers rest) at))),
-        forked_in all rest (suc n + (own_count first + own_count second)) (th + (thread_count first + thread_count second))
-            (base + (lower_count first + lower_count second)) num.3
+        forked_in all rest (suc n + (own_nodes first + own_nodes second)) (th + (thread_count first + thread_count second))
+            (base + (lower_nodes first + lower_nodes second)) num.3
             (stand_from all (th + length (a ++ b)) (th + (thread_count first + thread_count second)) (forkers rest) (omega (arith, i, j, k))
             (stand_second all th (a ++ b) (forkers rest) at)),
       )
@@ -105,8 +105,8 @@ mutual
   forked_by all n i (Branch u body more) th base num at =
       let k : length (forkers body) ≡ thread_count body = forkers_length body in (
         ap (slice_get all) num.0 ∙ at.0,
-        forked_in all body base (suc th) (base + suc (own_count body)) num.2 (stand_first all (suc th) (forkers body) (forkers_among n (suc i) more) at.1),
-        forked_by all n (suc i) more (th + suc (thread_count body)) (base + suc (own_count body + lower_count body)) num.3
+        forked_in all body base (suc th) (base + suc (own_nodes body)) num.2 (stand_first all (suc th) (forkers body) (forkers_among n (suc i) more) at.1),
+        forked_by all n (suc i) more (th + suc (thread_count body)) (base + suc (own_nodes body + lower_nodes body)) num.3
             (stand_from all (suc th + length (forkers body)) (th + suc (thread_count body)) (forkers_among n (suc i) more) (omega (arith, k))
             (stand_second all (suc th) (forkers body) (forkers_among n (suc i) more) at.1)),
       )

@@ -25,7 +25,7 @@ use Rattle.scl_graph.specs.Loops.{HasNoEmptyLoop}
 use Rattle.scl_graph.specs.Answers.{FitsImage, counts_in}
 use Rattle.scl_graph_laws.specs.Mirrors.{leads, HasFork, Mirrors}
 use Rattle.scl_graph_laws.proofs.Targets.{step_is}
-use Rattle.scl_graph_laws.proofs.Numbers.{RunsOn, own_count, lower_count, row_runs_on}
+use Rattle.scl_graph_laws.proofs.Numbers.{RunsOn, own_nodes, lower_nodes, row_runs_on}
 use Rattle.scl_graph_laws.proofs.Segments.{each_at}
 use Rattle.scl_graph_laws.proofs.Laying.{thread_length, below_length}
 use Rattle.scl_graph_laws.proofs.Spreading.{OfThreads}
@@ -131,10 +131,10 @@ module _ (p : Scl) (kept : KeepsRules p.name p.variables p.body) (no_loop : HasN
   -- ---- the whole
   counts_fit : CountsFit q
   counts_fit =
-      let own : own_count root ≡ made.counts.nodes + 0 = runs_on.own (at_first made) last in
-      let lower : lower_count root ≡ made.counts.lower + 0 = runs_on.lower (at_first made) last in
-      let first : length (of_thread (target root) 0 root) ≡ suc (own_count root) = thread_length (target root) 0 root in
-      let second : length (below (target root) root) ≡ lower_count root = below_length (target root) root in
+      let own : own_nodes root ≡ made.counts.nodes + 0 = runs_on.own (at_first made) last in
+      let lower : lower_nodes root ≡ made.counts.lower + 0 = runs_on.lower (at_first made) last in
+      let first : length (of_thread (target root) 0 root) ≡ suc (own_nodes root) = thread_length (target root) 0 root in
+      let second : length (below (target root) root) ≡ lower_nodes root = below_length (target root) root in
       let both : length q.nodes ≡ length (of_thread (target root) 0 root) + length (below (target root) root) = length-append (of_thread (target root) 0 root)
       (below (target root) root) in
       let threads_are : length q.threads ≡ suc made.counts.threads = mirror.threads in

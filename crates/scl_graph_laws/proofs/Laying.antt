@@ -14,14 +14,14 @@ use Rattle.scl_graph.specs.declared.way.Way.{Way}
 use Rattle.scl_graph.specs.declared.way.Way.TheVariants as goes
 use Rattle.scl_graph.specs.Graph.{way, node, assigns, own, end, of_thread, nodes_below, below, among, forked, forked_among, target}
 use Rattle.scl_graph_laws.specs.Mirrors.{leads, HasNode, HasNodes}
-use Rattle.scl_graph_laws.proofs.Numbers.{own_count, thread_count, threads_among, lower_count, lower_nodes, lower_among, IsNumbered, AreNumbered}
+use Rattle.scl_graph_laws.proofs.Numbers.{own_nodes, thread_count, threads_among, lower_nodes, nodes_counted, lower_among, IsNumbered, AreNumbered}
 use Rattle.scl_graph_laws.proofs.Segments.{StandAt, stand_from, stand_first, stand_second}
 use Rattle.scl_graph_laws.proofs.Ways.{way_leads, body_leads}
 
 -- ---- how many they are
 
 module _ (to : Way → ℕ) where
-  pub own_length : (t : ℕ) (b : Block) (behind : Way) → length (own to t b behind) ≡ own_count b
+  pub own_length : (t : ℕ) (b : Block) (behind : Way) → length (own to t b behind) ≡ own_nodes b
   own_length t (End n) behind = refl
   own_length t (Assign n x e rest) behind = ap suc (own_length t rest behind)
   own_length t (Label name rest) behind = own_length t rest behind
@@ -36,7 +36,7 @@ module _ (to : Way → ℕ) where
       omega (arith, i, j, own_length t first (way rest behind), own_length t second (way rest behind), own_length t rest behind)
   own_length t (Fork n branches rest) behind = ap (λ m. suc (suc m)) (own_length t rest behind)
 
-  pub thread_length : (t : ℕ) (b : Block) → length (of_thread to t b) ≡ suc (own_count b)
+  pub thread_length : (t : ℕ) (b : Block) → length (of_thread to t b) ≡ suc (own_nodes b)
   thread_length t b =
       let i : length (own to t b (goes.At (end b)) ++ node t step.Exit ∷ []) ≡ length (own to t b (goes.At (end b))) + 1 = length-append
       (own to t b (goes.At (end b))) (node t step.Exit ∷ []) in
@@ -45,20 +45,20 @@ module _ (to : Way → ℕ) where
   of_two : (a b : List Node) (m n : ℕ) → length a ≡ m → length b ≡ n → length (a ++ b) ≡ m + n
   of_two a b m n h i = omega (arith, length-append a b, h, i)
 
-  lengths_below : AreRelated (λ nodes n. length nodes ≡ n) (nodes_below to) lower_nodes
+  lengths_below : AreRelated (λ nodes n. length nodes ≡ n) (nodes_below to) nodes_counted
   lengths_below = record {
     nothing = refl;
     together = of_two;
     label = λ name nodes n h. h;
     fork = of_two;
-    branch = λ t body nodes n. of_two (of_thread to t body) nodes (suc (own_count body)) n (thread_length t body);
+    branch = λ t body nodes n. of_two (of_thread to t body) nodes (suc (own_nodes body)) n (thread_length t body);
   }
 
-  pub below_length : (b : Block) → length (below to b) ≡ lower_count b
-  below_length = totals_related (nodes_below to) lower_nodes lengths_below
+  pub below_length : (b : Block) → length (below to b) ≡ lower_nodes b
+  below_length = totals_related (nodes_below to) nodes_counted lengths_below
 
   pub among_length : (branches : Branches) → length (among to branches) ≡ lower_among branches
-  among_length = totals_among_related (nodes_below to) lower_nodes lengths_below
+  among_length = totals_among_related (nodes_below to) nodes_counted lengths_below
 
   of_three_threads : (a b c : List Thread) (l m n : ℕ) → length a ≡ l → length b ≡ m → length c ≡ n → length ((a ++ b) ++ c) ≡ (l + m) + n
   of_three_threads a b c l m n h i j =
@@ -177,16 +177,16 @@ module _ (q : Program) (root : Block) where
               (part_first q.nodes (suc n) a b c own_at.1)
               (part_first q.threads th (forked to t first) (forked to t second) (forked to t rest) threads_at)
               (part_first q.nodes base (below to first) (below to second) (below to rest) below_at),
-          laid_in t second (before rest k) inside (suc n + own_count first) (th + thread_count first) (base + lower_count first) v num.2
-              (part_second q.nodes (suc n) (own_count first) a b c (own_length to t first inside) own_at.1)
+          laid_in t second (before rest k) inside (suc n + own_nodes first) (th + thread_count first) (base + lower_nodes first) v num.2
+              (part_second q.nodes (suc n) (own_nodes first) a b c (own_length to t first inside) own_at.1)
               (part_second q.threads th (thread_count first) (forked to t first) (forked to t second) (forked to t rest) (forked_length to t first) threads_at)
-              (part_second q.nodes base (lower_count first) (below to first) (below to second) (below to rest) (below_length to first) below_at),
-          laid_in t rest k behind (suc n + (own_count first + own_count second)) (th + (thread_count first + thread_count second))
-              (base + (lower_count first + lower_count second)) w num.3
-              (part_third q.nodes (suc n) (own_count first) (own_count second) a b c (own_length to t first inside) (own_length to t second inside) own_at.1)
+              (part_second q.nodes base (lower_nodes first) (below to first) (below to second) (below to rest) (below_length to first) below_at),
+          laid_in t rest k behind (suc n + (own_nodes first + own_nodes second)) (th + (thread_count first + thread_count second))
+              (base + (lower_nodes first + lower_nodes second)) w num.3
+              (part_third q.nodes (suc n) (own_nodes first) (own_nodes second) a b c (own_length to t first inside) (own_length to t second inside) own_at.1)
               (part_third q.threads th (thread_count first) (thread_count second) (forked to t first) (forked to t second) (forked to t rest)
               (forked_length to t first) (forked_length to t second) threads_at)
-              (part_third q.nodes base (lower_count first) (lower_count second) (below to first) (below to second) (below to rest) (below_length to first)
+              (part_third q.nodes base (lower_nodes first) (lower_nodes second) (below to first) (below to second) (below to rest) (below_length to first)
               (below_length to second) below_at),
         )
     laid_in t (Fork m branches rest) k behind n th base w num own_at threads_at below_at = (
@@ -212,19 +212,19 @@ module _ (q : Program) (root : Block) where
         let a : List Node = of_thread to u body in
         let mine : List Node = own to u body (goes.At (end body)) in
         let whole : StandAt q.nodes base a = part_first q.nodes base a (below to body) (among to more) nodes_at in
-        let exit : StandAt q.nodes (base + own_count body) (node u step.Exit ∷ []) = part_after q.nodes base (own_count body) mine (node u step.Exit ∷ [])
+        let exit : StandAt q.nodes (base + own_nodes body) (node u step.Exit ∷ []) = part_after q.nodes base (own_nodes body) mine (node u step.Exit ∷ [])
         (own_length to u body (goes.At (end body))) whole in (
           ap (slice_get q.threads) num.0 ∙ threads_at.0 ∙ ap (λ r. Some (record { parent = Some t; entry = r })) (body_leads root body),
           record { is = ap (slice_get q.nodes) num.1 ∙ exit.0 },
-          laid_in u body (End (end body)) (goes.At (end body)) base (suc th) (base + suc (own_count body)) refl num.2
+          laid_in u body (End (end body)) (goes.At (end body)) base (suc th) (base + suc (own_nodes body)) refl num.2
               (stand_first q.nodes base mine (node u step.Exit ∷ []) whole)
               (stand_first q.threads (suc th) (forked to u body) (forked_among to t more) threads_at.1)
-              (part_second q.nodes base (suc (own_count body)) a (below to body) (among to more) (thread_length to u body) nodes_at),
-          laid_among t more (th + suc (thread_count body)) (base + suc (own_count body + lower_count body)) num.3
+              (part_second q.nodes base (suc (own_nodes body)) a (below to body) (among to more) (thread_length to u body) nodes_at),
+          laid_among t more (th + suc (thread_count body)) (base + suc (own_nodes body + lower_nodes body)) num.3
               (stand_from q.threads (suc th + thread_count body) (th + suc (thread_count body)) (forked_among to t more) (omega arith)
               (part_after q.threads (suc th) (thread_count body) (forked to u body) (forked_among to t more) (forked_length to u body) threads_at.1))
-              (stand_from q.nodes (base + (suc (own_count body) + lower_count body)) (base + suc (own_count body + lower_count body)) (among to more)
+              (stand_from q.nodes (base + (suc (own_nodes body) + lower_nodes body)) (base + suc (own_nodes body + lower_nodes body)) (among to more)
               (omega arith)
-              (part_third q.nodes base (suc (own_count body)) (lower_count body) a (below to body) (among to more) (thread_length to u body)
+              (part_third q.nodes base (suc (own_nodes body)) (lower_nodes body) a (below to body) (among to more) (thread_length to u body)
               (below_length to body) nodes_at)),
         )

@@ -32,7 +32,7 @@ use Rattle.scl_graph_laws.specs.Mirrors.{leads, HasNode, HasNodes, HasFork, Mirr
 use Rattle.scl_graph_laws.proofs.Agreeing.{GoesTo}
 use Rattle.scl_graph_laws.proofs.Targets.{step_is, is_a_join, is_a_depth, goes_to}
 use Rattle.scl_graph_laws.proofs.Members.{contains_head}
-use Rattle.scl_graph_laws.proofs.Numbers.{RunsOn, own_count, row_runs_on}
+use Rattle.scl_graph_laws.proofs.Numbers.{RunsOn, own_nodes, row_runs_on}
 use Rattle.scl_graph_laws.proofs.Segments.{stand_all, each_at}
 use Rattle.scl_graph_laws.proofs.Spreading.{OfNodes}
 use Rattle.scl_graph_laws.proofs.Coming.{ComesFromFork, Comes, nodes_come}
@@ -168,7 +168,7 @@ module _ (p : Scl) (kept : KeepsRules p.name p.variables p.body) (no_loop : HasN
 
   forked_once : (t n : ℕ) (branches : Branches) (rest : Block) → Place root t (Fork n branches rest) → (k u : ℕ) → slice_get (threads_of branches) k ≡ Some u
       → slice_get forks u ≡ Some (n, 0 + k)
-  forked_once t n branches rest place k u there = forker_of forks root (forked_in forks root 0 1 (suc (own_count root)) is_whole.numbers (stand_all forks).1) t
+  forked_once t n branches rest place k u there = forker_of forks root (forked_in forks root 0 1 (suc (own_nodes root)) is_whole.numbers (stand_all forks).1) t
       n branches rest place k u there
 
   children_distinct : (t n : ℕ) (branches : Branches) (rest : Block) → Place root t (Fork n branches rest) → AreDistinct (threads_of branches)

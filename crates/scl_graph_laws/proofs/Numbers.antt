@@ -11,14 +11,14 @@ use Rattle.scl.specs.Sums.{Sum, total, total_among}
 use Rattle.scl_graph.specs.Graph.{end}
 
 -- the nodes of a thread in a part of its text, without its end
-abbrev pub own_count : Block → ℕ
-own_count (End n) = 0
-own_count (Assign n x e rest) = suc (own_count rest)
-own_count (Label name rest) = own_count rest
-own_count (Goto g name rest) = own_count rest
-own_count (Pause n rest) = suc (suc (own_count rest))
-own_count (If n e first second rest) = suc (own_count first + (own_count second + own_count rest))
-own_count (Fork n branches rest) = suc (suc (own_count rest))
+abbrev pub own_nodes : Block → ℕ
+own_nodes (End n) = 0
+own_nodes (Assign n x e rest) = suc (own_nodes rest)
+own_nodes (Label name rest) = own_nodes rest
+own_nodes (Goto g name rest) = own_nodes rest
+own_nodes (Pause n rest) = suc (suc (own_nodes rest))
+own_nodes (If n e first second rest) = suc (own_nodes first + (own_nodes second + own_nodes rest))
+own_nodes (Fork n branches rest) = suc (suc (own_nodes rest))
 
 -- the threads below
 abbrev pub threads_counted : Sum ℕ
@@ -32,14 +32,14 @@ abbrev pub threads_among : Branches → ℕ
 threads_among = total_among threads_counted
 
 -- the nodes of these
-abbrev pub lower_nodes : Sum ℕ
-lower_nodes = record threads_counted { branch = λ t body count. suc (own_count body) + count }
+abbrev pub nodes_counted : Sum ℕ
+nodes_counted = record threads_counted { branch = λ t body count. suc (own_nodes body) + count }
 
-abbrev pub lower_count : Block → ℕ
-lower_count = total lower_nodes
+abbrev pub lower_nodes : Block → ℕ
+lower_nodes = total nodes_counted
 
 abbrev pub lower_among : Branches → ℕ
-lower_among = total_among lower_nodes
+lower_among = total_among nodes_counted
 
 abbrev mutual
   -- the own nodes begin at n, the threads below at t, and the nodes of these at b
@@ -51,17 +51,17 @@ abbrev mutual
   IsNumbered (Pause m rest) n t b = (m ≡ n) × IsNumbered rest (suc (suc n)) t b
   IsNumbered (If m e first second rest) n t b =
       (m ≡ n) × IsNumbered first (suc n) t b
-      × IsNumbered second (suc n + own_count first) (t + thread_count first) (b + lower_count first)
-      × IsNumbered rest (suc n + (own_count first + own_count second)) (t + (thread_count first + thread_count second))
-      (b + (lower_count first + lower_count second))
+      × IsNumbered second (suc n + own_nodes first) (t + thread_count first) (b + lower_nodes first)
+      × IsNumbered rest (suc n + (own_nodes first + own_nodes second)) (t + (thread_count first + thread_count second))
+      (b + (lower_nodes first + lower_nodes second))
   IsNumbered (Fork m branches rest) n t b = (m ≡ n) × AreNumbered branches t b × IsNumbered rest (suc (suc n)) (t + threads_among branches)
       (b + lower_among branches)
 
   pub AreNumbered : Branches → ℕ → ℕ → Type 0
   AreNumbered NoMore t b = Unit {0}
   AreNumbered (Branch u body more) t b =
-      (u ≡ t) × (end body ≡ b + own_count body) × IsNumbered body b (suc t) (b + suc (own_count body))
-      × AreNumbered more (t + suc (thread_count body)) (b + suc (own_count body + lower_count body))
+      (u ≡ t) × (end body ≡ b + own_nodes body) × IsNumbered body b (suc t) (b + suc (own_nodes body))
+      × AreNumbered more (t + suc (thread_count body)) (b + suc (own_nodes body + lower_nodes body))
 
 pub numbered_at : (k : Block) (n t b m u c : ℕ) → n ≡ m → t ≡ u → b ≡ c → IsNumbered k n t b → IsNumbered k m u c
 numbered_at k n t b m u c i j l h = subst (λ n. IsNumbered k n u c) i (subst (λ t. IsNumbered k n t c) j (subst (λ b. IsNumbered k n t b) l h))
@@ -71,9 +71,9 @@ branches_at k t b u c j l h = subst (λ t. AreNumbered k t c) j (subst (λ b. Ar
 
 -- a piece of the text adds what it counts, and numbers run on in it
 pub record RunsOn (p : Piece) : Type 0 where
-  pub own : (at : Numbers) (k : Block) → own_count (p.made at k) ≡ p.counts.nodes + own_count k
+  pub own : (at : Numbers) (k : Block) → own_nodes (p.made at k) ≡ p.counts.nodes + own_nodes k
   pub threads : (at : Numbers) (k : Block) → thread_count (p.made at k) ≡ p.counts.threads + thread_count k
-  pub lower : (at : Numbers) (k : Block) → lower_count (p.made at k) ≡ p.counts.lower + lower_count k
+  pub lower : (at : Numbers) (k : Block) → lower_nodes (p.made at k) ≡ p.counts.lower + lower_nodes k
   pub ends : (at : Numbers) (k : Block) → end (p.made at k) ≡ end k
   pub numbered : (at : Numbers) (k : Block) → IsNumbered k (at.node + p.counts.nodes) (at.thread + p.counts.threads) (at.base + p.counts.lower)
       → IsNumbered (p.made at k) at.node at.thread at.base
@@ -169,20 +169,20 @@ module _ (e : Expr) (a b : List Piece) (first : RunsOn (in_row a)) (second : Run
   if_numbered at k h =
       let f : Block = (in_row a).made (at_first at) (End 0) in
       let s : Block = (in_row b).made (at_second at) (End 0) in
-      let fo : own_count f ≡ (in_row a).counts.nodes + 0 = first.own (at_first at) (End 0) in
+      let fo : own_nodes f ≡ (in_row a).counts.nodes + 0 = first.own (at_first at) (End 0) in
       let ft : thread_count f ≡ (in_row a).counts.threads + 0 = first.threads (at_first at) (End 0) in
-      let fl : lower_count f ≡ (in_row a).counts.lower + 0 = first.lower (at_first at) (End 0) in
-      let so : own_count s ≡ (in_row b).counts.nodes + 0 = second.own (at_second at) (End 0) in
+      let fl : lower_nodes f ≡ (in_row a).counts.lower + 0 = first.lower (at_first at) (End 0) in
+      let so : own_nodes s ≡ (in_row b).counts.nodes + 0 = second.own (at_second at) (End 0) in
       let st : thread_count s ≡ (in_row b).counts.threads + 0 = second.threads (at_second at) (End 0) in
-      let sl : lower_count s ≡ (in_row b).counts.lower + 0 = second.lower (at_second at) (End 0) in (
+      let sl : lower_nodes s ≡ (in_row b).counts.lower + 0 = second.lower (at_second at) (End 0) in (
         refl,
         numbered_at f (1 + at.node) at.thread at.base (suc at.node) at.thread at.base (omega arith) refl refl (inner (in_row a) first (at_first at)),
         numbered_at s (1 + at.node + (in_row a).counts.nodes) (at.thread + (in_row a).counts.threads) (at.base + (in_row a).counts.lower)
-            (suc at.node + own_count f) (at.thread + thread_count f) (at.base + lower_count f) (omega (arith, fo)) (omega (arith, ft)) (omega (arith, fl))
+            (suc at.node + own_nodes f) (at.thread + thread_count f) (at.base + lower_nodes f) (omega (arith, fo)) (omega (arith, ft)) (omega (arith, fl))
             (inner (in_row b) second (at_second at)),
         numbered_at k (at.node + (1 + ((in_row a).counts.nodes + (in_row b).counts.nodes)))
             (at.thread + (0 + ((in_row a).counts.threads + (in_row b).counts.threads))) (at.base + (0 + ((in_row a).counts.lower + (in_row b).counts.lower)))
-            (suc at.node + (own_count f + own_count s)) (at.thread + (thread_count f + thread_count s)) (at.base + (lower_count f + lower_count s))
+            (suc at.node + (own_nodes f + own_nodes s)) (at.thread + (thread_count f + thread_count s)) (at.base + (lower_nodes f + lower_nodes s))
             (omega (arith, fo, so)) (omega (arith, ft, st)) (omega (arith, fl, sl)) h,
       )
 
@@ -200,13 +200,13 @@ AllRows [] = Unit {0}
 AllRows (b ∷ branches) = RunsOn (in_row b) × AllRows branches
 
 -- what a branch counts
-own_of_branch : (b : List Piece) → RunsOn (in_row b) → (n : ℕ) (at : Numbers) → own_count (thread_body (in_row b) n at) ≡ (in_row b).counts.nodes
+own_of_branch : (b : List Piece) → RunsOn (in_row b) → (n : ℕ) (at : Numbers) → own_nodes (thread_body (in_row b) n at) ≡ (in_row b).counts.nodes
 own_of_branch b h n at = let o : _ = h.own (record at { node = n }) (End (n + (in_row b).counts.nodes)) in omega (arith, o)
 
 threads_of_branch : (b : List Piece) → RunsOn (in_row b) → (n : ℕ) (at : Numbers) → thread_count (thread_body (in_row b) n at) ≡ (in_row b).counts.threads
 threads_of_branch b h n at = let o : _ = h.threads (record at { node = n }) (End (n + (in_row b).counts.nodes)) in omega (arith, o)
 
-lower_of_branch : (b : List Piece) → RunsOn (in_row b) → (n : ℕ) (at : Numbers) → lower_count (thread_body (in_row b) n at) ≡ (in_row b).counts.lower
+lower_of_branch : (b : List Piece) → RunsOn (in_row b) → (n : ℕ) (at : Numbers) → lower_nodes (thread_body (in_row b) n at) ≡ (in_row b).counts.lower
 lower_of_branch b h n at = let o : _ = h.lower (record at { node = n }) (End (n + (in_row b).counts.nodes)) in omega (arith, o)
 
 among_threads : (branches : List (List Piece)) → AllRows branches → (at : Numbers) → threads_among (branches_from branches at)
@@ -236,15 +236,15 @@ branches_numbered [] h at = tt
 branches_numbered (b ∷ branches) h at =
     let c : Counts = (in_row b).counts in
     let body : Block = thread_body (in_row b) at.base (inside at c) in
-    let o : own_count body ≡ c.nodes = own_of_branch b h.0 at.base (inside at c) in
+    let o : own_nodes body ≡ c.nodes = own_of_branch b h.0 at.base (inside at c) in
     let t : thread_count body ≡ c.threads = threads_of_branch b h.0 at.base (inside at c) in
-    let l : lower_count body ≡ c.lower = lower_of_branch b h.0 at.base (inside at c) in (
+    let l : lower_nodes body ≡ c.lower = lower_of_branch b h.0 at.base (inside at c) in (
       refl,
       h.0.ends (record (inside at c) { node = at.base }) (End (at.base + c.nodes)) ∙ ap (λ m. at.base + m) (sym o),
-      numbered_at body at.base (suc at.thread) (at.base + suc c.nodes) at.base (suc at.thread) (at.base + suc (own_count body)) refl refl (omega (arith, o))
+      numbered_at body at.base (suc at.thread) (at.base + suc c.nodes) at.base (suc at.thread) (at.base + suc (own_nodes body)) refl refl (omega (arith, o))
           (h.0.numbered (record (inside at c) { node = at.base }) (End (at.base + c.nodes)) tt),
       branches_at (branches_from branches (beyond at (branch_counts c))) (at.thread + suc c.threads) (at.base + (suc c.nodes + c.lower))
-          (at.thread + suc (thread_count body)) (at.base + suc (own_count body + lower_count body)) (omega (arith, t)) (omega (arith, o, l))
+          (at.thread + suc (thread_count body)) (at.base + suc (own_nodes body + lower_nodes body)) (omega (arith, t)) (omega (arith, o, l))
           (branches_numbered branches h.1 (beyond at (branch_counts c))),
     )
 

@@ -14,7 +14,7 @@ use Rattle.scl.specs.Places.{later, threads_of}
 use Rattle.scl_graph.specs.declared.way.Way.{Way}
 use Rattle.scl_graph.specs.declared.way.Way.TheVariants as goes
 use Rattle.scl_graph.specs.Graph.{way, node, assigns, own, end, of_thread, below, among, forked, forked_among}
-use Rattle.scl_graph_laws.proofs.Numbers.{own_count, thread_count, threads_among, lower_count, lower_among, IsNumbered, AreNumbered}
+use Rattle.scl_graph_laws.proofs.Numbers.{own_nodes, thread_count, threads_among, lower_nodes, lower_among, IsNumbered, AreNumbered}
 use Rattle.scl_graph_laws.proofs.Segments.{EachAt, each_from, each_append}
 use Rattle.scl_graph_laws.proofs.Laying.{own_length, thread_length, below_length, among_length, forked_length, forked_among_length}
 use Rattle.scl_graph_laws.proofs.Ways.{before_end}
@@ -84,13 +84,13 @@ module _ (to : Way → ℕ) (root : Block) where
         let inside : Way = way rest behind in (
           at n m (node t (step.Cond (postorder e) (to (way first inside)) (to (way second inside)))) num.0
               (of.test t m e first second (before rest k) (to (way first inside)) (to (way second inside)) place),
-          three P (suc n) (own_count first) (own_count second) (own to t first inside) (own to t second inside) (own to t rest behind)
+          three P (suc n) (own_nodes first) (own_nodes second) (own to t first inside) (own to t second inside) (own to t rest behind)
               (own_length to t first inside) (own_length to t second inside)
               (own_each t first (before rest k) inside (suc n) th base num.1 (in_first t m e first second (before rest k) place))
-              (own_each t second (before rest k) inside (suc n + own_count first) (th + thread_count first) (base + lower_count first) num.2
+              (own_each t second (before rest k) inside (suc n + own_nodes first) (th + thread_count first) (base + lower_nodes first) num.2
               (in_second t m e first second (before rest k) place))
-              (own_each t rest k behind (suc n + (own_count first + own_count second)) (th + (thread_count first + thread_count second))
-              (base + (lower_count first + lower_count second)) num.3 (after_if t m e first second (before rest k) place)),
+              (own_each t rest k behind (suc n + (own_nodes first + own_nodes second)) (th + (thread_count first + thread_count second))
+              (base + (lower_nodes first + lower_nodes second)) num.3 (after_if t m e first second (before rest k) place)),
         )
     own_each t (Fork m branches rest) k behind n th base num place = (
       at n m (node t (step.Fork (threads_of branches) (suc m))) num.0 (of.fork t m branches (before rest k) place),
@@ -102,12 +102,12 @@ module _ (to : Way → ℕ) (root : Block) where
     )
 
     -- a whole thread
-    pub thread_each : (t : ℕ) (body : Block) (n th base : ℕ) → end body ≡ n + own_count body → IsNumbered body n th base → Place root t body
+    pub thread_each : (t : ℕ) (body : Block) (n th base : ℕ) → end body ≡ n + own_nodes body → IsNumbered body n th base → Place root t body
         → EachAt P n (of_thread to t body)
     thread_each t body n th base is num place =
-        two P n (own_count body) (own to t body (goes.At (end body))) (node t step.Exit ∷ []) (own_length to t body (goes.At (end body)))
+        two P n (own_nodes body) (own to t body (goes.At (end body))) (node t step.Exit ∷ []) (own_length to t body (goes.At (end body)))
         (own_each t body (End (end body)) (goes.At (end body)) n th base num (subst (Place root t) (sym (before_end body)) place))
-        (at (n + own_count body) (end body) (node t step.Exit) is (of.exit t (end body) (end_place root t body place)), tt)
+        (at (n + own_nodes body) (end body) (node t step.Exit) is (of.exit t (end body) (end_place root t body place)), tt)
 
     mutual
       pub below_each : (t : ℕ) (b k : Block) (n th base : ℕ) → IsNumbered b n th base → Place root t (before b k) → EachAt P base (below to b)
@@ -117,13 +117,13 @@ module _ (to : Way → ℕ) (root : Block) where
       below_each t (Goto g name rest) k n th base num place = below_each t rest k n th base num (after_goto t g name (before rest k) place)
       below_each t (Pause m rest) k n th base num place = below_each t rest k (suc (suc n)) th base num.1 (after_pause t m (before rest k) place)
       below_each t (If m e first second rest) k n th base num place =
-          three P base (lower_count first) (lower_count second) (below to first) (below to second) (below to rest) (below_length to first)
+          three P base (lower_nodes first) (lower_nodes second) (below to first) (below to second) (below to rest) (below_length to first)
           (below_length to second)
           (below_each t first (before rest k) (suc n) th base num.1 (in_first t m e first second (before rest k) place))
-          (below_each t second (before rest k) (suc n + own_count first) (th + thread_count first) (base + lower_count first) num.2
+          (below_each t second (before rest k) (suc n + own_nodes first) (th + thread_count first) (base + lower_nodes first) num.2
           (in_second t m e first second (before rest k) place))
-          (below_each t rest k (suc n + (own_count first + own_count second)) (th + (thread_count first + thread_count second))
-          (base + (lower_count first + lower_count second)) num.3 (after_if t m e first second (before rest k) place))
+          (below_each t rest k (suc n + (own_nodes first + own_nodes second)) (th + (thread_count first + thread_count second))
+          (base + (lower_nodes first + lower_nodes second)) num.3 (after_if t m e first second (before rest k) place))
       below_each t (Fork m branches rest) k n th base num place =
           two P base (lower_among branches) (among to branches) (below to rest) (among_length to branches)
           (among_each branches th base num.1 (λ u body at. in_branch t m u branches body (before rest k) place at))
@@ -134,12 +134,12 @@ module _ (to : Way → ℕ) (root : Block) where
       among_each NoMore th base num each = tt
       among_each (Branch u body more) th base num each =
           let place : Place root u body = each u body (here u body more) in
-          three P base (suc (own_count body)) (lower_count body) (of_thread to u body) (below to body) (among to more) (thread_length to u body)
+          three P base (suc (own_nodes body)) (lower_nodes body) (of_thread to u body) (below to body) (among to more) (thread_length to u body)
           (below_length to body)
-          (thread_each u body base (suc th) (base + suc (own_count body)) num.1 num.2 place)
-          (below_each u body (End (end body)) base (suc th) (base + suc (own_count body)) num.2 (subst (Place root u) (sym (before_end body)) place))
-          (each_from P (base + suc (own_count body + lower_count body)) (base + (suc (own_count body) + lower_count body)) (among to more) (omega arith)
-          (among_each more (th + suc (thread_count body)) (base + suc (own_count body + lower_count body)) num.3
+          (thread_each u body base (suc th) (base + suc (own_nodes body)) num.1 num.2 place)
+          (below_each u body (End (end body)) base (suc th) (base + suc (own_nodes body)) num.2 (subst (Place root u) (sym (before_end body)) place))
+          (each_from P (base + suc (own_nodes body + lower_nodes body)) (base + (suc (own_nodes body) + lower_nodes body)) (among to more) (omega arith)
+          (among_each more (th + suc (thread_count body)) (base + suc (own_nodes body + lower_nodes body)) num.3
           (λ v b at. each v b (later u body more v b at))))
 
   module _ (Q : ℕ → Thread → Type 0) (of : OfThreads root Q) where
@@ -154,10 +154,10 @@ module _ (to : Way → ℕ) (root : Block) where
           three Q th (thread_count first) (thread_count second) (forked to t first) (forked to t second) (forked to t rest) (forked_length to t first)
           (forked_length to t second)
           (forked_each t first (before rest k) (suc n) th base lt num.1 (in_first t m e first second (before rest k) place))
-          (forked_each t second (before rest k) (suc n + own_count first) (th + thread_count first) (base + lower_count first) (omega (arith, lt)) num.2
+          (forked_each t second (before rest k) (suc n + own_nodes first) (th + thread_count first) (base + lower_nodes first) (omega (arith, lt)) num.2
           (in_second t m e first second (before rest k) place))
-          (forked_each t rest k (suc n + (own_count first + own_count second)) (th + (thread_count first + thread_count second))
-          (base + (lower_count first + lower_count second)) (omega (arith, lt)) num.3 (after_if t m e first second (before rest k) place))
+          (forked_each t rest k (suc n + (own_nodes first + own_nodes second)) (th + (thread_count first + thread_count second))
+          (base + (lower_nodes first + lower_nodes second)) (omega (arith, lt)) num.3 (after_if t m e first second (before rest k) place))
       forked_each t (Fork m branches rest) k n th base lt num place =
           two Q th (threads_among branches) (forked_among to t branches) (forked to t rest) (forked_among_length to t branches)
           (children_each t m branches (before rest k) place branches th base lt num.1 (λ u body at. at))
@@ -174,8 +174,8 @@ module _ (to : Way → ℕ) (root : Block) where
             subst (λ v. Q v (record { parent = Some t; entry = to (way body (goes.At (end body))) })) num.0
                 (of.child t m u all body rest (to (way body (goes.At (end body)))) place at (subst (λ v. t < v) (sym num.0) lt)),
             two Q (suc th) (thread_count body) (forked to u body) (forked_among to t more) (forked_length to u body)
-                (forked_each u body (End (end body)) base (suc th) (base + suc (own_count body)) (subst (λ v. u < suc v) num.0 (omega arith)) num.2 inner)
+                (forked_each u body (End (end body)) base (suc th) (base + suc (own_nodes body)) (subst (λ v. u < suc v) num.0 (omega arith)) num.2 inner)
                 (each_from Q (th + suc (thread_count body)) (suc th + thread_count body) (forked_among to t more) (omega arith)
-                (children_each t m all rest place more (th + suc (thread_count body)) (base + suc (own_count body + lower_count body)) (omega (arith, lt)) num.3
+                (children_each t m all rest place more (th + suc (thread_count body)) (base + suc (own_nodes body + lower_nodes body)) (omega (arith, lt)) num.3
                 (λ v b i. each v b (later u body more v b i)))),
           )

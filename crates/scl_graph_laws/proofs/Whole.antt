@@ -16,7 +16,7 @@ use Rattle.scl_graph.specs.declared.way.Way.TheVariants as goes
 use Rattle.scl_graph.specs.Graph.{node, thread, own, end, of_thread, below, target, program_of}
 use Rattle.scl_graph_laws.specs.Mirrors.{HasNode, HasFirst, ForkPlace, Mirrors}
 use Rattle.scl_graph_laws.proofs.Members.{contains_none, contains_cons}
-use Rattle.scl_graph_laws.proofs.Numbers.{own_count, thread_count, IsNumbered}
+use Rattle.scl_graph_laws.proofs.Numbers.{own_nodes, thread_count, IsNumbered}
 use Rattle.scl_graph_laws.proofs.Segments.{StandAt, stand_first, stand_second, stand_all, EachAt, each_from, each_append, each_at}
 use Rattle.scl_graph_laws.proofs.Laying.{own_length, thread_length, forked_length, HasThread, LaidIn, laid_in}
 use Rattle.scl_graph_laws.proofs.Ways.{before_end, body_leads}
@@ -75,8 +75,8 @@ branch_of (Branch t body more) u h =
 -- the numbers of a whole text: its root is thread 0 and begins at node 0
 pub record IsWhole (p : Numbered) : Type 0 where
   pub threads : p.threads ≡ suc (thread_count p.root)
-  pub end : end p.root ≡ own_count p.root
-  pub numbers : IsNumbered p.root 0 1 (suc (own_count p.root))
+  pub end : end p.root ≡ own_nodes p.root
+  pub numbers : IsNumbered p.root 0 1 (suc (own_nodes p.root))
 
 module _ (p : Numbered) (is_whole : IsWhole p) where
   abbrev q : Program
@@ -94,12 +94,12 @@ module _ (p : Numbered) (is_whole : IsWhole p) where
   root_stands : StandAt q.nodes 0 (of_thread to 0 root)
   root_stands = stand_first q.nodes 0 (of_thread to 0 root) (below to root) nodes_stand
 
-  below_stand : StandAt q.nodes (suc (own_count root)) (below to root)
+  below_stand : StandAt q.nodes (suc (own_nodes root)) (below to root)
   below_stand =
       subst (λ n. StandAt q.nodes n (below to root)) (plus (thread_length to 0 root))
       (stand_second q.nodes 0 (of_thread to 0 root) (below to root) nodes_stand)
     where
-      plus : length (of_thread to 0 root) ≡ suc (own_count root) → 0 + length (of_thread to 0 root) ≡ suc (own_count root)
+      plus : length (of_thread to 0 root) ≡ suc (own_nodes root) → 0 + length (of_thread to 0 root) ≡ suc (own_nodes root)
       plus e = omega (arith, e)
 
   exit : HasNode q (end root) 0 step.Exit
@@ -108,11 +108,11 @@ module _ (p : Numbered) (is_whole : IsWhole p) where
       (own to 0 root (goes.At (end root))) (node 0 step.Exit ∷ []) root_stands in
       record { is = ap (slice_get q.nodes) (plus (own_length to 0 root (goes.At (end root)))) ∙ stands.0 }
     where
-      plus : length (own to 0 root (goes.At (end root))) ≡ own_count root → end root ≡ 0 + length (own to 0 root (goes.At (end root)))
+      plus : length (own to 0 root (goes.At (end root))) ≡ own_nodes root → end root ≡ 0 + length (own to 0 root (goes.At (end root)))
       plus e = omega (arith, e, is_whole.end)
 
   laid : LaidIn q root 0 root (End (end root))
-  laid = laid_in q root 0 root (End (end root)) (goes.At (end root)) 0 1 (suc (own_count root)) refl is_whole.numbers
+  laid = laid_in q root 0 root (End (end root)) (goes.At (end root)) 0 1 (suc (own_nodes root)) refl is_whole.numbers
       (stand_first q.nodes 0 (own to 0 root (goes.At (end root))) (node 0 step.Exit ∷ []) root_stands)
       (stand_all q.threads).1
       below_stand
@@ -125,20 +125,20 @@ module _ (p : Numbered) (is_whole : IsWhole p) where
   pub each_node : (P : ℕ → Node → Type 0) → OfNodes root P → EachAt P 0 q.nodes
   each_node P of =
       each_append P 0 (of_thread to 0 root) (below to root)
-      (thread_each to root P of 0 root 0 1 (suc (own_count root)) (begins is_whole.end) is_whole.numbers whole)
-      (each_from P (suc (own_count root)) (0 + length (of_thread to 0 root)) (below to root) (plus (thread_length to 0 root))
-      (below_each to root P of 0 root (End (end root)) 0 1 (suc (own_count root)) is_whole.numbers (subst (Place root 0) (sym (before_end root)) whole)))
+      (thread_each to root P of 0 root 0 1 (suc (own_nodes root)) (begins is_whole.end) is_whole.numbers whole)
+      (each_from P (suc (own_nodes root)) (0 + length (of_thread to 0 root)) (below to root) (plus (thread_length to 0 root))
+      (below_each to root P of 0 root (End (end root)) 0 1 (suc (own_nodes root)) is_whole.numbers (subst (Place root 0) (sym (before_end root)) whole)))
     where
-      begins : end root ≡ own_count root → end root ≡ 0 + own_count root
+      begins : end root ≡ own_nodes root → end root ≡ 0 + own_nodes root
       begins e = omega (arith, e)
 
-      plus : length (of_thread to 0 root) ≡ suc (own_count root) → suc (own_count root) ≡ 0 + length (of_thread to 0 root)
+      plus : length (of_thread to 0 root) ≡ suc (own_nodes root) → suc (own_nodes root) ≡ 0 + length (of_thread to 0 root)
       plus e = omega (arith, e)
 
   pub each_thread : (Q : ℕ → Thread → Type 0) → OfThreads root Q → Q 0 (thread to None root) → EachAt Q 0 q.threads
   each_thread Q of first = (
     first,
-    forked_each to root Q of 0 root (End (end root)) 0 1 (suc (own_count root)) (omega arith) is_whole.numbers
+    forked_each to root Q of 0 root (End (end root)) 0 1 (suc (own_nodes root)) (omega arith) is_whole.numbers
         (subst (Place root 0) (sym (before_end root)) whole),
   )
 

@@ -59,17 +59,17 @@ statements_text variables [] level = []
 statements_text variables (s ∷ statements) level =
     statement_text variables s level ++ statements_text variables statements level
 
-abbrev pub role_text : Role → List ℕ
-role_text role.Input = codes "input "
-role_text role.Output = codes "output "
-role_text role.Local = codes "local "
+abbrev pub role_prefix : Role → List ℕ
+role_prefix role.Input = codes "input "
+role_prefix role.Output = codes "output "
+role_prefix role.Local = codes "local "
 
-abbrev pub kind_text : Kind → List ℕ
-kind_text kind.Bool = codes "bool "
-kind_text kind.Int = codes "int "
+abbrev pub kind_prefix : Kind → List ℕ
+kind_prefix kind.Bool = codes "bool "
+kind_prefix kind.Int = codes "int "
 
 abbrev pub declaration_text : Variable → List ℕ
-declaration_text v = line (role_text v.role ++ (kind_text v.kind ++ (v.name ++ codes ";"))) 1
+declaration_text v = line (role_prefix v.role ++ (kind_prefix v.kind ++ (v.name ++ codes ";"))) 1
 
 abbrev pub declarations_text : List Variable → List ℕ
 declarations_text [] = []

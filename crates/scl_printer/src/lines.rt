@@ -2,7 +2,7 @@
 
 ghost use Rattle.std.specs.Prelude.{◌≡◌, ◌++◌, codes};
 ghost use Rattle.scl_printer.specs.Expressions.{variable_text, expression_text};
-ghost use Rattle.scl_printer.specs.Layout.{indentation, line, role_text, kind_text, declaration_text};
+ghost use Rattle.scl_printer.specs.Layout.{indentation, line, role_prefix, kind_prefix, declaration_text};
 ghost use Rattle.scl_printer.specs.Inside.Writing.{Writes, page, when, has_any};
 
 use crate::buffered::Buffered;
@@ -124,15 +124,15 @@ pub(crate) fn write_declaration<W: Sink>(buffered: &mut Buffered, sink: &mut W, 
         (page (W.taken sink.new) (W.failures sink.new) buffered.new) (declaration_text variable.now) }
 {
     indent(buffered, sink, 1);
-    buffered.put_text(sink, role_text(variable.role));
-    buffered.put_text(sink, kind_text(variable.kind));
+    buffered.put_text(sink, role_prefix(variable.role));
+    buffered.put_text(sink, kind_prefix(variable.kind));
     buffered.put(sink, variable.name.as_bytes());
     buffered.put_text(sink, ";\n");
 }
 
 /// What a variable is to the outside, and a space behind it.
-pub fn role_text(role: Role) -> &'static str
-    ensures { result.now ≡ role_text role }
+pub fn role_prefix(role: Role) -> &'static str
+    ensures { result.now ≡ role_prefix role }
 {
     match role {
         Role::Input => "input ",
@@ -142,8 +142,8 @@ pub fn role_text(role: Role) -> &'static str
 }
 
 /// What kind of values a variable has, and a space behind it.
-pub fn kind_text(kind: Kind) -> &'static str
-    ensures { result.now ≡ kind_text kind }
+pub fn kind_prefix(kind: Kind) -> &'static str
+    ensures { result.now ≡ kind_prefix kind }
 {
     match kind {
         Kind::Bool => "bool ",

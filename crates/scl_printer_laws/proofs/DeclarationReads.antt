@@ -14,7 +14,7 @@ use Rattle.sc_text.specs.declared.token.Token.{Token}
 use Rattle.sc_text.specs.Classes.{TheWord}
 use Rattle.drafts.specs.Parts.{role_of, kind_of}
 use Rattle.drafts.specs.Resolved.{variables_of}
-use Rattle.scl_printer.specs.Layout.{role_text, kind_text, declaration_text, declarations_text}
+use Rattle.scl_printer.specs.Layout.{role_prefix, kind_prefix, declaration_text, declarations_text}
 use Rattle.scl_drafts.specs.Program.{name, semicolon, declaration}
 use Rattle.scl_drafts.specs.Draft.{declared}
 use Rattle.scl_printer_laws.proofs.Cuts.{Cuts, cuts_both, cuts_nothing, signed_at, worded_at}
@@ -34,12 +34,12 @@ abbrev kind_word : Kind → Word
 kind_word kind_is.Bool = word.Bool
 kind_word kind_is.Int = word.Int
 
-cuts_role : (r : Role) (rest : List ℕ) (at : ℕ) → Cuts (role_text r) rest at (worded_at (role_word r) at ∷ [])
+cuts_role : (r : Role) (rest : List ℕ) (at : ℕ) → Cuts (role_prefix r) rest at (worded_at (role_word r) at ∷ [])
 cuts_role role.Input rest at = cuts_word_space word.Input 105 (codes "nput") refl refl refl rest at
 cuts_role role.Output rest at = cuts_word_space word.Output 111 (codes "utput") refl refl refl rest at
 cuts_role role.Local rest at = cuts_word_space word.Local 108 (codes "ocal") refl refl refl rest at
 
-cuts_kind : (k : Kind) (rest : List ℕ) (at : ℕ) → Cuts (kind_text k) rest at (worded_at (kind_word k) at ∷ [])
+cuts_kind : (k : Kind) (rest : List ℕ) (at : ℕ) → Cuts (kind_prefix k) rest at (worded_at (kind_word k) at ∷ [])
 cuts_kind kind_is.Bool rest at = cuts_word_space word.Bool 98 (codes "ool") refl refl refl rest at
 cuts_kind kind_is.Int rest at = cuts_word_space word.Int 105 (codes "nt") refl refl refl rest at
 
@@ -91,8 +91,8 @@ declarations_read (v ∷ variables) can rest at =
     let more : List ℕ = declarations_text variables in
     let whole : List ℕ = more ++ rest in
     let a : ℕ = begins_at 1 at in
-    let b : ℕ = a + length (role_text v.role) in
-    let c : ℕ = b + length (kind_text v.kind) in
+    let b : ℕ = a + length (role_prefix v.role) in
+    let c : ℕ = b + length (kind_prefix v.kind) in
     let end : ℕ = c + length v.name in
     let r : Token = worded_at (role_word v.role) a in
     let k : Token = worded_at (kind_word v.kind) b in
@@ -100,15 +100,15 @@ declarations_read (v ∷ variables) can rest at =
     let s : Token = signed_at sign.Semicolon end in
     let tokens : List Token = r ∷ (k ∷ (n ∷ s ∷ [])) in
     let behind_kind : List ℕ = v.name ++ codes ";" in
-    let behind_role : List ℕ = kind_text v.kind ++ behind_kind in
+    let behind_role : List ℕ = kind_prefix v.kind ++ behind_kind in
     let later = declarations_read variables can.1 rest (at + length one) in
     record {
       tokens = tokens ++ later.tokens;
       meaning = (r, (k, n)) ∷ later.meaning;
       cut = cuts_both one more rest at tokens later.tokens
-          (cuts_line 1 (role_text v.role ++ behind_role) whole at tokens
-          (cuts_both (role_text v.role) behind_role (10 ∷ whole) a (r ∷ []) (k ∷ (n ∷ s ∷ [])) (cuts_role v.role (behind_role ++ 10 ∷ whole) a)
-          (cuts_both (kind_text v.kind) behind_kind (10 ∷ whole) b (k ∷ []) (n ∷ s ∷ []) (cuts_kind v.kind (behind_kind ++ 10 ∷ whole) b)
+          (cuts_line 1 (role_prefix v.role ++ behind_role) whole at tokens
+          (cuts_both (role_prefix v.role) behind_role (10 ∷ whole) a (r ∷ []) (k ∷ (n ∷ s ∷ [])) (cuts_role v.role (behind_role ++ 10 ∷ whole) a)
+          (cuts_both (kind_prefix v.kind) behind_kind (10 ∷ whole) b (k ∷ []) (n ∷ s ∷ []) (cuts_kind v.kind (behind_kind ++ 10 ∷ whole) b)
           (cuts_both v.name (codes ";") (10 ∷ whole) c (n ∷ []) (s ∷ []) (cuts_name v.name can.0 (codes ";" ++ 10 ∷ whole) refl c)
           (cuts_semicolon whole end)))))
           later.cut;
