@@ -10,7 +10,7 @@ use Rattle.scl.specs.Block.{Block, End, Assign, Label, Goto, Pause, If, Fork}
 use Rattle.scl.specs.Labels.{before}
 use Rattle.scl.specs.Numbering.{Piece, Numbers, piece, piece_of}
 use Rattle.scl_graph.specs.declared.way.Way.{Way}
-use Rattle.scl_graph.specs.Graph.{way, own, node}
+use Rattle.scl_graph.specs.Graph.{way, own, node, end}
 use Rattle.sc_values.specs.Expr.{postorder}
 use Rattle.sc_graph.specs.declared.program.Step.TheVariants as step
 
@@ -22,6 +22,24 @@ way_before (Goto g name rest) k behind = refl
 way_before (Pause n rest) k behind = refl
 way_before (If n e first second rest) k behind = refl
 way_before (Fork n branches rest) k behind = refl
+
+pub before_before : (b k l : Block) → before (before b k) l ≡ before b (before k l)
+before_before (End n) k l = refl
+before_before (Assign n x e rest) k l = ap (Assign n x e) (before_before rest k l)
+before_before (Label name rest) k l = ap (Label name) (before_before rest k l)
+before_before (Goto g name rest) k l = ap (Goto g name) (before_before rest k l)
+before_before (Pause n rest) k l = ap (Pause n) (before_before rest k l)
+before_before (If n e first second rest) k l = ap (If n e first second) (before_before rest k l)
+before_before (Fork n branches rest) k l = ap (Fork n branches) (before_before rest k l)
+
+pub end_before : (b k : Block) → end (before b k) ≡ end k
+end_before (End n) k = refl
+end_before (Assign n x e rest) k = end_before rest k
+end_before (Label name rest) k = end_before rest k
+end_before (Goto g name rest) k = end_before rest k
+end_before (Pause n rest) k = end_before rest k
+end_before (If n e first second rest) k = end_before rest k
+end_before (Fork n branches rest) k = end_before rest k
 
 pub own_before : (target : Way → ℕ) (t : ℕ) (b k : Block) (behind : Way) → own target t (before b k) behind
     ≡ own target t b (way k behind) ++ own target t k behind

@@ -21,18 +21,9 @@ use Rattle.scl_graph.specs.Graph.{way, own, node, end, of_thread, nodes_below, b
 use Rattle.scl_graph.specs.Counting.{counts_of, counts_of_all, sizes}
 use Rattle.scl_graph.specs.Inside.Laying.{HasRoom, IsLaid, after, past, text, way_in, with_goto}
 use Rattle.scl_graph.specs.Inside.Forking.{AreForkedLaid, AreBranchesLaid, HasBranchRoom, HasBranchesRoom, IsThreadLaid, body, inside, past_branch}
-use Rattle.scl_graph.proofs.Before.{made_before, own_before, way_before}
+use Rattle.scl_graph.proofs.Before.{made_before, own_before, way_before, before_before, end_before}
 use Rattle.scl_graph.proofs.Laid.{leads_in}
 use Rattle.scl_graph.proofs.Pieces.{piece_of_assign, piece_of_label, piece_of_goto, piece_of_pause, piece_of_if, piece_of_fork}
-
-before_before : (b k l : Block) → before (before b k) l ≡ before b (before k l)
-before_before (End n) k l = refl
-before_before (Assign n x e rest) k l = ap (Assign n x e) (before_before rest k l)
-before_before (Label name rest) k l = ap (Label name) (before_before rest k l)
-before_before (Goto g name rest) k l = ap (Goto g name) (before_before rest k l)
-before_before (Pause n rest) k l = ap (Pause n) (before_before rest k l)
-before_before (If n e first second rest) k l = ap (If n e first second) (before_before rest k l)
-before_before (Fork n branches rest) k l = ap (Fork n branches) (before_before rest k l)
 
 -- statements stand before what follows them
 pub all_before : (statements : List Statement) (at : numbering.Numbers) (k : Block) → (in_row (map piece_of statements)).made at k
@@ -46,15 +37,6 @@ all_before (s ∷ rest) at k =
     ∙ ap (before first) (all_before rest next k)
     ∙ sym (before_before first (others (End 0)) k)
     ∙ ap (λ b. before b k) (sym (made_before s at (others (End 0))))
-
-pub end_before : (b : Block) (n : ℕ) → end (before b (End n)) ≡ n
-end_before (End m) n = refl
-end_before (Assign m x e rest) n = end_before rest n
-end_before (Label name rest) n = end_before rest n
-end_before (Goto g name rest) n = end_before rest n
-end_before (Pause m rest) n = end_before rest n
-end_before (If m e first second rest) n = end_before rest n
-end_before (Fork m branches rest) n = end_before rest n
 
 below_before : (target : Way → ℕ) (b k : Block) → below target (before b k) ≡ below target b ++ below target k
 below_before target =
@@ -111,7 +93,7 @@ thread_laid target parent t statements at olds news old middle new entered laid 
           entered
           ∙ ap (λ w. olds ++ Entry w ∷ []) (sym (leads_in statements at g last at.node refl))
           ∙ ap (λ w. olds ++ Entry w ∷ []) (sym (way_before (text statements at g) (End n) last))
-          ∙ ap (λ m. olds ++ Entry (way (made g) (leads.At m)) ∷ []) (sym (end_before (text statements at g) n))
+          ∙ ap (λ m. olds ++ Entry (way (made g) (leads.At m)) ∷ []) (sym (end_before (text statements at g) (End n)))
           ∙ ap (λ b. olds ++ Entry (way b (leads.At (end b))) ∷ []) (sym (body_is statements at g));
       nodes = λ g.
           ended
@@ -119,7 +101,7 @@ thread_laid target parent t statements at olds news old middle new entered laid 
           ∙ append_assoc old (own target t (text statements at g) last) exit
           ∙ ap (λ r. old ++ (r ++ exit)) (sym (append-nil (own target t (text statements at g) last)))
           ∙ ap (λ r. old ++ (r ++ exit)) (sym (own_before target t (text statements at g) (End n) last))
-          ∙ ap (λ m. old ++ (own target t (made g) (leads.At m) ++ exit)) (sym (end_before (text statements at g) n))
+          ∙ ap (λ m. old ++ (own target t (made g) (leads.At m) ++ exit)) (sym (end_before (text statements at g) (End n)))
           ∙ ap (λ b. old ++ of_thread target t b) (sym (body_is statements at g));
     }
 

@@ -13,6 +13,7 @@ use Rattle.scl_graph.specs.declared.landing.Landing.{Landing}
 use Rattle.scl_graph.specs.declared.landing.Landing.TheVariants as lands
 use Rattle.scl_graph.specs.Inside.Gathering.{count_among, landing, lower, lower_count, lower_label, own_count, own_label, thread_label}
 use Rattle.scl_graph.proofs.Gathered.{landing_before}
+use Rattle.scl_graph.proofs.Before.{end_before}
 
 -- what stands where this begins, up to the end of its thread
 abbrev pub stands : Block → Landing
@@ -31,15 +32,6 @@ stands_front (Pause n rest) = refl
 stands_front (If n e first second rest) = refl
 stands_front (Fork n branches rest) = refl
 
-end_of_before : (b k : Block) → end (before b k) ≡ end k
-end_of_before (End n) k = refl
-end_of_before (Assign n x e rest) k = end_of_before rest k
-end_of_before (Label name rest) k = end_of_before rest k
-end_of_before (Goto g name rest) k = end_of_before rest k
-end_of_before (Pause n rest) k = end_of_before rest k
-end_of_before (If n e first second rest) k = end_of_before rest k
-end_of_before (Fork n branches rest) k = end_of_before rest k
-
 abbrev block_of : Block → Option Block → Block
 block_of other None = other
 block_of other (Some k) = k
@@ -47,7 +39,7 @@ block_of other (Some k) = k
 pub same_block : (a k : Block) → Some a ≡ Some k → a ≡ k
 same_block a k is = ap (block_of a) is
 
-own_end : (b : Block) (name : List ℕ) (k : Block) → behind_own_label b name ≡ Some k → end k ≡ end b
+pub own_end : (b : Block) (name : List ℕ) (k : Block) → behind_own_label b name ≡ Some k → end k ≡ end b
 own_end (End n) name k is = absurd (none-some k is)
 own_end (Assign n x e rest) name k is = own_end rest name k is
 own_end (Label l rest) name k is = by (own_end rest name k) (bytes_eq l name) is
@@ -62,8 +54,8 @@ own_end (If n e first second rest) name k is = by (own_end rest name k) (behind_
   where
     by : (behind_own_label rest name ≡ Some k → end k ≡ end rest) → (a b : Option Block)
         → or_else (option_map (λ l. before l rest) a) (or_else (option_map (λ l. before l rest) b) (behind_own_label rest name)) ≡ Some k → end k ≡ end rest
-    by others (Some l) b found = ap end (sym (same_block (before l rest) k found)) ∙ end_of_before l rest
-    by others None (Some l) found = ap end (sym (same_block (before l rest) k found)) ∙ end_of_before l rest
+    by others (Some l) b found = ap end (sym (same_block (before l rest) k found)) ∙ end_before l rest
+    by others None (Some l) found = ap end (sym (same_block (before l rest) k found)) ∙ end_before l rest
     by others None None found = others found
 own_end (Fork n branches rest) name k is = own_end rest name k is
 

@@ -18,8 +18,8 @@ use Rattle.scl_graph.specs.Inside.Totals.{after, branches_totals, inside, number
 use Rattle.scl_graph.specs.Inside.Gathering.{AreBranchesGathered, AreForkedGathered, Gathers, IsGathered, IsThreadGathered, Noted}
 use Rattle.scl_graph.specs.Inside.Gathering.{body, branches, count_among, find, label_among, lower, lower_count, lower_counted}
 use Rattle.scl_graph.specs.Inside.Gathering.{lower_label, own_count, own_label, text, thread_label}
-use Rattle.scl_graph.proofs.Before.{made_before}
-use Rattle.scl_graph.proofs.Branching.{all_before, end_before}
+use Rattle.scl_graph.proofs.Before.{made_before, end_before}
+use Rattle.scl_graph.proofs.Branching.{all_before}
 use Rattle.scl_graph.proofs.Pieces.{piece_of_assign, piece_of_label, piece_of_goto, piece_of_pause, piece_of_if, piece_of_fork}
 use Rattle.scl_graph.proofs.Gathered.{or_assoc, or_none, own_label_before, own_count_before, nothing, in_turn, node_within}
 
@@ -121,7 +121,7 @@ thread_gathered statements at a b c le own lower =
     let in_lower : List ℕ → Option Landing = lower_label t in
     let split : (name : List ℕ) → thread_label (body statements at) name ≡ option_or (in_own name) (in_lower name) = λ name.
     ap (λ r. thread_label r name) is
-    ∙ ap (λ n. option_or (own_label whole (lands.Node n) name) (lower_label whole name)) (end_before t e)
+    ∙ ap (λ n. option_or (own_label whole (lands.Node n) name) (lower_label whole name)) (end_before t (End e))
     ∙ ap (λ r. option_or r (lower_label whole name)) (own_label_before t (End e) (lands.Node e) name ∙ or_none (in_own name))
     ∙ ap (option_or (in_own name)) (lower_label_before t (End e) name ∙ or_none (in_lower name)) in
     let own_sum : _ = own_count_before t (End e) in

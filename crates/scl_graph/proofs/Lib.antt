@@ -1,6 +1,6 @@
 mod Pieces
 mod Tallied
-mod Before
+pub mod Before
 mod Laid
 mod Branching
 mod Gathered
@@ -8,7 +8,7 @@ mod GatheredBelow
 mod NumberRooms
 mod Circling
 mod Placed
-mod Fronts
+pub mod Fronts
 mod LeastGoto
 mod Leading
 mod Resolved

@@ -11,6 +11,8 @@ use Rattle.scl.specs.Places.{Place, after_assign, after_label, after_goto, after
 use Rattle.scl.specs.Sums.{Sum, total, total_among}
 use Rattle.scl.proofs.Sums.{AreRelated, totals_related, totals_among_related}
 use Rattle.scl_graph.specs.Graph.{end}
+use Rattle.scl_graph.proofs.Before.{before_before}
+use Rattle.scl_graph.proofs.Fronts.{own_end}
 use Rattle.scl_graph_laws.proofs.Members.{contains_head, contains_tail, contains_none, contains_cons}
 use Rattle.scl_graph_laws.proofs.Ways.{before_end}
 
@@ -199,46 +201,6 @@ pub among_none : (branches : Branches) (name : List ℕ) → ¬ Contains (labels
 among_none branches name without = none_or (Contains (labels_among branches) name) (behind_label_among branches name) (among_stands branches name) without
 
 -- ---- where a thread's own label leads
-
-before_before : (b k r : Block) → before (before b k) r ≡ before b (before k r)
-before_before (End n) k r = refl
-before_before (Assign n x e rest) k r = ap (Assign n x e) (before_before rest k r)
-before_before (Label name rest) k r = ap (Label name) (before_before rest k r)
-before_before (Goto g name rest) k r = ap (Goto g name) (before_before rest k r)
-before_before (Pause n rest) k r = ap (Pause n) (before_before rest k r)
-before_before (If n e first second rest) k r = ap (If n e first second) (before_before rest k r)
-before_before (Fork n branches rest) k r = ap (Fork n branches) (before_before rest k r)
-
-end_before : (b k : Block) → end (before b k) ≡ end k
-end_before (End n) k = refl
-end_before (Assign n x e rest) k = end_before rest k
-end_before (Label name rest) k = end_before rest k
-end_before (Goto g name rest) k = end_before rest k
-end_before (Pause n rest) k = end_before rest k
-end_before (If n e first second rest) k = end_before rest k
-end_before (Fork n branches rest) k = end_before rest k
-
-own_end : (b : Block) (name : List ℕ) (k : Block) → behind_own_label b name ≡ Some k → end k ≡ end b
-own_end (End n) name k h = absurd (none-some k h)
-own_end (Assign n x e rest) name k h = own_end rest name k h
-own_end (Label l rest) name k h = at (bytes_eq l name) h (own_end rest name)
-  where
-    at : (b : Bool) → (if b then Some rest else behind_own_label rest name) ≡ Some k → ((k : Block) → behind_own_label rest name ≡ Some k → end k ≡ end rest)
-        → end k ≡ end rest
-    at true h more = ap end (sym (same_Some rest k h))
-    at false h more = more k h
-own_end (Goto g l rest) name k h = own_end rest name k h
-own_end (Pause n rest) name k h = own_end rest name k h
-own_end (If n e first second rest) name k h =
-    let a : Option Block = option_map (λ k. before k rest) (behind_own_label first name) in
-    let b : Option Block = option_map (λ k. before k rest) (behind_own_label second name) in
-    let c : Option Block = behind_own_label rest name in
-    let from : (o : Option Block) → option_map (λ k. before k rest) o ≡ Some k → end k ≡ end rest = λ o i.
-    let j : (j : Block) × (o ≡ Some j) × (before j rest ≡ k) = before_mapped (λ k. before k rest) o k i in
-    ap end (sym j.2) ∙ end_before j.0 rest in
-    ⊎_elim (from (behind_own_label first name)) (λ i. ⊎_elim (from (behind_own_label second name)) (own_end rest name k) (found_cases b c k i))
-    (found_cases a (or_else b c) k h)
-own_end (Fork n branches rest) name k h = own_end rest name k h
 
 own_place : (root : Block) (t : ℕ) (b r : Block) (name : List ℕ) (k : Block) → Place root t (before b r) → behind_own_label b name ≡ Some k
     → Place root t (before k r)
