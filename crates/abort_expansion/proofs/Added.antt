@@ -48,7 +48,7 @@ flag_if : (variables : List Variable) (x : ℕ) (b : Bool) (name : List ℕ) →
 flag_if variables x true name h = record { name = name; is = located_at variables x (local name) [] h }
 flag_if variables x false name h = tt
 
-declared_size : (b : Bool) (x : ℕ) (name : List ℕ) → length (declared (given b x) name) ≡ one b
+pub declared_size : (b : Bool) (x : ℕ) (name : List ℕ) → length (declared (given b x) name) ≡ one b
 declared_size true x name = refl
 declared_size false x name = refl
 

@@ -32,7 +32,7 @@ use Rattle.abort_expansion.proofs.Splitting.{IsSuperstate, sized, mine, still_so
 use Rattle.abort_expansion.proofs.Prepared.{split_shape, split_keeps, AreLocated}
 use Rattle.abort_expansion.proofs.Staying.{stays_plain, no_flags, no_flag_count, led_all_keep, joins_led}
 
-weak_none : (around : List Flags) → aborts_around around ≡ false → weak_around around ≡ false
+pub weak_none : (around : List Flags) → aborts_around around ≡ false → weak_around around ≡ false
 weak_none [] h = refl
 weak_none (f ∷ around) h =
     let both : ((is_there f.strong || is_there f.weak) ≡ false) × (aborts_around around ≡ false) = or_parts (is_there f.strong || is_there f.weak)
@@ -158,7 +158,7 @@ least_width true c = omega arith
 least_width false true = omega arith
 least_width false false = omega arith
 
-as_many : (regions : List Region) → length (map piece_of_region regions) ≡ length regions
+pub as_many : (regions : List Region) → length (map piece_of_region regions) ≡ length regions
 as_many [] = refl
 as_many (r ∷ regions) = ap suc (as_many regions)
 

@@ -1,18 +1,18 @@
-mod Lists
+pub mod Lists
 mod Expressions
 mod Taken
 mod Leaving
 mod Apart
-mod Added
+pub mod Added
 mod Shapes
 mod Joined
 mod Alone
-mod Inner
+pub mod Inner
 mod Splitting
 mod Prepared
 mod Staying
 mod Within
-mod Assembled
+pub mod Assembled
 mod Regional
 mod Shaped
 mod CoreRulesKept

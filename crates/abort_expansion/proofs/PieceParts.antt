@@ -1,5 +1,5 @@
 -- What regions and states become, by their parts.
-use Rattle.std.proofs.Common.{◌≡◌, ℕ, suc, Bool, true, false, Option, Some, List, [], ◌∷◌, map, length, refl, ap, ◌∙◌}
+use Rattle.std.proofs.Common.{◌≡◌, ℕ, Bool, true, false, Option, Some, List, [], ◌∷◌, map, length, refl, ap, ◌∙◌}
 use Rattle.core_charts.specs.declared.region.Region.{Region}
 use Rattle.core_charts.specs.declared.region.State.{State}
 use Rattle.core_charts.specs.declared.region.Transition.{Transition}
@@ -14,6 +14,7 @@ use Rattle.abort_expansion.specs.Flags.{flags_of, weak_around}
 use Rattle.abort_expansion.specs.Pieces.{RegionPiece, StatePiece}
 use Rattle.abort_expansion.specs.Superstates.{simple, superstate_over}
 use Rattle.abort_expansion.specs.Expansion.{region_piece, state_piece, piece_of_region, piece_of_state, named, inside_region, inside_superstate}
+use Rattle.abort_expansion.proofs.Assembled.{as_many}
 
 pub region_made : (r : Region) (around : List Flags) (counter : Option ℕ) (at : NextNumbers)
     → (piece_of_region r).made around counter at ≡ named (out-Region r).name (inside_region (map piece_of_state (out-Region r).states) around counter at)
@@ -39,10 +40,6 @@ simple_made s around to place begins at none =
     ap (λ p. p.made around to place begins at) (fold_out-State RegionPiece StatePiece region_piece state_piece s)
     ∙ simple_of (out-State s).is_initial (out-State s).is_final (out-State s).name (out-State s).regions (out-State s).transitions around to place begins at
     none
-
-as_many : (regions : List Region) → length (map piece_of_region regions) ≡ length regions
-as_many [] = refl
-as_many (r ∷ regions) = ap suc (as_many regions)
 
 abbrev over : List ℕ → List Region → List Transition → List Flags → RegionPlaces → ℕ → Bool → NextNumbers → StatePieces
 over name regions own around to place begins at =

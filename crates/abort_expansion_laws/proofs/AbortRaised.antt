@@ -17,6 +17,7 @@ use Rattle.chart_machine.specs.Steps.{verdict, access_of, access_of_trigger, ste
 use Rattle.chart_machine.specs.Machine.{machine}
 use Rattle.abort_expansion.specs.Transitions.{put, go, is_raised}
 use Rattle.tick_laws.proofs.Lists.{same_or_not}
+use Rattle.compiled_charts_laws.proofs.Stands.{trigger_writes}
 use Rattle.abort_expansion_laws.specs.Stages.{Entry, Watched, Silent, Correspondence, HasStage, IsSilent}
 use Rattle.abort_expansion_laws.proofs.Supplying.{climbs_step, climbs_fewer, silent_set, silent_test, sets, tests}
 use Rattle.abort_expansion_laws.proofs.Segments.{Segment, segment_on}
@@ -30,7 +31,6 @@ use Rattle.abort_expansion_laws.proofs.Unchanged.{get_same, get_other, stands_sa
 use Rattle.abort_expansion_laws.proofs.StageReached.{Stage, holds_other}
 use Rattle.abort_expansion_laws.proofs.ImageSteps.{pair}
 use Rattle.abort_expansion_laws.proofs.KnownVariables.{trigger_known}
-use Rattle.abort_expansion_laws.proofs.StrongNotTaken.{trigger_plain}
 use Rattle.abort_expansion_laws.proofs.CoreSteps.{takes, writes_last}
 use Rattle.abort_expansion_laws.proofs.AllLeave.{all_leave}
 use Rattle.abort_expansion_laws.proofs.OneLeaves.{Left, Staying}
@@ -197,7 +197,7 @@ module _ (k core : Table) (i : Images) (rows : CoreRows k core i) (tree : IsNest
             record {
               watches = (o, (next.o_there, next.has), refl, next.held);
               staged = next.staged;
-              writes_nothing = trigger_plain t.trigger;
+              writes_nothing = trigger_writes t.trigger;
               no_flags = λ y touches. let lt = trigger_known c.variables t.trigger true next.true_there y touches in omega (lt, related.values, arith);
             },
             tt,

@@ -22,6 +22,7 @@ use Rattle.chart_machine.specs.Machine.{machine}
 use Rattle.abort_expansion.specs.Flags.{aborts_around}
 use Rattle.abort_expansion.specs.Transitions.{is_number, led_by, answers}
 use Rattle.tick_laws.proofs.Lists.{same_or_not, contained, contains_map}
+use Rattle.chart_lowering_laws.proofs.Finished.{each_all}
 use Rattle.abort_expansion_laws.specs.Stages.{Entry, Watched, Silent, Correspondence, IsSilent}
 use Rattle.abort_expansion_laws.proofs.Supplying.{silent_idle, tests}
 use Rattle.abort_expansion_laws.proofs.Segments.{Segment, segment_on}
@@ -34,7 +35,7 @@ use Rattle.abort_expansion_laws.proofs.StageReached.{Stage, holds_other, inside_
 use Rattle.abort_expansion_laws.proofs.ImageSteps.{pair}
 use Rattle.abort_expansion_laws.proofs.KnownVariables.{in_either, present_there}
 use Rattle.abort_expansion_laws.proofs.InsideLeaves.{AloneRows, there_too}
-use Rattle.abort_expansion_laws.proofs.InsideAround.{all_from, inside_around}
+use Rattle.abort_expansion_laws.proofs.InsideAround.{inside_around}
 use Rattle.abort_expansion_laws.proofs.OneLeaves.{Left}
 use Rattle.abort_expansion_laws.proofs.MayLeave.{is_forked, AreOuterOne}
 use Rattle.abort_expansion_laws.proofs.Leaving.{drops, set_here, set_other, drops_in, drops_out, drops_length, joined}
@@ -186,10 +187,10 @@ module _ (k core : Table) (i : Images) (rows : CoreRows k core i) (more : AloneR
         by_gone (inr (out, inr s)) = absurd (not_by_inner q s.0 h s.1 s.3)
 
     all_over : list_all (λ q. has_ended (standing_of aborted.last q)) (state_at core (i.main_of o)).regions ≡ true
-    all_over = all_from (λ q. has_ended (standing_of aborted.last q)) (state_at core (i.main_of o)).regions (λ q h. ap has_ended (direct_ended q h))
+    all_over = each_all (λ q. has_ended (standing_of aborted.last q)) (state_at core (i.main_of o)).regions (λ q h. ap has_ended (direct_ended q h))
 
     all_idle : list_all (λ q. not (has_work core aborted.last (standing_of aborted.last q))) (inside core (i.main_of o)) ≡ true
-    all_idle = all_from (λ q. not (has_work core aborted.last (standing_of aborted.last q))) (inside core (i.main_of o)) idle
+    all_idle = each_all (λ q. not (has_work core aborted.last (standing_of aborted.last q))) (inside core (i.main_of o)) idle
       where
         idle : (q : ℕ) → Contains (inside core (i.main_of o)) q → not (has_work core aborted.last (standing_of aborted.last q)) ≡ true
         idle q h = by_gone (left3.gone q (inside_around core (i.main_of o) q h) (omega arith))

@@ -15,6 +15,7 @@ use Rattle.chart_machine.specs.Turns.{standing_of, has_ended, guards, has_work, 
 use Rattle.chart_machine.specs.Steps.{to, moved, access_of, state_in}
 use Rattle.chart_machine.specs.Machine.{machine}
 use Rattle.tick_laws.proofs.Lists.{same_or_not, contained}
+use Rattle.chart_lowering_laws.proofs.Finished.{each_all}
 use Rattle.abort_expansion_laws.specs.Stages.{Entry, Silent, Correspondence, Climbs}
 use Rattle.abort_expansion_laws.proofs.Supplying.{silent_idle, climbs_step, climbs_fewer}
 use Rattle.abort_expansion_laws.proofs.Segments.{Segment, segment_on}
@@ -23,7 +24,7 @@ use Rattle.chart_machine_laws.proofs.LyingIn.{IsNested, around, holder, none_in,
 use Rattle.abort_expansion_laws.specs.CoreRows.{joins}
 use Rattle.abort_expansion_laws.proofs.Leaving.{drops, set_here, set_other, drops_in, drops_out, drops_length, joined}
 use Rattle.abort_expansion_laws.proofs.Unchanged.{unguarded}
-use Rattle.abort_expansion_laws.proofs.InsideAround.{inside_around, all_from}
+use Rattle.abort_expansion_laws.proofs.InsideAround.{inside_around}
 use Rattle.abort_expansion_laws.proofs.MayLeave.{is_forked, AreOuterOne, LeavesBy, MayLeave, out, over, tries, forks}
 use Rattle.abort_expansion_laws.proofs.OneLeaves as once
 use Rattle.abort_expansion_laws.proofs.NumberedRegions.{past_number}
@@ -161,10 +162,10 @@ module _ (core : Table) (tree : IsNested core) (deeper : (q s : ℕ) → Contain
           by_gone (inr (outside, inr u)) = absurd (by_outer u.0 u.1 u.2)
 
       all_over : list_all (λ r. has_ended (standing_of d r)) (state_at core s).regions ≡ true
-      all_over = all_from (λ r. has_ended (standing_of d r)) (state_at core s).regions (λ r h. ap has_ended (ended r h))
+      all_over = each_all (λ r. has_ended (standing_of d r)) (state_at core s).regions (λ r h. ap has_ended (ended r h))
 
       all_idle : list_all (λ r. not (has_work core d (standing_of d r))) (inside core s) ≡ true
-      all_idle = all_from (λ r. not (has_work core d (standing_of d r))) (inside core s)
+      all_idle = each_all (λ r. not (has_work core d (standing_of d r))) (inside core s)
           (λ r h. ap not (once.gone_idle core tree deeper corr Told told Others home stage f first free d d (suc n) r (gone_in r h)))
 
       none : (t : ℕ) → guards (standing_of d t) ≡ false

@@ -1,5 +1,6 @@
 -- A region comes to where something begins: all that lies in it is reached from there.
 use Rattle.std.proofs.Common.{◌≡◌, ℕ, ◌⊎◌, inl, inr, ⊎_elim, false, List, [], ◌∷◌, Contains, refl, sym, ap, subst, ◌∙◌, arith}
+use Rattle.scl_graph_laws.proofs.Searching.{unlike}
 use Rattle.chart_machine.specs.declared.standing.Standing.{Standing}
 use Rattle.chart_machine.specs.declared.standing.Configuration.{Configuration}
 use Rattle.chart_machine.specs.declared.table.Table.{Table}
@@ -13,7 +14,6 @@ use Rattle.abort_expansion_laws.proofs.StageReached.{any_in}
 use Rattle.abort_expansion_laws.proofs.JustEntered.{EntryRows, JustOpen, Live, Reach, live, Above, reach}
 use Rattle.abort_expansion_laws.proofs.Arrives.{Arrives}
 use Rattle.abort_expansion_laws.proofs.OpenForks.{not_over, fork_of}
-use Rattle.abort_expansion_laws.proofs.Unchanged.{not_both}
 use Rattle.tick_laws.proofs.Lists.{contains_map}
 
 module _ (k core : Table) (i : Images) (more : EntryRows k core i) (holds_there : (s : ℕ) → IsState k s → IsThere k (holder k s))
@@ -54,7 +54,7 @@ module _ (k core : Table) (i : Images) (more : EntryRows k core i) (holds_there 
 
       by_inside : (x : Standing) → standing_of c (holder k u) ≡ x → IsInside k core i u x → JustOpen k core i more next core_next u
       by_inside _ is (guarded tests) =
-          absurd (not_both (is_guarded k c (around k r)) (any_in (λ z. has_to_guard (standing_of c (holder k z))) (around k r) u in_u (ap has_to_guard is))
+          absurd (unlike (is_guarded k c (around k r)) (any_in (λ z. has_to_guard (standing_of c (holder k z))) (around k r) u in_u (ap has_to_guard is))
           arrives.free)
       by_inside _ is (open_inside tests) =
           record {

@@ -1,5 +1,6 @@
 -- A region comes to where something begins: what is asked of the chart alone holds again.
 use Rattle.std.proofs.Common.{◌≡◌, ◌≢◌, ℕ, zero, suc, ◌<◌, ◌⊎◌, inl, inr, ⊎_elim, true, List, [], ◌∷◌, length, Contains, refl, sym, ap, subst, ◌∙◌, arith}
+use Rattle.scl_graph_laws.proofs.Searching.{unlike}
 use Rattle.chart_machine.specs.declared.standing.Standing.{Standing}
 use Rattle.chart_machine.specs.declared.standing.Standing.TheVariants as at
 use Rattle.chart_machine.specs.declared.standing.Configuration.{Configuration}
@@ -23,7 +24,6 @@ use Rattle.abort_expansion_laws.proofs.Arrives.{Arrives}
 use Rattle.abort_expansion_laws.proofs.ArrivedReached.{outer_apart, arrived_lives}
 use Rattle.abort_expansion_laws.proofs.ArrivedWaits.{lies_or_not, outer_out}
 use Rattle.abort_expansion_laws.proofs.InsideAround.{one_in_other}
-use Rattle.abort_expansion_laws.proofs.Unchanged.{not_both}
 
 module _ (k core : Table) (i : Images) (more : EntryRows k core i) (holds_there : (s : ℕ) → IsState k s → IsThere k (holder k s))
     (alone : (v : ℕ) → (state_at core v).regions ≡ [] → inside core v ≡ [])
@@ -166,7 +166,7 @@ module _ (k core : Table) (i : Images) (more : EntryRows k core i) (holds_there 
   -- nobody guards around the region
   pub none_guards : (q u : ℕ) → LiesIn k q r → Contains (around k q) u → ¬ LiesIn k (holder k u) r → has_to_guard (standing_of c (holder k u)) ≡ true → ⊥
   none_guards q u lies_q inner out before =
-      not_both (is_guarded k c (around k r))
+      unlike (is_guarded k c (around k r))
       (any_in (λ z. has_to_guard (standing_of c (holder k z))) (around k r) u (around_region q u lies_q inner out) before) arrives.free
 
   all_calm : (q u : ℕ) → IsThere k q → Contains (around k q) u → has_to_guard (standing_of next (holder k u)) ≡ true → IsCalm (standing_of next q)

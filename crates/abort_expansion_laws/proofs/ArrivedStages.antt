@@ -1,5 +1,6 @@
 -- A region comes to where something begins: which stages may be reached then.
 use Rattle.std.proofs.Common.{◌≡◌, ℕ, ◌≤◌, ◌⊎◌, inl, inr, ⊎_elim, [], Contains, refl, sym, ap, subst, ◌∙◌, arith}
+use Rattle.scl_graph_laws.proofs.Searching.{unlike}
 use Rattle.core_charts.specs.Aborts.{has_aborts}
 use Rattle.chart_machine.specs.declared.standing.Standing.{Standing}
 use Rattle.chart_machine.specs.declared.standing.Standing.TheVariants as at
@@ -19,7 +20,6 @@ use Rattle.abort_expansion_laws.proofs.Arrives.{Arrives}
 use Rattle.abort_expansion_laws.proofs.ArrivedWaits.{lies_or_not, core_same_at, behind_same}
 use Rattle.abort_expansion_laws.proofs.ArrivedSound.{around_region, chart_in}
 use Rattle.abort_expansion_laws.proofs.StagesEntered.{reached_then}
-use Rattle.abort_expansion_laws.proofs.Unchanged.{not_both}
 
 closed_stage : (k : Table) (c : Configuration) (x : Standing) → IsClosed x → 1 ≤ stage_of k c x
 closed_stage k c _ closed_ended = omega arith
@@ -62,7 +62,7 @@ module _ (k core : Table) (i : Images) (more : EntryRows k core i) (holds_there 
   never_busy : (q u : ℕ) → IsThere k q → ¬ LiesIn k q r → IsBusy k core i next core_next q u → ⊥
   never_busy q u there out (starts a) =
       let over : standing_of c q ≡ at.Ended = sym (same q out) ∙ a.over_in_chart in
-      not_both (is_trying (standing_of d (i.thread_of q))) (ap is_trying (sym (core_same q out) ∙ a.counting))
+      unlike (is_trying (standing_of d (i.thread_of q))) (ap is_trying (sym (core_same q out) ∙ a.counting))
       (quiet k core i c q (standing_of c q) (standing_of d (i.thread_of q)) (related.regions q there) over)
   never_busy q u there out (opens its a) =
       let out_u : ¬ LiesIn k (holder k u) r = λ lies. out (subst (λ z. LiesIn k z r) its lies) in

@@ -1,6 +1,7 @@
 -- Where a region stands that was just entered, and where its thread does.
 use Rattle.std.proofs.Common.{◌≡◌, ◌≢◌, ℕ, Bool, true, false, ◌||◌, Some, None, List, [], ◌∷◌, ◌++◌, map, length}
 use Rattle.std.proofs.Common.{refl, sym, ap, subst, ◌∙◌}
+use Rattle.scl_graph_laws.proofs.Searching.{unlike}
 use Rattle.core_charts.specs.declared.region.Transition.{Transition}
 use Rattle.core_charts.specs.Aborts.{has_strong, has_weak, has_aborts}
 use Rattle.core_charts.specs.Tests.{is_strong, is_weak, is_join, at_once, strong_aborts, weak_aborts, terminations, first_closing_tests}
@@ -17,12 +18,12 @@ use Rattle.abort_expansion.specs.Superstates.{simple_transitions, stays, is_prep
 use Rattle.chart_machine_laws.specs.Tree.{around, holder}
 use Rattle.abort_expansion_laws.specs.CoreRows.{own, IsState, ends, is_final, IsSuper, IsSimple}
 use Rattle.abort_expansion_laws.specs.CoreRows.{joins, Images, CoreRows, flags_around, counter_over, SplitImage, simple_row}
-use Rattle.abort_expansion_laws.proofs.TickStarts.{led_kept, kept_none}
+use Rattle.abort_expansion_laws.proofs.TickStarts.{led_kept}
 use Rattle.abort_expansion_laws.proofs.WalkStaying.{has_none}
 use Rattle.abort_expansion_laws.proofs.EnteredAlike.{BeginsAs, begins_there, begins_counting}
 use Rattle.abort_expansion_laws.proofs.StateEntry.{Entry, entry_ends, entry_tries, entry_guards, entry_opens}
 use Rattle.abort_expansion_laws.proofs.FreshInside.{Fresh, Begins, NobodyIn, ElsewhereNobody, begins_closed, begins_open}
-use Rattle.abort_expansion_laws.proofs.Unchanged.{not_both}
+use Rattle.abort_expansion_laws.proofs.JoinsFork.{no_chosen}
 
 -- the tests of a preparation are all made on entry
 once_led_by : (places : RegionPlaces) (ts : List Transition) (last : Transition) → last.immediate ≡ true →
@@ -37,7 +38,7 @@ strong_has all t tests e = by_strong (has_strong all) refl
     by_strong : (b : Bool) → has_strong all ≡ b → (has_strong all || has_weak all) ≡ true
     by_strong true is = rw (is) refl
     by_strong false is =
-        let none : strong_aborts all ≡ [] = kept_none (λ z. is_strong z.kind) all is in
+        let none : strong_aborts all ≡ [] = no_chosen (λ z. is_strong z.kind) all is in
         let wrong : [] ≡ t ∷ tests = sym (ap at_once none) ∙ e in absurd cc
 
 pub apart_with : (flags : List Flags) (all : List Transition) → has_aborts all ≡ true → stays flags all ≡ false
@@ -125,7 +126,7 @@ module _ (k core : Table) (i : Images) (rows : CoreRows k core i) (n m : ℕ) (f
       where
         by_sort : ComesTo k core i q x y → y ≡ i.entry_of x
         by_sort (comes_there is counted) = is
-        by_sort (comes_counting place counter final counted row leads) = absurd (not_both (is_final k x) final open_ends)
+        by_sort (comes_counting place counter final counted row leads) = absurd (unlike (is_final k x) final open_ends)
 
     ends_now : (state_at k x).entered ≡ to q at.Ended ∷ [] → Sort q
     ends_now e = by_sort comes
@@ -209,7 +210,7 @@ module _ (k core : Table) (i : Images) (rows : CoreRows k core i) (n m : ℕ) (f
         by_stay true stay prepared is_prep =
             let image = rows.staying x here super stay in
             let none = has_none (flags_here q) (own k x) stay in
-            let weak : weak_aborts (own k x) ≡ [] = kept_none (λ z. is_weak z.kind) (own k x) none.weak in
+            let weak : weak_aborts (own k x) ≡ [] = no_chosen (λ z. is_weak z.kind) (own k x) none.weak in
             let unprepared : is_prepared (flags_here q) (own k x) ≡ false = rw (none.counted, none.strong, none.weak) refl in
             let closing : first_closing_tests (own k x) ≡ terminations (own k x) = ap (λ ts. at_once ts ++ terminations (own k x)) weak in
             let core_tests : List Transition = terminations (map (led (i.places_of q)) (own k x)) in
@@ -217,7 +218,7 @@ module _ (k core : Table) (i : Images) (rows : CoreRows k core i) (n m : ℕ) (f
             sort_opens x core_tests here super refl unprepared in_chart.0 in_chart.1 in_chart.2 all.0 all.1 all.2
             (λ _. led_kept (λ z. is_join z.kind) (i.places_of q) (λ z. refl) (own k x) ∙
             ap (map (led (i.places_of q))) (sym closing))
-            (λ apart. absurd (not_both (stays (flags_here q) (own k x)) stay apart))
+            (λ apart. absurd (unlike (stays (flags_here q) (own k x)) stay apart))
         by_stay false apart true prepared =
             let image = (split_of super apart).prepared prepared in
             let last : Transition = go true None (resets (i.flags_of x) (length (state_at k x).regions)) image.0 in
@@ -230,7 +231,7 @@ module _ (k core : Table) (i : Images) (rows : CoreRows k core i) (n m : ℕ) (f
             let image = split_of super apart in
             let all = opens_core (joins image.join ∷ []) (is_entry ∙ image.plain plain) (ap (λ z. z.entered) image.row) in
             sort_opens x (joins image.join ∷ []) here super refl plain in_chart.0 in_chart.1 in_chart.2 all.0 all.1 all.2
-            (λ stay. absurd (not_both (stays (flags_here q) (own k x)) stay apart)) (λ _. (image.join, image.joined, refl))
+            (λ stay. absurd (unlike (stays (flags_here q) (own k x)) stay apart)) (λ _. (image.join, image.joined, refl))
 
     pub sort_of : Entry k x → Sort (holder k x)
     sort_of (entry_ends e) = ends_now e

@@ -12,6 +12,7 @@ use Rattle.chart_machine.specs.declared.table.Table.{Table}
 use Rattle.chart_machine.specs.Turns.{standing_of, guards as has_to_guard, is_guarded}
 use Rattle.chart_machine.specs.Steps.{access_of}
 use Rattle.chart_machine.specs.Machine.{machine}
+use Rattle.chart_machine.proofs.Outside.{within_or_past}
 use Rattle.abort_expansion.specs.Transitions.{is_raised, go}
 use Rattle.chart_machine_laws.specs.Tree.{IsNested, IsThere, around, holder}
 use Rattle.tick_laws.proofs.Lists.{same_or_not, contained}
@@ -29,9 +30,6 @@ use Rattle.abort_expansion_laws.proofs.ThreadsAround.{thread_within}
 -- is one number among these
 there_or_not : (x : ℕ) (xs : List ℕ) → Contains xs x ⊎ (Contains xs x → ⊥)
 there_or_not x xs = contained xs x
-
-below_or_not : (n m : ℕ) → (n < m) ⊎ (m ≤ n)
-below_or_not n m = grind arith
 
 module _ (k core : Table) (i : Images) (rows : CoreRows k core i) (tree : IsNested k) (counts : ℕ → Bool) (written_at : ℕ → ℕ)
     (Told : Configuration → Entry → Type 0) (told : (d : Configuration) (t : ℕ) (stage : Option (ℕ × ℕ)) (a : Access) → Told d (Silent t stage a))
@@ -89,7 +87,7 @@ module _ (k core : Table) (i : Images) (rows : CoreRows k core i) (tree : IsNest
               (λ more. let same : q ≡ n = omega (lt, more, arith) in
               subst (λ z. standing_of e (i.thread_of z) ≡ want z) (sym same)
               (here (subst (IsThere k) same there) (subst (λ z. Contains (around k z) o) same inner)))
-              (below_or_not q n);
+              (within_or_past q n);
           waiting = λ q le. done.waiting q (omega (le, arith));
           others = done.others;
         }
@@ -145,7 +143,7 @@ module _ (k core : Table) (i : Images) (rows : CoreRows k core i) (tree : IsNest
             }
           where
             less : (q n : ℕ) → q < suc n → q ≢ n → q < n
-            less q n lt ne = ⊎_elim (λ below. below) (λ above. absurd (ne (omega (lt, above, arith)))) (below_or_not q n)
+            less q n lt ne = ⊎_elim (λ below. below) (λ above. absurd (ne (omega (lt, above, arith)))) (within_or_past q n)
 
     region_passes : (n : ℕ) (e : Configuration) → Done want d n e → n < suc (length k.regions) → Checks e (Done want d (suc n))
     region_passes zero e done lt =

@@ -15,23 +15,20 @@ use Rattle.chart_machine.specs.declared.table.Table.{Table}
 use Rattle.chart_machine.specs.Table.{state_at}
 use Rattle.chart_machine.specs.Turns.{standing_of, has_ended, guards, may_close, has_work, is_guarded, inside, is_enabled}
 use Rattle.chart_machine.specs.Machine.{machine}
+use Rattle.chart_machine.proofs.Outside.{within_or_past}
 use Rattle.abort_expansion.specs.Flags.{has_join}
 use Rattle.abort_expansion.specs.Superstates.{stays}
 use Rattle.chart_machine_laws.proofs.LyingIn.{around, holder, head_in, tail_in}
+use Rattle.chart_lowering_laws.proofs.Joining.{list_any_none}
 use Rattle.abort_expansion_laws.proofs.TablesCorrespond.{IsThere}
 use Rattle.abort_expansion_laws.proofs.InsideLeaves.{true_or_false}
-use Rattle.chart_machine_laws.proofs.ChartTables.{within_or_past, around_there}
+use Rattle.chart_machine_laws.proofs.ChartTables.{around_there}
 use Rattle.abort_expansion_laws.proofs.InsideAround.{inside_around}
 use Rattle.abort_expansion_laws.specs.CoreRows.{own, IsState, IsSuper, Images, CoreRows, StayingImage, SplitImage, watchers, flags_around}
 use Rattle.abort_expansion_laws.specs.Related.{Each, is_behind, Closes}
 use Rattle.abort_expansion_laws.proofs.Owed.{RestsIn, rests_outside, rests_ended, rests_left, rests_trying, rests_staying, rests_within, rests_behind}
 use Rattle.abort_expansion_laws.proofs.Owed.{WatchRests, watch_within, watch_elsewhere, Resting}
 use Rattle.abort_expansion_laws.proofs.NumberedRegions.{past_regions, super_is_state}
-
--- no member has it
-none_has : (p : ℕ → Bool) (xs : List ℕ) → ((x : ℕ) → Contains xs x → p x ≡ false) → list_any p xs ≡ false
-none_has p [] each = refl
-none_has p (x ∷ xs) each = rw (each x (head_in x xs), none_has p xs (λ y tail. each y (tail_in x y xs tail))) refl
 
 none_works : (p : ℕ → Bool) (xs : List ℕ) → ((x : ℕ) → Contains xs x → p x ≡ false) → list_all (λ x. not (p x)) xs ≡ true
 none_works p [] each = refl
@@ -110,7 +107,7 @@ module _ (k core : Table) (i : Images) (rows : CoreRows k core i) (children : (s
   nobody_guards = placed (λ x. guards x ≡ false) refl (λ r there. rests_calm r (standing_of c r) (standing_of d (i.thread_of r)) (rests.regions r there))
 
   free : (zs : List ℕ) → is_guarded k c zs ≡ false
-  free zs = none_has (λ s. guards (standing_of c (holder k s))) zs (λ s h. nobody_guards (holder k s))
+  free zs = list_any_none (λ s. guards (standing_of c (holder k s))) zs (λ s h. nobody_guards (holder k s))
 
   off : (a : Bool) → (a && true) ≡ false → a ≡ false
   off true e = absurd cc

@@ -3,7 +3,6 @@ use Rattle.std.proofs.Common.{◌≡◌, ℕ, suc, ◌<◌, pos, ◌-ℤ◌, tru
 use Rattle.std.specs.Prelude.{nat_eq}
 use Rattle.std.specs.List.{list_any}
 use Rattle.std.specs.Int.{int_wrap, w32}
-use Rattle.std.proofs.lemmas.Bool.Decides.{Decides-eqb}
 use Rattle.std.proofs.lemmas.Int.{int_wrap_fits, fits_signed_from_abs}
 use Rattle.std.proofs.Math.IntN.{ -ℤ_one}
 use Rattle.sc_values.specs.declared.value.Value.{Value}
@@ -20,6 +19,7 @@ use Rattle.sc_values.specs.Expr.{value as value_of}
 use Rattle.sc_values.specs.Access.{Update}
 use Rattle.sc_values.specs.Assignment.{reads, is_variable, is_read, decreased, assignment_of, assignment_of_root, access_of_assignment}
 use Rattle.sc_values.proofs.Loading.{loads-unary}
+use Rattle.scl_graph_laws.proofs.Targets.{same_number}
 use Rattle.abort_expansion.specs.Transitions.{number, count_down}
 use Rattle.abort_expansion_laws.proofs.Supplying.{combines}
 use Rattle.abort_expansion_laws.proofs.MoreValues.{of_flag}
@@ -35,9 +35,6 @@ counted_value x m values few is = of_flag binary.Subtract x (suc m) 1 values is 
 
 minus_reads : reads (roll-Expr (tree.Unary unary.Negate (number 1))) ≡ []
 minus_reads = loads-unary unary.Negate (number 1) ∙ number_reads 1
-
-same_number : (x : ℕ) → nat_eq x x ≡ true
-same_number x = (Decides-eqb x x).1 refl
 
 is_itself : (x : ℕ) → is_variable x (out-Expr (expr.Load x)) ≡ true
 is_itself x = ap (λ e. is_variable x (out-Expr e)) (sym (rolls-Load x)) ∙ (ap (is_variable x) (out-roll-Expr (tree.Load x)) ∙ same_number x)

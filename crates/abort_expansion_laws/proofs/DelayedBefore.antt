@@ -21,6 +21,7 @@ use Rattle.sc_graph.specs.Tick.{Inputs}
 use Rattle.chart_machine.specs.Turns.{standing_of, inside}
 use Rattle.chart_machine.specs.Steps.{to, moved, state_in, dropped, acts, taken, entering_on, guarding_on, step}
 use Rattle.tick_laws.proofs.Lists.{same_or_not}
+use Rattle.chart_lowering_laws.proofs.Entering.{moved_length}
 use Rattle.compiled_charts_laws.proofs.LateTests.{is_late, at_once_prompt}
 use Rattle.abort_expansion_laws.proofs.Unchanged.{get_same, get_other}
 use Rattle.abort_expansion_laws.proofs.ChartSteps.{Makes, takes_trying, takes_entering, takes_guarding, takes_within, tries_on, enters_on, guards_on}
@@ -28,7 +29,6 @@ use Rattle.abort_expansion_laws.proofs.ChartSteps.{waits_on, acts_on, StepMade, 
 use Rattle.abort_expansion_laws.proofs.EnteredMoves.{EnteredBy, each_entered, each_opened}
 use Rattle.abort_expansion_laws.proofs.FirstTick.{first_regions}
 use Rattle.abort_expansion_laws.proofs.FreshInside.{nobody_there}
-use Rattle.abort_expansion_laws.proofs.Leaving.{moved_size}
 
 abbrev IsPrompt : Move → Type 0
 IsPrompt m = is_late m.standing ≡ false
@@ -44,7 +44,7 @@ module _ (k : Table) (enters : (s : ℕ) → EnteredBy IsPrompt (state_at k s)) 
           ⊎_elim (λ lt. absurd (other (sym same) lt))
           (λ past.
           ap (λ o. unwrap_or o at.Outside)
-          (slice_get_past (slice_set zs m.region m.standing) q (let size = moved_size (m ∷ []) zs in omega (size, past, arith))
+          (slice_get_past (slice_set zs m.region m.standing) q (let size = moved_length (m ∷ []) zs in omega (size, past, arith))
           ∙ sym (slice_get_past zs q past))) (cases_lt q (length zs))
 
   one_moved : (m : Move) (zs : List Standing) (q : ℕ) → IsPrompt m →
@@ -101,7 +101,7 @@ module _ (k : Table) (enters : (s : ℕ) → EnteredBy IsPrompt (state_at k s)) 
 
     past_all : length c.regions ≤ q → is_late (standing_of c q) ≡ true
     past_all past =
-        let size = moved_size (to r (at.Trying s tests) ∷ []) c.regions in
+        let size = moved_length (to r (at.Trying s tests) ∷ []) c.regions in
         let none : slice_get (slice_set c.regions r (at.Trying s tests)) q ≡ None =
         slice_get_past (slice_set c.regions r (at.Trying s tests)) q (omega (size, past, arith)) in
         let wrong : true ≡ false = sym now ∙ ap (λ o. is_late (unwrap_or o at.Outside)) none in absurd cc

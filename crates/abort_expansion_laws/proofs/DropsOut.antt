@@ -5,6 +5,7 @@ use Rattle.std.specs.List.{list_all, list_any}
 use Rattle.std.proofs.lemmas.Bool.{cases_lt}
 use Rattle.std.proofs.lemmas.List.{length-set}
 use Rattle.sc_values.specs.declared.value.Value.{Value}
+use Rattle.scl_graph_laws.proofs.Searching.{unlike}
 use Rattle.core_charts.specs.declared.region.Transition.{Transition}
 use Rattle.core_charts.specs.Aborts.{has_aborts}
 use Rattle.chart_machine.specs.declared.standing.Standing.{Standing}
@@ -19,7 +20,7 @@ use Rattle.tick_laws.proofs.Lists.{same_or_not, contained}
 use Rattle.chart_machine_laws.proofs.LyingIn.{IsNested, around, holder, none_in, head_or_tail, head_in, tail_in, around_around}
 use Rattle.abort_expansion_laws.proofs.TablesCorrespond.{IsThere}
 use Rattle.abort_expansion_laws.specs.CoreRows.{own, IsState, Images, CoreRows, WatcherImage}
-use Rattle.abort_expansion_laws.proofs.Unchanged.{none_among, not_both}
+use Rattle.abort_expansion_laws.proofs.Unchanged.{none_among}
 use Rattle.abort_expansion_laws.specs.Related.{IsCalm, calm_outside, front, held_back, is_behind, Stands, outside, ended, left, trying, acting, entering}
 use Rattle.abort_expansion_laws.specs.Related.{Related, guarding, staying, within, behind, Watches, elsewhere, IsInside, guarded, open_inside, Stores}
 use Rattle.abort_expansion_laws.specs.Related.{FlagsAreDown, still_in, not_ended, LooksFirst}
@@ -331,7 +332,7 @@ module _ (k core : Table) (i : Images) (rows : CoreRows k core i) (tree : IsNest
             let around_r : Contains (around k r) s = subst (λ p. Contains (around k p) s) e around_it in
             let kept : standing_of c' (holder k s) ≡ standing_of c (holder k s) =
             same (holder k s) (holds_other k tree r s around_r) (outer_out r s r_out around_r) in
-            not_both (guards (standing_of c (holder k s))) (ap guards (sym kept) ∙ guarded_by)
+            unlike (guards (standing_of c (holder k s))) (ap guards (sym kept) ∙ guarded_by)
             (none_among (λ v. guards (standing_of c (holder k v))) (around k r) s go.free around_r)
 
         inner : In q → IsCalm (standing_of c' q)
@@ -341,7 +342,7 @@ module _ (k core : Table) (i : Images) (rows : CoreRows k core i) (tree : IsNest
         outer ne out_q = ⊎_elim by_r other (same_or_not (holder k s) r)
           where
             by_r : holder k s ≡ r → IsCalm (standing_of c' q)
-            by_r e = absurd (not_both (guards y) (ap guards (sym here) ∙ (ap (λ p. guards (standing_of c' p)) (sym e) ∙ guarded_by)) go.no_guard)
+            by_r e = absurd (unlike (guards y) (ap guards (sym here) ∙ (ap (λ p. guards (standing_of c' p)) (sym e) ∙ guarded_by)) go.no_guard)
 
             other : holder k s ≢ r → IsCalm (standing_of c' q)
             other far_from =
@@ -368,7 +369,7 @@ module _ (k core : Table) (i : Images) (rows : CoreRows k core i) (tree : IsNest
             (tail_in (i.main_of u) (i.main_of o) (around core (i.thread_of (holder k u))) (in_core (holder k u) h)))
 
         not_by : holder k s ≢ r
-        not_by e = not_both (guards y) (ap guards (sym here) ∙ (ap (λ p. guards (standing_of c' p)) (sym e) ∙ guarded_by)) go.no_guard
+        not_by e = unlike (guards y) (ap guards (sym here) ∙ (ap (λ p. guards (standing_of c' p)) (sym e) ∙ guarded_by)) go.no_guard
 
     pub dropped_out : Related k core i c' d'
     dropped_out =

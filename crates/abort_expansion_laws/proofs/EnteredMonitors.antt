@@ -1,6 +1,7 @@
 -- Of what was just entered: monitors, flags, and what is opened later.
 use Rattle.std.proofs.Common.{◌≡◌, ◌≢◌, ℕ, suc, ◌⊎◌, inl, inr, ⊎_elim, true, false, None, List, ◌∷◌, length, Contains}
 use Rattle.std.proofs.Common.{refl, sym, subst, ◌∙◌}
+use Rattle.scl_graph_laws.proofs.Searching.{unlike}
 use Rattle.core_charts.specs.declared.region.Transition.{Transition}
 use Rattle.core_charts.specs.Aborts.{has_aborts}
 use Rattle.core_charts.specs.Tests.{first_closing_tests}
@@ -20,7 +21,6 @@ use Rattle.abort_expansion_laws.proofs.Pending.{IsOpening, IsEmpty, Covered, Fla
 use Rattle.abort_expansion_laws.proofs.FreshInside.{Fresh}
 use Rattle.abort_expansion_laws.proofs.BeginningSorts.{Sort, sort_ends, sort_counts, sort_tries, sort_guards, sort_prepares, sort_opens, prepared_with}
 use Rattle.abort_expansion_laws.proofs.JustEntered.{EntryRows, Reach, live, behind_preparation, nowhere, opening_of}
-use Rattle.abort_expansion_laws.proofs.Unchanged.{not_both}
 use Rattle.abort_expansion_laws.proofs.ThreadsAround.{thread_within}
 
 -- a superstate that is not prepared has no flags
@@ -89,7 +89,7 @@ module _ (k core : Table) (i : Images) (more : EntryRows k core i) (c e : Config
     by_sort (sort_opens x core_tests there super held plain stands fresh others core_stands core_fresh core_others stay_tests split_tests) =
         ⊎_elim
         (λ same.
-        absurd (not_both (is_prepared (flags_around k core i (holder k o)) (own k x))
+        absurd (unlike (is_prepared (flags_around k core i (holder k o)) (own k x))
         (prepared_with (flags_around k core i (holder k o)) (own k x) (subst (λ z. has_aborts (own k z) ≡ true) same has)) plain))
         (λ ne.
         nowhere_near _ stands (λ tests w. absurd cc) (λ tests w. ne (sym (within_same x o _ tests _ refl w)))
@@ -194,6 +194,6 @@ module _ (k core : Table) (i : Images) (more : EntryRows k core i) (c e : Config
       by_open : IsOpen u → Covered k core i c e u
       by_open (to_prepare free fresh empty opened) = (u, opened, inl refl)
       by_open (opened_now free super plain) =
-          absurd (not_both (is_prepared (flags_around k core i (holder k u)) (own k u))
+          absurd (unlike (is_prepared (flags_around k core i (holder k u)) (own k u))
           (prepared_with (flags_around k core i (holder k u)) (own k u) has) plain)
       by_open (covered_by w inner opened empty) = (w, opened, inr inner)

@@ -1,6 +1,7 @@
 -- A superstate that was just entered and is over already: nobody is left inside of it, nor inside of its fork.
 use Rattle.std.proofs.Common.{◌≡◌, ℕ, zero, suc, ◌<◌, ◌⊎◌, inl, inr, ⊎_elim, true, false, Some, List, [], ◌∷◌, length}
 use Rattle.std.proofs.Common.{Contains, refl, sym, ap, subst, ◌∙◌, arith}
+use Rattle.scl_graph_laws.proofs.Searching.{unlike}
 use Rattle.core_charts.specs.declared.region.Transition.{Transition}
 use Rattle.core_charts.specs.Aborts.{has_aborts}
 use Rattle.core_charts.specs.Tests.{at_once, first_closing_tests}
@@ -25,7 +26,6 @@ use Rattle.abort_expansion_laws.proofs.OpenForks.{all_over}
 use Rattle.abort_expansion_laws.proofs.ForkOver.{Gone, CoreGone, fork_over}
 use Rattle.abort_expansion_laws.proofs.InsideAround.{one_in_other}
 use Rattle.abort_expansion_laws.proofs.LooksFirst.{watch_gone}
-use Rattle.abort_expansion_laws.proofs.Unchanged.{not_both}
 use Rattle.abort_expansion_laws.proofs.ThreadsAround.{thread_within}
 
 module _ (k core : Table) (i : Images) (more : EntryRows k core i) (c e : Configuration)
@@ -59,7 +59,7 @@ module _ (k core : Table) (i : Images) (more : EntryRows k core i) (c e : Config
       (w : ℕ) → Contains (around k q) w → IsOpening k core i c e w → IsEmpty k core i c e w → ⊥
   no_preparation q inner before w round opened empty =
       ⊎_elim
-      (λ same. not_both _ (subst (λ z. is_prepared (flags_around k core i (holder k z)) (own k z) ≡ true) same opened.prepared)
+      (λ same. unlike _ (subst (λ z. is_prepared (flags_around k core i (holder k z)) (own k z) ≡ true) same opened.prepared)
       (behind_unprepared k core i c u joining.over))
       (⊎_elim
       (λ deeper.
@@ -106,7 +106,7 @@ module _ (k core : Table) (i : Images) (more : EntryRows k core i) (c e : Config
   by_sort q ss direct over (sort_ends now none core_none uncounted core_over) = core_over
   by_sort q ss direct over (sort_counts first place counter now none core_none counted bare leads waiting) =
       let its : (i.flags_of u).counter ≡ Some counter = sym (ap (counter_over k core i) direct) ∙ counted in
-      absurd (not_both (has_join (own k u)) (counter_joins u counter its) (behind_parts k core i c u joining.over).2)
+      absurd (unlike (has_join (own k u)) (counter_joins u counter its) (behind_parts k core i c u joining.over).2)
   by_sort q ss direct over (sort_tries x simple held stands none core_none core_stands) =
       let wrong : at.Ended ≡ at.Trying x (at_once (own k x)) = sym over ∙ stands in absurd cc
   by_sort q ss direct over (sort_guards x fork t tests here super held prepared stands none core_none leads core_stands) =

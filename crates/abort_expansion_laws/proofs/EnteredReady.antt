@@ -1,5 +1,6 @@
 -- Of what was just entered: who is opened later is fresh and empty, and who is over already has nobody left inside.
 use Rattle.std.proofs.Common.{◌≡◌, ℕ, suc, true, false, Some, None, [], ◌∷◌, length, Contains, sym, ◌∙◌}
+use Rattle.scl_graph_laws.proofs.Searching.{unlike}
 use Rattle.chart_machine.specs.declared.standing.Standing.TheVariants as at
 use Rattle.chart_machine.specs.declared.standing.Configuration.{Configuration}
 use Rattle.chart_machine.specs.declared.table.Table.{Table}
@@ -14,7 +15,6 @@ use Rattle.abort_expansion_laws.proofs.Pending.{IsOpening, IsEmpty, IsFresh, IsJ
 use Rattle.abort_expansion_laws.proofs.JustEntered.{EntryRows, Reach}
 use Rattle.abort_expansion_laws.proofs.EnteredMonitors.{IsOpen, to_prepare, opened_now, covered_by, entered_open}
 use Rattle.abort_expansion_laws.proofs.EnteredOver.{entered_over}
-use Rattle.abort_expansion_laws.proofs.Unchanged.{not_both}
 use Rattle.abort_expansion_laws.proofs.ThreadsAround.{thread_within}
 
 module _ (k core : Table) (i : Images) (more : EntryRows k core i) (c e : Configuration) where
@@ -24,7 +24,7 @@ module _ (k core : Table) (i : Images) (more : EntryRows k core i) (c e : Config
     where
       by_open : IsOpen k core i more c e u → IsFresh k core i c u × (IsEmpty k core i c e u × (is_guarded k c (around k (holder k u)) ≡ false))
       by_open (to_prepare free young empty opening) = ((λ zs size none q in_u. young zs (size ∙ chart_size) none q in_u), (empty, free))
-      by_open (opened_now free super plain) = absurd (not_both (is_prepared (flags_around k core i (holder k u)) (own k u)) a.prepared plain)
+      by_open (opened_now free super plain) = absurd (unlike (is_prepared (flags_around k core i (holder k u)) (own k u)) a.prepared plain)
       by_open (covered_by w round opening empty) =
           let wrong : at.Trying (i.entry_of u) (go true None (resets (i.flags_of u) (length (state_at k u).regions)) a.fork ∷ []) ≡ at.Outside =
           sym a.preparing ∙ empty (i.thread_of (holder k u)) (thread_within k core i more.rows (holder k u) w round) in
@@ -39,7 +39,7 @@ module _ (k core : Table) (i : Images) (more : EntryRows k core i) (c e : Config
 
       by_open : IsOpen k core i more c e u → Over k core i c e u
       by_open (to_prepare free young empty opening) =
-          absurd (not_both (is_prepared (flags_around k core i (holder k u)) (own k u)) opening.prepared plain)
+          absurd (unlike (is_prepared (flags_around k core i (holder k u)) (own k u)) opening.prepared plain)
       by_open (opened_now free super unprepared) = entered_over k core i more c e counter_joins u a free inside
       by_open (covered_by w round opening empty) =
           let wrong : at.Within (i.main_of u) (joins a.join ∷ []) ≡ at.Outside =

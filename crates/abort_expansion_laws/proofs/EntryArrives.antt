@@ -14,10 +14,11 @@ use Rattle.chart_machine.specs.Steps.{to, moved}
 use Rattle.abort_expansion.specs.Transitions.{go}
 use Rattle.abort_expansion.specs.Superstates.{resets}
 use Rattle.chart_machine_laws.specs.Tree.{IsThere, around, holder}
+use Rattle.chart_lowering_laws.proofs.Entering.{moved_length}
 use Rattle.abort_expansion_laws.specs.CoreRows.{own, IsState, Images, flags_around}
 use Rattle.abort_expansion_laws.specs.Related.{Related, IsInside}
 use Rattle.abort_expansion_laws.specs.StageReached.{stage_of}
-use Rattle.abort_expansion_laws.proofs.Leaving.{set_here, set_other, moved_size}
+use Rattle.abort_expansion_laws.proofs.Leaving.{set_here, set_other}
 use Rattle.abort_expansion_laws.proofs.TableEnds.{prepared_apart}
 use Rattle.abort_expansion_laws.proofs.KnownVariables.{present_there}
 use Rattle.abort_expansion_laws.proofs.FreshInside.{Fresh, NobodyIn, ElsewhereNobody, moved_alike, one_state}
@@ -126,7 +127,7 @@ module _ (k core : Table) (i : Images) (more : EntryRows k core i) (c d : Config
         low = subst (λ z. stage_of k c z ≤ 1) (sym stands) (omega arith);
         free = free;
         none = nobody;
-        chart_regions = moved_size (to q opened ∷ (state_at k s).opened) c.regions ∙ related.chart_regions;
+        chart_regions = moved_length (to q opened ∷ (state_at k s).opened) c.regions ∙ related.chart_regions;
         core_regions = length-set d.regions g resetting ∙ related.core_regions;
         chart_values = refl;
         core_values = refl;

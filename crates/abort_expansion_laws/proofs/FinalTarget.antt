@@ -1,6 +1,7 @@
 -- A transition enters a final state: its region ends, and so does its thread; nobody else moves, and the chart is still sound.
 use Rattle.std.proofs.Common.{◌≡◌, ◌≢◌, ℕ, suc, ⊎_elim, true, false, List, [], ◌∷◌, length, slice_set, refl, sym, ap, subst, ◌∙◌, arith}
 use Rattle.sc_values.specs.declared.value.Value.{Value}
+use Rattle.scl_graph_laws.proofs.Searching.{unlike}
 use Rattle.core_charts.specs.declared.region.Effect.{Effect}
 use Rattle.core_charts.specs.declared.region.Transition.{Transition}
 use Rattle.core_charts.specs.Tests.{at_once, first_closing_tests}
@@ -14,9 +15,10 @@ use Rattle.chart_machine.specs.Turns.{standing_of, has_ended, guards as has_to_g
 use Rattle.chart_machine.specs.Steps.{to, moved, state_in}
 use Rattle.tick_laws.proofs.Lists.{same_or_not}
 use Rattle.chart_machine_laws.specs.Tree.{IsThere, holder}
+use Rattle.chart_lowering_laws.proofs.Entering.{moved_length}
 use Rattle.abort_expansion_laws.specs.CoreRows.{own, is_final, Images, ends}
 use Rattle.abort_expansion_laws.specs.Related.{Related, IsInside, guarded, open_inside, IsCalm, calm_ended}
-use Rattle.abort_expansion_laws.proofs.Unchanged.{stands_same, stands_other, not_both}
+use Rattle.abort_expansion_laws.proofs.Unchanged.{stands_same, stands_other}
 use Rattle.abort_expansion_laws.proofs.KnownVariables.{present_there}
 use Rattle.abort_expansion_laws.proofs.EffectFollowed.{IsActing, acting_back}
 use Rattle.abort_expansion_laws.proofs.Owed.{chart_enters, core_enters}
@@ -24,7 +26,6 @@ use Rattle.abort_expansion_laws.proofs.StateEntry.{Entry, entry_ends, entry_trie
 use Rattle.abort_expansion_laws.proofs.InitialPairs.{held_there}
 use Rattle.abort_expansion_laws.proofs.JustEntered.{EntryRows}
 use Rattle.abort_expansion_laws.proofs.Pending.{Sound}
-use Rattle.abort_expansion_laws.proofs.Leaving.{moved_size}
 
 -- moves that begin with one that does not end do not end the region
 goes_first : (m : Move) (ms : List Move) → has_ended m.standing ≡ false → ends (m ∷ ms) ≡ false
@@ -65,11 +66,11 @@ module _ (k core : Table) (i : Images) (more : EntryRows k core i) (c d : Config
       by_entry : Entry k x → (state_at k x).entered ≡ to (holder k x) at.Ended ∷ []
       by_entry (entry_ends w) = w
       by_entry (entry_tries none w) =
-          absurd (not_both (is_final k x) final (ap ends w ∙ goes_first (to (holder k x) (at.Trying x (at_once (own k x)))) [] refl))
+          absurd (unlike (is_final k x) final (ap ends w ∙ goes_first (to (holder k x) (at.Trying x (at_once (own k x)))) [] refl))
       by_entry (entry_guards t tests some strong w) =
-          absurd (not_both (is_final k x) final (ap ends w ∙ goes_first (to (holder k x) (at.Entering x (t ∷ tests))) [] refl))
+          absurd (unlike (is_final k x) final (ap ends w ∙ goes_first (to (holder k x) (at.Entering x (t ∷ tests))) [] refl))
       by_entry (entry_opens some strong w) =
-          absurd (not_both (is_final k x) final
+          absurd (unlike (is_final k x) final
           (ap ends w ∙ goes_first (to (holder k x) (at.Within x (first_closing_tests (own k x)))) (state_at k x).opened refl))
 
   chart_is : next.regions ≡ slice_set c.regions r at.Ended
@@ -94,7 +95,7 @@ module _ (k core : Table) (i : Images) (more : EntryRows k core i) (c d : Config
   thread_elsewhere q ne = core_elsewhere (i.thread_of q) (λ w. ne (more.rows.region_once q r w))
 
   pub core_size : length core_next.regions ≡ suc (length core.regions)
-  core_size = moved_size (state_at core (i.entry_of x)).entered d.regions ∙ related.core_regions
+  core_size = moved_length (state_at core (i.entry_of x)).entered d.regions ∙ related.core_regions
 
   -- ---- it is within nothing, before and after
 
@@ -150,7 +151,7 @@ module _ (k core : Table) (i : Images) (more : EntryRows k core i) (c d : Config
   pub final_sound : Sound k core i next
   final_sound =
       record {
-        chart_regions = moved_size (state_at k x).entered c.regions ∙ related.chart_regions;
+        chart_regions = moved_length (state_at k x).entered c.regions ∙ related.chart_regions;
         values = related.values;
         no_chart = elsewhere 0 (λ w. let lt = there.0 in absurd (omega (lt, w, arith))) ∙ related.no_chart;
         enclosed = λ q u q_there present inner. still_inside u (related.enclosed q u q_there (was_present q present) inner);

@@ -2,6 +2,7 @@
 use Rattle.std.proofs.Common.{◌≡◌, ◌≢◌, ℕ, ◌≤◌, ◌⊎◌, inl, ⊎_elim, Bool, true, false, List, [], ◌∷◌, Contains, refl, sym, ap}
 use Rattle.std.proofs.Common.{subst, ◌∙◌, arith, if◌then◌else◌}
 use Rattle.sc_values.specs.declared.value.Value.{Value}
+use Rattle.scl_graph_laws.proofs.Searching.{unlike}
 use Rattle.core_charts.specs.declared.region.Effect.{Effect}
 use Rattle.chart_machine.specs.declared.standing.Standing.TheVariants as at
 use Rattle.chart_machine.specs.declared.standing.Configuration.{Configuration}
@@ -28,7 +29,6 @@ use Rattle.abort_expansion_laws.proofs.FinalTargetValues as values_now
 use Rattle.abort_expansion_laws.proofs.FinalTargetWaits.{watcher_apart, final_waits, final_watched}
 use Rattle.abort_expansion_laws.proofs.FinalTargetOver.{child, final_over}
 use Rattle.abort_expansion_laws.proofs.LooksFirst.{still_looks}
-use Rattle.abort_expansion_laws.proofs.Unchanged.{not_both}
 
 module _ (k core : Table) (i : Images) (more : EntryRows k core i) (holds_there : (s : ℕ) → IsState k s → IsThere k (holder k s))
     (counts : ℕ → Bool) (written_at : ℕ → ℕ) (counters : CounterRows k core i more.rows counts written_at)
@@ -146,7 +146,7 @@ module _ (k core : Table) (i : Images) (more : EntryRows k core i) (holds_there 
 
   not_starting : (q u : ℕ) → IsThere k q → IsStarting k core i next core_next q u → ⊥
   not_starting q u there a =
-      not_both (is_trying (standing_of core_next (i.thread_of q))) (ap is_trying a.counting)
+      unlike (is_trying (standing_of core_next (i.thread_of q))) (ap is_trying a.counting)
       (⊎_elim (λ its. ap (λ z. is_trying (standing_of core_next (i.thread_of z))) its ∙ ap is_trying core_here)
       (λ ne.
       ap is_trying (thread_same q ne) ∙

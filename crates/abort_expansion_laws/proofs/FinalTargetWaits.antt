@@ -1,6 +1,7 @@
 -- A transition enters a final state: all waits as before, but for the superstate around its region, whose fork may be to be joined now.
 use Rattle.std.proofs.Common.{◌≡◌, ◌≢◌, ℕ, ◌⊎◌, inl, inr, ⊎_elim, Bool, true, false, List, [], ◌∷◌, ◌++◌, map, Contains, refl, sym, ap, subst, ◌∙◌, arith}
 use Rattle.sc_values.specs.declared.value.Value.{Value}
+use Rattle.scl_graph_laws.proofs.Searching.{unlike}
 use Rattle.core_charts.specs.declared.region.Effect.{Effect}
 use Rattle.core_charts.specs.Aborts.{has_aborts}
 use Rattle.chart_machine.specs.declared.standing.Standing.{Standing}
@@ -25,7 +26,6 @@ use Rattle.abort_expansion_laws.proofs.JustEntered.{EntryRows}
 use Rattle.abort_expansion_laws.proofs.OpenForks.{not_over, fork_of}
 use Rattle.abort_expansion_laws.proofs.Pending.{IsJoining, Waits, settled, joining, ending, behind_parts}
 use Rattle.abort_expansion_laws.proofs.FinalTarget as target
-use Rattle.abort_expansion_laws.proofs.Unchanged.{not_both}
 
 module _ (k core : Table) (i : Images) (more : EntryRows k core i) (holds_there : (s : ℕ) → IsState k s → IsThere k (holder k s))
     (c d : Configuration) (related : Related k core i c d) (r s p : ℕ) (e : Effect)
@@ -92,7 +92,7 @@ module _ (k core : Table) (i : Images) (more : EntryRows k core i) (holds_there 
 
       by_inside : (x : Standing) → standing_of c (holder k u) ≡ x → IsInside k core i u x → IsJoining k core i next core_next u
       by_inside _ is (guarded tests) =
-          absurd (not_both (is_guarded k c (around k r))
+          absurd (unlike (is_guarded k c (around k r))
           (any_in (λ z. has_to_guard (standing_of c (holder k z))) (around k r) u in_u (ap has_to_guard is)) free)
       by_inside _ is (open_inside tests) =
           let its = more.super_around r u in_u in

@@ -16,9 +16,10 @@ use Rattle.chart_machine.specs.Machine.{initial, start, is_outside, regions_at_s
 use Rattle.tick_laws.proofs.Lists.{contained, contains_map, map_contains}
 use Rattle.chart_machine_laws.specs.Tree.{IsThere, around, holder}
 use Rattle.chart_machine_laws.proofs.LyingIn.{none_in, head_in, head_or_tail}
+use Rattle.chart_lowering_laws.proofs.Entering.{moved_length}
 use Rattle.abort_expansion_laws.specs.CoreRows.{IsState, Images}
 use Rattle.abort_expansion_laws.specs.Related.{IsInside, open_inside}
-use Rattle.abort_expansion_laws.proofs.Leaving.{at_number, moved_size}
+use Rattle.abort_expansion_laws.proofs.Leaving.{at_number}
 use Rattle.abort_expansion_laws.proofs.StartingRegions.{Once}
 use Rattle.abort_expansion_laws.proofs.WokenConfigurations.{started_size}
 use Rattle.abort_expansion_laws.proofs.EnteredAlike.{AreEntered}
@@ -45,7 +46,7 @@ module _ (k : Table) (inputs : Inputs) where
   c = start k inputs (initial k)
 
   pub first_size : length c.regions ≡ suc (length k.regions)
-  first_size = ap length (first_regions k inputs) ∙ (moved_size k.opened (nobody k) ∙ nobody_size k)
+  first_size = ap length (first_regions k inputs) ∙ (moved_length k.opened (nobody k) ∙ nobody_size k)
 
   pub values_size : length c.variables ≡ length k.variables
   values_size = started_size inputs k.variables (initial k).variables (length-map k.variables (λ x. initial_value x.kind))

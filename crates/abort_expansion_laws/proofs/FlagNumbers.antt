@@ -1,8 +1,8 @@
 -- Numbers of regions and of flags: which of them differ.
-use Rattle.std.proofs.Common.{◌≡◌, ◌≢◌, ℕ, ◌+◌, ◌<◌, ◌≤◌, inl, inr, ⊎_elim, Bool, true, false, Option, Some, None, List, []}
+use Rattle.std.proofs.Common.{◌≡◌, ℕ, ◌+◌, ◌<◌, ◌≤◌, inl, inr, ⊎_elim, Bool, true, false, Option, Some, None, List, []}
 use Rattle.std.proofs.Common.{◌∷◌, map, Contains, refl, sym, ap, subst, ◌∙◌, arith}
 use Rattle.std.specs.Prelude.{nat_eq}
-use Rattle.std.proofs.lemmas.Bool.Decides.{Decides-eqb}
+use Rattle.scl_graph_laws.proofs.Targets.{same_number}
 use Rattle.core_charts.specs.declared.region.Region.{Region}
 use Rattle.core_charts.specs.declared.region.Region.TheFolds.{fold_out-Region}
 use Rattle.core_charts.specs.declared.region.Transition.{Transition}
@@ -11,6 +11,7 @@ use Rattle.chart_machine_laws.proofs.LyingIn.{none_in, head_in, head_or_tail}
 use Rattle.abort_expansion.specs.declared.flags.Flags.{Flags}
 use Rattle.abort_expansion.specs.Flags.{counts, given, one, flags_of}
 use Rattle.core_charts.specs.Aborts.{has_strong, has_weak}
+use Rattle.chart_lowering_laws.proofs.NumberTests.{nat_differ}
 use Rattle.abort_expansion_laws.proofs.Resets.{Apart}
 use Rattle.abort_expansion_laws.proofs.StartingRegions.{Once}
 
@@ -19,16 +20,6 @@ use Rattle.abort_expansion_laws.proofs.StartingRegions.{Once}
 pub no_one : (xs : List ℕ) → ((x : ℕ) → ¬ Contains xs x) → xs ≡ []
 no_one [] none = refl
 no_one (x ∷ xs) none = absurd (none x (head_in x xs))
-
-pub same_number : (n : ℕ) → nat_eq n n ≡ true
-same_number n = (Decides-eqb n n).1 refl
-
-pub other_number : (n m : ℕ) → n ≢ m → nat_eq n m ≡ false
-other_number n m ne = by_case (nat_eq n m) refl
-  where
-    by_case : (b : Bool) → nat_eq n m ≡ b → nat_eq n m ≡ false
-    by_case true e = absurd (ne ((Decides-eqb n m).0 e))
-    by_case false e = e
 
 -- the regions of a superstate have different numbers
 pub some_regions : (r : Region) → 0 < (table_of_region r).regions
@@ -91,4 +82,4 @@ is_it_self o x e = ap (λ z. is_it z x) e ∙ same_number x
 
 pub is_it_other : (a b : Option ℕ) (x : ℕ) → Apart a b → a ≡ Some x → is_it b x ≡ false
 is_it_other a None x apart e = refl
-is_it_other a (Some y) x apart e = other_number y x (λ same. (subst (λ z. Apart z (Some y)) e apart) (sym same))
+is_it_other a (Some y) x apart e = nat_differ y x (λ same. (subst (λ z. Apart z (Some y)) e apart) (sym same))

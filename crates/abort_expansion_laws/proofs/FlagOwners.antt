@@ -8,9 +8,10 @@ use Rattle.sc_graph.specs.declared.program.Variable.{Variable}
 use Rattle.core_charts.specs.declared.region.Transition.{Transition}
 use Rattle.scl_graph_laws.proofs.Segments.{StandAt, stand_from, stand_first, stand_second}
 use Rattle.abort_expansion.specs.declared.flags.Flags.{Flags}
-use Rattle.abort_expansion.specs.Flags.{counts, one, given, flag_count, flags_of, local, declared, declarations, is_there, weak_around}
+use Rattle.abort_expansion.specs.Flags.{counts, one, given, flag_count, flags_of, local, declared, declarations, is_there}
 use Rattle.core_charts.specs.Aborts.{has_strong, has_weak}
 use Rattle.abort_expansion.specs.Flags.{strong_flag_name, weak_flag_name, counter_name}
+use Rattle.abort_expansion.proofs.Added.{declared_size}
 use Rattle.abort_expansion_laws.proofs.Walked.{ValuesAt, values_from, values_first, values_second, Range, range_none, range_more, IsFlag}
 
 -- a superstate for each of its flags
@@ -24,10 +25,6 @@ flag_owners f s = own_one f.strong s ++ own_one f.weak s ++ own_one f.counter s
 own_long : (a : Bool) (x s : ℕ) → length (own_one (given a x) s) ≡ one a
 own_long true x s = refl
 own_long false x s = refl
-
-declared_long : (a : Bool) (x : ℕ) (name : List ℕ) → length (declared (given a x) name) ≡ one a
-declared_long true x name = refl
-declared_long false x name = refl
 
 pub owners_long : (weak : Bool) (all : List Transition) (x s : ℕ) → length (flag_owners (flags_of weak all x) s) ≡ flag_count weak all
 owners_long weak all x s =
@@ -48,9 +45,9 @@ declarations_long weak all x s =
       arith,
       length-append (declared f.strong (strong_flag_name s) ++ declared f.weak (weak_flag_name s)) (declared f.counter (counter_name s)),
       length-append (declared f.strong (strong_flag_name s)) (declared f.weak (weak_flag_name s)),
-      declared_long (has_strong all) x (strong_flag_name s),
-      declared_long (has_weak all) (x + one (has_strong all)) (weak_flag_name s),
-      declared_long (counts weak all) (x + one (has_strong all) + one (has_weak all)) (counter_name s),
+      declared_size (has_strong all) x (strong_flag_name s),
+      declared_size (has_weak all) (x + one (has_strong all)) (weak_flag_name s),
+      declared_size (counts weak all) (x + one (has_strong all) + one (has_weak all)) (counter_name s),
     )
 
 -- ---- where they stand
@@ -95,7 +92,7 @@ module _ (weak : Bool) (all : List Transition) (x s : ℕ) where
   flags_declared vs n h y (inr (inl e)) =
       one_declared vs (has_weak all) (x + one (has_strong all)) y (weak_flag_name n)
       (stand_from vs (x + length (declared f.strong (strong_flag_name n))) (x + one (has_strong all)) (declared f.weak (weak_flag_name n))
-      (omega (arith, declared_long (has_strong all) x (strong_flag_name n)))
+      (omega (arith, declared_size (has_strong all) x (strong_flag_name n)))
       (stand_second vs x (declared f.strong (strong_flag_name n)) (declared f.weak (weak_flag_name n))
       (stand_first vs x (declared f.strong (strong_flag_name n) ++ declared f.weak (weak_flag_name n)) (declared f.counter (counter_name n)) h))) e
   flags_declared vs n h y (inr (inr e)) =
@@ -105,8 +102,8 @@ module _ (weak : Bool) (all : List Transition) (x s : ℕ) where
       (omega (
         arith,
         length-append (declared f.strong (strong_flag_name n)) (declared f.weak (weak_flag_name n)),
-        declared_long (has_strong all) x (strong_flag_name n),
-        declared_long (has_weak all) (x + one (has_strong all)) (weak_flag_name n),
+        declared_size (has_strong all) x (strong_flag_name n),
+        declared_size (has_weak all) (x + one (has_strong all)) (weak_flag_name n),
       ))
       (stand_second vs x (declared f.strong (strong_flag_name n) ++ declared f.weak (weak_flag_name n)) (declared f.counter (counter_name n)) h)) e
 
@@ -151,9 +148,3 @@ any_append P (y ∷ xs) x = ap (λ b. P y || b) (any_append P xs x) ∙ or_assoc
 given_there : (b : Bool) (x : ℕ) → is_there (given b x) ≡ b
 given_there true x = refl
 given_there false x = refl
-
-pub weak_inside : (around : List Flags) (weak : Bool) (all : List Transition) (x : ℕ) →
-    weak_around (around ++ flags_of weak all x ∷ []) ≡ (weak_around around || has_weak all)
-weak_inside around weak all x =
-    any_append (λ f. is_there f.weak) around (flags_of weak all x) ∙
-    ap (λ b. weak_around around || b) (given_there (has_weak all) (x + one (has_strong all)))

@@ -18,7 +18,7 @@ use Rattle.abort_expansion_laws.proofs.Resets.{Apart}
 use Rattle.abort_expansion_laws.proofs.RowsOfCharts as whole
 use Rattle.abort_expansion_laws.proofs.StageReached.{holds_other, any_in}
 use Rattle.abort_expansion_laws.proofs.StartingRegions.{CounterRows}
-use Rattle.abort_expansion_laws.proofs.WeakSeen.{any_none}
+use Rattle.abort_expansion_laws.proofs.Unchanged.{none_are}
 
 pub it_is : (o : Option ℕ) (x : ℕ) → is_it o x ≡ true → o ≡ Some x
 it_is None x e = absurd cc
@@ -87,7 +87,7 @@ module _ (c : Chart) (rules : IsChart features.Extended c) (core_rules : IsChart
     not_early : (s x : ℕ) → ((i.flags_of s).strong ≡ Some x) ⊎ (((i.flags_of s).weak ≡ Some x) ⊎ ((i.flags_of s).counter ≡ Some x)) →
         (Contains early s → (i.flags_of s).weak ≢ Some x) → is_early x ≡ false
     not_early s x is never =
-        any_none (λ u. is_it (i.flags_of u).weak x) early
+        none_are (λ u. is_it (i.flags_of u).weak x) early
         (λ u h e.
         let weak : (i.flags_of u).weak ≡ Some x = it_is (i.flags_of u).weak x e in
         let same : u ≡ s =

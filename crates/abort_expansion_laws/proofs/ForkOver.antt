@@ -1,6 +1,7 @@
 -- A superstate that can only be left from outside, with nobody left inside: nobody is left inside of its fork either.
 use Rattle.std.proofs.Common.{◌≡◌, ℕ, ◌⊎◌, inl, inr, ⊎_elim, Bool, true, false, List, [], ◌∷◌, ◌++◌, map, Contains, sym, ap, subst, ◌∙◌, if◌then◌else◌}
 use Rattle.std.proofs.lemmas.List.{append-nil}
+use Rattle.scl_graph_laws.proofs.Searching.{unlike}
 use Rattle.core_charts.specs.Aborts.{has_aborts}
 use Rattle.chart_machine.specs.declared.standing.Standing.TheVariants as at
 use Rattle.chart_machine.specs.declared.standing.Configuration.{Configuration}
@@ -14,7 +15,6 @@ use Rattle.abort_expansion_laws.specs.CoreRows.{own, IsState, Images}
 use Rattle.abort_expansion_laws.proofs.InsideAround.{inside_around}
 use Rattle.abort_expansion_laws.proofs.JustEntered.{EntryRows}
 use Rattle.abort_expansion_laws.proofs.Pending.{IsJoining, Over, behind_parts}
-use Rattle.abort_expansion_laws.proofs.Unchanged.{not_both}
 use Rattle.abort_expansion_laws.proofs.ThreadsAround.{region_within}
 use Rattle.tick_laws.proofs.Lists.{contains_map}
 
@@ -66,7 +66,7 @@ module _ (k core : Table) (i : Images) (more : EntryRows k core i) (c e : Config
           by_origin (inr s) =
               ⊎_elim
               (λ same.
-              absurd (not_both (has_aborts (own k u)) (subst (λ z. has_aborts (own k z) ≡ true) (more.rows.main_once s.0 u same) s.2) no_aborts))
+              absurd (unlike (has_aborts (own k u)) (subst (λ z. has_aborts (own k z) ≡ true) (more.rows.main_once s.0 u same) s.2) no_aborts))
               (λ tail. inr (ap (standing_of e) s.3 ∙ watcher_gone s.0 s.1 s.2 (region_in (holder k s.0) tail)))
               (head_or_tail (i.main_of s.0) (i.main_of u) (around core (i.thread_of (holder k s.0)))
               (subst (λ zs. Contains zs (i.main_of u)) (ap (around core) s.3 ∙ (more.rows.watcher s.0 s.1 s.2).encloses) inner))

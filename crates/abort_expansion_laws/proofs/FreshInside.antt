@@ -16,8 +16,9 @@ use Rattle.chart_machine.specs.Steps.{to, moved}
 use Rattle.tick_laws.proofs.Lists.{same_or_not}
 use Rattle.chart_machine_laws.specs.Tree.{IsTree, around, holder}
 use Rattle.chart_machine_laws.proofs.LyingIn.{none_in, head_in, tail_in, head_or_tail, around_around}
+use Rattle.chart_lowering_laws.proofs.Entering.{moved_length}
 use Rattle.abort_expansion_laws.specs.CoreRows.{own, IsState}
-use Rattle.abort_expansion_laws.proofs.Leaving.{at_number, set_here, set_other, moved_append, moved_size}
+use Rattle.abort_expansion_laws.proofs.Leaving.{at_number, set_here, set_other, moved_append}
 use Rattle.abort_expansion_laws.proofs.StartingRegions.{Once}
 use Rattle.abort_expansion_laws.proofs.StateEntry.{Entry, entry_ends, entry_tries, entry_guards, entry_opens}
 use Rattle.abort_expansion_laws.proofs.InsideAround.{one_in_other}
@@ -251,7 +252,7 @@ module _ (k : Table) (tree : IsTree k) (entries : (x : ℕ) → IsState k x → 
       let apart : (q : ℕ) → LiesIn k q (holder k x) → at_number (moved (state_at k y).entered zs) q ≡ at_number zs q =
       λ q lies. entered_apart y q zs (are y (head_in y xs)).0
       (λ in_y. later.0 (in_one q (holder k y) (holder k x) (level y (head_in y xs)) in_y lies)) in
-      let size : length (moved (state_at k y).entered zs) ≡ length zs = moved_size (state_at k y).entered zs in
+      let size : length (moved (state_at k y).entered zs) ≡ length zs = moved_length (state_at k y).entered zs in
       begins_alike k (length zs) (λ q. at_number (moved (all_entered k xs) (moved (state_at k y).entered zs)) q)
       (λ q. at_number (moved (all_entered k (y ∷ xs)) zs) q) x
       (λ q lies. ap (λ ys. at_number ys q) (moved_append (state_at k y).entered (all_entered k xs) zs))

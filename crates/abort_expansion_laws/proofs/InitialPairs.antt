@@ -12,11 +12,12 @@ use Rattle.chart_machine.specs.declared.standing.Move.{Move}
 use Rattle.chart_machine.specs.declared.table.Table.{Table}
 use Rattle.chart_machine.specs.Table.{state_at, region_at}
 use Rattle.chart_machine.specs.Steps.{to, moved}
+use Rattle.chart_machine.proofs.Outside.{within_or_past}
 use Rattle.abort_expansion.specs.Superstates.{monitor_transitions}
 use Rattle.tick_laws.proofs.Lists.{contains_get, contains_map, map_contains}
 use Rattle.chart_machine_laws.specs.Tree.{IsTree, IsThere, around, holder}
 use Rattle.chart_machine_laws.proofs.LyingIn.{none_in, head_in, tail_in, head_or_tail}
-use Rattle.chart_machine_laws.proofs.ChartTables.{around_there, within_or_past}
+use Rattle.chart_machine_laws.proofs.ChartTables.{around_there}
 use Rattle.abort_expansion_laws.specs.CoreRows.{own, IsState, IsSuper, Images, CoreRows, flags_around, WatcherImage}
 use Rattle.abort_expansion_laws.proofs.TableEnds.{no_holder_past}
 use Rattle.abort_expansion_laws.proofs.KnownVariables.{in_either}

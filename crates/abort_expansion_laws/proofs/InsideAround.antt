@@ -1,14 +1,14 @@
 -- What lies inside of a state has it around it; of two superstates around a region one lies in the other; what holds of each holds of all.
-use Rattle.std.proofs.Common.{◌≡◌, ℕ, ◌⊎◌, inl, inr, ⊎_elim, Bool, true, false, ◌||◌, nat_eq, List, []}
+use Rattle.std.proofs.Common.{◌≡◌, ℕ, ◌⊎◌, inl, inr, ⊎_elim, Bool, true, false, nat_eq, List, []}
 use Rattle.std.proofs.Common.{◌∷◌, Contains, refl, sym, subst, ◌∙◌, if◌then◌else◌}
 use Rattle.std.specs.Prelude.{filter}
-use Rattle.std.specs.List.{list_all, list_any}
-use Rattle.std.proofs.lemmas.Bool.Decides.{Decides-eqb}
+use Rattle.std.specs.List.{list_any}
 use Rattle.chart_machine.specs.declared.table.Table.{Table}
 use Rattle.chart_machine.specs.Table.{region_at}
 use Rattle.chart_machine.specs.Turns.{inside, numbered_from}
-use Rattle.chart_machine_laws.proofs.LyingIn.{around, holder, none_in, head_or_tail, head_in, tail_in}
+use Rattle.chart_machine_laws.proofs.LyingIn.{around, holder, none_in, head_or_tail}
 use Rattle.chart_machine_laws.proofs.LyingIn.{IsNested}
+use Rattle.chart_lowering_laws.proofs.Matching.{any_contains}
 
 -- ---- who is inside has the superstate around it
 kept_head : (b : Bool) (x : ℕ) (xs : List ℕ) (P : ℕ → Type 0) → (b ≡ true → P x) → ((y : ℕ) → Contains xs y → P y) → (y : ℕ) →
@@ -20,23 +20,8 @@ filtered : (p : ℕ → Bool) (xs : List ℕ) (y : ℕ) → Contains (filter p x
 filtered p [] y h = absurd (none_in y h)
 filtered p (x ∷ xs) y h = kept_head (p x) x (filter p xs) (λ z. p z ≡ true) (λ e. e) (λ z tail. filtered p xs z tail) y h
 
-either : (b c : Bool) → (b || c) ≡ true → (b ≡ true) ⊎ (c ≡ true)
-either true c e = inl refl
-either false c e = inr e
-
-any_at : (s : ℕ) (zs : List ℕ) → list_any (nat_eq s) zs ≡ true → Contains zs s
-any_at s [] e = absurd cc
-any_at s (z ∷ zs) e =
-    ⊎_elim (λ head. let same : s ≡ z = (Decides-eqb s z).0 head in subst (λ w. Contains (w ∷ zs) s) same (head_in s zs))
-    (λ tail. tail_in z s zs (any_at s zs tail))
-    (either (nat_eq s z) (list_any (nat_eq s) zs) e)
-
 pub inside_around : (k : Table) (s r : ℕ) → Contains (inside k s) r → Contains (around k r) s
-inside_around k s r h = any_at s (around k r) (filtered (λ q. list_any (nat_eq s) (region_at k q).around) (numbered_from 1 k.regions) r h)
-
-pub all_from : (p : ℕ → Bool) (xs : List ℕ) → ((y : ℕ) → Contains xs y → p y ≡ true) → list_all p xs ≡ true
-all_from p [] h = refl
-all_from p (x ∷ xs) h = rw (h x (head_in x xs), all_from p xs (λ y tail. h y (tail_in x y xs tail))) refl
+inside_around k s r h = any_contains s (around k r) (filtered (λ q. list_any (nat_eq s) (region_at k q).around) (numbered_from 1 k.regions) r h)
 
 -- of two superstates around a region, one lies in the other
 module _ (k : Table) (tree : IsNested k) where

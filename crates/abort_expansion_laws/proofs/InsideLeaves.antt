@@ -11,15 +11,17 @@ use Rattle.chart_machine.specs.declared.table.Table.{Table}
 use Rattle.chart_machine.specs.Table.{state_at}
 use Rattle.chart_machine.specs.Turns.{standing_of, inside}
 use Rattle.chart_machine.specs.Steps.{to, state_in}
+use Rattle.chart_machine.proofs.Outside.{within_or_past}
 use Rattle.abort_expansion.specs.declared.flags.Flags.{Flags}
 use Rattle.abort_expansion.specs.Flags.{aborts_around, is_there}
 use Rattle.abort_expansion.specs.Transitions.{check, strong_checks}
 use Rattle.abort_expansion.specs.Superstates.{stays}
+use Rattle.compiled_charts_laws.proofs.Stands.{heads}
 use Rattle.abort_expansion_laws.specs.Stages.{Correspondence}
 use Rattle.chart_machine_laws.proofs.LyingIn.{IsNested, around, holder, none_in, head_or_tail}
 use Rattle.abort_expansion_laws.proofs.StageReached.{holds_other}
 use Rattle.abort_expansion_laws.proofs.TablesCorrespond.{IsThere}
-use Rattle.chart_machine_laws.proofs.ChartTables.{within_or_past, nothing_around}
+use Rattle.chart_machine_laws.proofs.ChartTables.{nothing_around}
 use Rattle.abort_expansion_laws.proofs.KnownVariables.{present_there, in_either}
 use Rattle.abort_expansion_laws.specs.CoreRows.{own, IsState, IsSimple, IsSuper, joins, Images, CoreRows, SplitImage, flags_around, watchers}
 use Rattle.abort_expansion_laws.specs.CoreRows.{behind_transitions}
@@ -74,9 +76,6 @@ module _ (k core : Table) (i : Images) (c : Configuration) where
   there_too r _ _ (behind s tests super held over_it) present open_around e = absurd cc
 
 -- ---- each thread inside, whatever it sees
-
-heads : (a b : ℕ) (xs ys : List ℕ) → a ∷ xs ≡ b ∷ ys → a ≡ b
-heads a b xs ys e = cc
 
 -- the monitor of a superstate that is guarded, or open, is there
 monitor_there : (k core : Table) (i : Images) (o : ℕ) (x y : Standing) → Watches k core i o x y → IsInside k core i o x → y ≢ at.Outside

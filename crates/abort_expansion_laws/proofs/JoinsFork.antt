@@ -25,6 +25,7 @@ use Rattle.abort_expansion.specs.Flags.{has_join}
 use Rattle.abort_expansion.specs.Transitions.{check, strong_checks, answers}
 use Rattle.abort_expansion.specs.Superstates.{stays}
 use Rattle.tick_laws.proofs.Lists.{same_or_not, contained}
+use Rattle.chart_lowering_laws.proofs.Finished.{each_all}
 use Rattle.abort_expansion_laws.specs.Stages.{Entry, Silent, Correspondence}
 use Rattle.chart_machine_laws.proofs.LyingIn.{IsNested, around, holder, head_in, tail_in}
 use Rattle.abort_expansion_laws.proofs.TablesCorrespond.{IsThere}
@@ -34,7 +35,6 @@ use Rattle.abort_expansion_laws.specs.Related.{held_back, IsInside, guarded, ope
 use Rattle.abort_expansion_laws.proofs.Segments.{Segment}
 use Rattle.abort_expansion_laws.proofs.Supplying.{climbs_step, silent_idle}
 use Rattle.abort_expansion_laws.proofs.Leaving.{drops, at_number, set_here, set_other, drops_in, drops_out, drops_length, joined}
-use Rattle.abort_expansion_laws.proofs.InsideAround.{all_from}
 use Rattle.abort_expansion_laws.proofs.StageReached.{stage_of, holds_other, one_at_least}
 use Rattle.abort_expansion_laws.proofs.ImageSteps.{pair}
 use Rattle.abort_expansion_laws.proofs.Pending.{Sound, IsJoining, Over, Covered, Flagged, Pending, joins_then, Reached, behind_parts}
@@ -143,8 +143,8 @@ module _ (k core : Table) (i : Images) (rows : CoreRows k core i) (tree : IsNest
   steps : step core g d ≡ Some after_join
   steps =
       joined core d g (i.main_of s) o.join (at.Trying (i.behind_of s) checks) (unguarded core d (all_calm k core i rows c r d p) (around core g)) stands
-      (all_from (λ t. has_ended (standing_of d t)) (state_at core (i.main_of s)).regions (λ t h. ap has_ended (over_it.ended_there t h)))
-      (all_from (λ t. not (has_work core d (standing_of d t))) (inside core (i.main_of s)) (λ t h. ap not (no_work t (over_it.over_inside t h)))) enters
+      (each_all (λ t. has_ended (standing_of d t)) (state_at core (i.main_of s)).regions (λ t h. ap has_ended (over_it.ended_there t h)))
+      (each_all (λ t. not (has_work core d (standing_of d t))) (inside core (i.main_of s)) (λ t h. ap not (no_work t (over_it.over_inside t h)))) enters
 
   in_after : g < length (moved (drops (inside core (i.main_of s))) d.regions)
   in_after = let lt = in_core in let size = drops_length (inside core (i.main_of s)) d.regions in omega (lt, size, arith)

@@ -31,10 +31,11 @@ use Rattle.sc_values.specs.Assignment.{assignment_of, access_of_assignment}
 use Rattle.sc_graph.specs.Steps.{takes_kind}
 use Rattle.sc_graph.specs.declared.program.Variable.{Variable}
 use Rattle.abort_expansion.specs.Transitions.{counting, place_of, count_down}
+use Rattle.abort_expansion.proofs.Lists.{at_front}
 use Rattle.chart_machine.specs.Steps.{effected}
 use Rattle.std.proofs.lemmas.Option.{slice_get_within}
 use Rattle.abort_expansion_laws.proofs.TestFails.{watch_other}
-use Rattle.abort_expansion_laws.proofs.MoreValues.{at_front, value_over_more}
+use Rattle.abort_expansion_laws.proofs.MoreValues.{value_over_more}
 use Rattle.abort_expansion_laws.proofs.Unchanged.{get_other}
 use Rattle.abort_expansion_laws.proofs.TestHolds.{acting_no_inside}
 use Rattle.abort_expansion_laws.proofs.AssignedVariables.{assigned_known}

@@ -3,6 +3,7 @@ use Rattle.std.proofs.Common.{◌≡◌, ◌≢◌, ℕ, pos, ◌<◌, ⊎_elim,
 use Rattle.std.proofs.Common.{slice_set, Contains, refl, sym, ap, subst, ◌∙◌, arith}
 use Rattle.std.proofs.lemmas.List.{length-set}
 use Rattle.sc_values.specs.declared.value.Value.TheVariants as value_is
+use Rattle.scl_graph_laws.proofs.Searching.{unlike}
 use Rattle.core_charts.specs.declared.region.Transition.{Transition}
 use Rattle.core_charts.specs.Tests.{weak_aborts, terminations, closing_tests, is_join}
 use Rattle.chart_machine.specs.declared.standing.Standing.{Standing}
@@ -23,7 +24,7 @@ use Rattle.abort_expansion_laws.specs.Related.{Watches, waits, looks_strong, loo
 use Rattle.abort_expansion_laws.specs.Related.{raise_each, Stores, IsInside, guarded, open_inside, Closes, Related, IsCalm}
 use Rattle.abort_expansion_laws.specs.Related.{calm_within, guards as watch_guards}
 use Rattle.abort_expansion_laws.proofs.StageReached.{holds_other}
-use Rattle.abort_expansion_laws.proofs.Unchanged.{stands_same, stands_other, no_guards, never_guarded, none_among, not_both}
+use Rattle.abort_expansion_laws.proofs.Unchanged.{stands_same, stands_other, no_guards, never_guarded, none_among}
 use Rattle.abort_expansion_laws.proofs.KnownVariables.{present_there}
 use Rattle.abort_expansion_laws.proofs.StrongNotTaken.{IsGuarding, guarding_back, MonitorGuards, inside_guarding}
 use Rattle.abort_expansion_laws.proofs.InsideLeaves.{AloneRows}
@@ -318,7 +319,7 @@ module _ (k core : Table) (i : Images) (rows : CoreRows k core i) (lone : AloneR
           ⊎_elim
           (λ f.
           let around_r : Contains (around k r) s = subst (λ q. Contains (around k q) s) (ap (holder k) f ∙ region.held) inner in
-          absurd (not_both (has_to_guard (standing_of c (holder k s))) was
+          absurd (unlike (has_to_guard (standing_of c (holder k s))) was
           (none_among (λ v. has_to_guard (standing_of c (holder k v))) (around k r) s free around_r)))
           (λ differ.
           still_looks k core i u (standing_of d (i.watcher_of u)) (standing_of e (i.watcher_of u))

@@ -20,6 +20,7 @@ use Rattle.chart_machine.specs.Machine.{machine}
 use Rattle.core_charts.specs.Aborts.{has_aborts}
 use Rattle.chart_machine_laws.specs.Tree.{IsNested, IsThere, around, holder}
 use Rattle.tick_laws.proofs.Lists.{same_or_not}
+use Rattle.compiled_charts_laws.proofs.Stands.{trigger_writes}
 use Rattle.abort_expansion_laws.specs.Stages.{Entry, Watched, Silent, Correspondence, HasStage}
 use Rattle.abort_expansion_laws.specs.CoreRows.{own, IsState, IsSuper, Images, CoreRows, pair}
 use Rattle.abort_expansion_laws.specs.Related.{Related}
@@ -30,7 +31,7 @@ use Rattle.abort_expansion_laws.proofs.Segments.{Segment, segment_on}
 use Rattle.abort_expansion_laws.proofs.SilentSteps.{AtHome}
 use Rattle.abort_expansion_laws.proofs.KnownVariables.{trigger_known, Stepped, stepped}
 use Rattle.abort_expansion_laws.proofs.TestFails.{tested_is}
-use Rattle.abort_expansion_laws.proofs.StrongNotTaken.{MonitorGuards, trigger_plain}
+use Rattle.abort_expansion_laws.proofs.StrongNotTaken.{MonitorGuards}
 use Rattle.abort_expansion_laws.proofs.InsideLeaves.{AloneRows}
 use Rattle.abort_expansion_laws.proofs.WokenConfigurations.{all_ended_too}
 use Rattle.abort_expansion_laws.proofs.FrontsChanged.{tail_of, HasFirst, one_first, none_first}
@@ -214,7 +215,7 @@ module _ (k core : Table) (i : Images) (rows : CoreRows k core i) (lone : AloneR
               record {
                 watches = (o, (o_there, has), refl, held);
                 staged = inl refl;
-                writes_nothing = trigger_plain t.trigger;
+                writes_nothing = trigger_writes t.trigger;
                 no_flags = λ y touches. let lt = trigger_known c.variables t.trigger false false_there y touches in omega (lt, related.values, arith);
               },
               tt,

@@ -1,5 +1,5 @@
 -- At the end of a tick each test that a thread has left fails, at stage 3 of the superstate whose flag or counter it reads.
-use Rattle.std.proofs.Common.{◌≡◌, ◌≢◌, ℕ, zero, suc, ◌+◌, ◌<◌, ◌≤◌, ◌⊎◌, ⊎_elim, false, Option, Some, List, [], ◌∷◌, ◌++◌}
+use Rattle.std.proofs.Common.{◌≡◌, ◌≢◌, ℕ, zero, suc, ◌+◌, ◌<◌, ◌≤◌, ⊎_elim, false, Option, Some, List, [], ◌∷◌, ◌++◌}
 use Rattle.std.proofs.Common.{length, slice_set, refl, sym, ap, subst, ◌∙◌, arith}
 use Rattle.std.proofs.lemmas.Option.{same_Some}
 use Rattle.std.proofs.lemmas.List.{length-set}
@@ -12,6 +12,7 @@ use Rattle.chart_machine.specs.declared.table.Table.{Table}
 use Rattle.chart_machine.specs.Turns.{standing_of, guards as has_to_guard, is_guarded}
 use Rattle.chart_machine.specs.Steps.{verdict, access_of, access_of_trigger}
 use Rattle.chart_machine.specs.Machine.{machine}
+use Rattle.chart_machine.proofs.Outside.{within_or_past}
 use Rattle.chart_machine_laws.specs.Tree.{around, holder}
 use Rattle.tick_laws.proofs.Lists.{same_or_not}
 use Rattle.abort_expansion_laws.specs.Stages.{Entry, Silent, Correspondence, ReadsFlag, Climbs}
@@ -26,9 +27,6 @@ use Rattle.abort_expansion_laws.proofs.NumberedRegions.{past_number}
 abbrev pub last_of : Standing → Standing
 last_of (at.Trying u tests) = at.Trying u []
 last_of other = other
-
-below_or_not : (n m : ℕ) → (n < m) ⊎ (m ≤ n)
-below_or_not n m = grind arith
 
 module _ (core : Table) (corr : Correspondence) (Told : Configuration → Entry → Type 0)
     (told : (e : Configuration) (t : ℕ) (stage : Option (ℕ × ℕ)) (a : Access) → Told e (Silent t stage a)) (d : Configuration)
@@ -89,7 +87,8 @@ module _ (core : Table) (corr : Correspondence) (Told : Configuration → Entry 
         free = done.free;
         passed = λ t lt.
             ⊎_elim (λ less. done.passed t less)
-            (λ more. let same : t ≡ n = omega (lt, more, arith) in subst (λ z. standing_of e z ≡ last_of (standing_of d z)) (sym same) here) (below_or_not t n);
+            (λ more. let same : t ≡ n = omega (lt, more, arith) in subst (λ z. standing_of e z ≡ last_of (standing_of d z)) (sym same) here)
+            (within_or_past t n);
         waiting = λ t le. done.waiting t (omega (le, arith));
       }
 
@@ -97,7 +96,7 @@ module _ (core : Table) (corr : Correspondence) (Told : Configuration → Entry 
   inside_core e t u rest is =
       ⊎_elim (λ lt. lt)
       (λ past. let wrong : at.Outside ≡ at.Trying u rest = sym (past_number e.regions t past) ∙ is in absurd cc)
-      (below_or_not t (length e.regions))
+      (within_or_past t (length e.regions))
 
   -- one thread has made its tests, and nothing else has changed
   record HasMade (n u : ℕ) (e w : Configuration) : Type 0 where
@@ -168,7 +167,7 @@ module _ (core : Table) (corr : Correspondence) (Told : Configuration → Entry 
       made = tests_made n u e done.variables done.free left all (done.waiting n (omega arith) ∙ is)
 
       less : (g m : ℕ) → g < suc m → g ≢ m → g < m
-      less g m lt ne = ⊎_elim (λ below. below) (λ above. absurd (ne (omega (lt, above, arith)))) (below_or_not g m)
+      less g m lt ne = ⊎_elim (λ below. below) (λ above. absurd (ne (omega (lt, above, arith)))) (within_or_past g m)
 
       after : (w : Configuration) → HasMade n u e w → Done (suc n) w
       after w has =
@@ -203,4 +202,4 @@ module _ (core : Table) (corr : Correspondence) (Told : Configuration → Entry 
       ⊎_elim (λ lt. done.passed t lt)
       (λ past.
       let out : standing_of d t ≡ at.Outside = past_number d.regions t past in
-      done.waiting t past ∙ (out ∙ sym (ap last_of out))) (below_or_not t (length d.regions))
+      done.waiting t past ∙ (out ∙ sym (ap last_of out))) (within_or_past t (length d.regions))

@@ -43,10 +43,6 @@ set_here [] r x lt = absurd (omega (lt, arith))
 set_here (z ∷ zs) zero x lt = refl
 set_here (z ∷ zs) (suc r) x lt = set_here zs r x (omega (lt, arith))
 
-pub moved_size : (ms : List Move) (zs : List Standing) → length (moved ms zs) ≡ length zs
-moved_size [] zs = refl
-moved_size (m ∷ ms) zs = moved_size ms (slice_set zs m.region m.standing) ∙ length-set zs m.region m.standing
-
 pub stay_out : (rs : List ℕ) (zs : List Standing) (q : ℕ) → at_number zs q ≡ at.Outside → at_number (moved (drops rs) zs) q ≡ at.Outside
 stay_out [] zs q e = e
 stay_out (r ∷ rs) zs q e =

@@ -3,6 +3,7 @@ use Rattle.std.proofs.Common.{◌≡◌, ◌≢◌, ℕ, ◌<◌, ◌≤◌, ⊎
 use Rattle.std.proofs.Common.{Contains, sym, ap, subst, ◌∙◌, arith}
 use Rattle.std.proofs.lemmas.List.{length-set}
 use Rattle.sc_values.specs.declared.value.Value.{Value}
+use Rattle.scl_graph_laws.proofs.Searching.{unlike}
 use Rattle.core_charts.specs.declared.region.Transition.{Transition}
 use Rattle.core_charts.specs.Aborts.{has_aborts}
 use Rattle.chart_machine.specs.declared.standing.Standing.{Standing}
@@ -15,7 +16,7 @@ use Rattle.chart_machine_laws.proofs.LyingIn.{around, holder}
 use Rattle.abort_expansion_laws.proofs.TablesCorrespond.{IsThere}
 use Rattle.abort_expansion_laws.specs.CoreRows.{own, IsState, Images, CoreRows, WatcherImage}
 use Rattle.abort_expansion_laws.specs.Related.{IsCalm, Closes, Stands, Watches, IsInside, Related}
-use Rattle.abort_expansion_laws.proofs.Unchanged.{none_among, not_both, stands_same, stands_other, SameShape, stands_kept}
+use Rattle.abort_expansion_laws.proofs.Unchanged.{none_among, stands_same, stands_other, SameShape, stands_kept}
 use Rattle.abort_expansion_laws.proofs.LooksFirst.{still_looks}
 use Rattle.abort_expansion_laws.proofs.OneMonitor.{one_monitor}
 use Rattle.abort_expansion_laws.proofs.RegionMoved.{RegionMoved, ends_alike, back_inside, still_inside, was_present, is_present, down_still}
@@ -160,13 +161,13 @@ module _ (k core : Table) (i : Images) (rows : CoreRows k core i) where
           calm = λ q s there around_it guarded_by.
               let was : guards (standing_of c (holder k s)) ≡ true = sym (same_shape.guards_alike (holder k s)) ∙ guarded_by in
               ⊎_elim
-              (λ e. absurd (not_both (guards (standing_of c (holder k s))) was
+              (λ e. absurd (unlike (guards (standing_of c (holder k s))) was
               (none_among (λ v. guards (standing_of c (holder k v))) (around k r) s go.free (subst (λ p. Contains (around k p) s) e around_it))))
               (λ ne. subst IsCalm (sym (elsewhere q ne)) (related.calm q s there around_it was)) (same_or_not q r);
           unseen = λ u s there has around_it guarded_by.
               let was : guards (standing_of c (holder k s)) ≡ true = sym (same_shape.guards_alike (holder k s)) ∙ guarded_by in
               ⊎_elim
-              (λ e. absurd (not_both (guards (standing_of c (holder k s))) was
+              (λ e. absurd (unlike (guards (standing_of c (holder k s))) was
               (none_among (λ v. guards (standing_of c (holder k v))) (around k r) s go.free
               (subst (λ p. Contains (around k p) s) (ap (holder k) e ∙ go.held) around_it))))
               (λ differ.

@@ -10,10 +10,10 @@ use Rattle.chart_machine.specs.declared.standing.Configuration.{Configuration}
 use Rattle.chart_machine.specs.declared.table.Table.{Table}
 use Rattle.chart_machine.specs.Turns.{standing_of, guards as has_to_guard, is_guarded}
 use Rattle.chart_machine.specs.Machine.{machine}
+use Rattle.chart_machine.proofs.Outside.{within_or_past}
 use Rattle.tick_laws.proofs.Lists.{same_or_not}
 use Rattle.abort_expansion_laws.specs.Stages.{Entry, Silent, Correspondence}
 use Rattle.chart_machine_laws.proofs.LyingIn.{IsNested, around, holder}
-use Rattle.chart_machine_laws.proofs.ChartTables.{within_or_past}
 use Rattle.abort_expansion_laws.specs.CoreRows.{own, IsState, Images, CoreRows}
 use Rattle.abort_expansion_laws.specs.Related.{IsInside, Related}
 use Rattle.abort_expansion_laws.proofs.StageReached.{Stage}

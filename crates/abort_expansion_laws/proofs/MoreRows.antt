@@ -12,9 +12,10 @@ use Rattle.chart_machine.specs.declared.table.StateRow.{StateRow}
 use Rattle.chart_machine.specs.declared.table.Table.{Table}
 use Rattle.chart_machine.specs.Table.{table, state_at}
 use Rattle.chart_machine.specs.Turns.{inside}
+use Rattle.chart_machine.proofs.Outside.{within_or_past}
 use Rattle.chart_machine_laws.specs.Tree.{around, holder}
 use Rattle.chart_machine_laws.proofs.LyingIn.{head_in, head_or_tail}
-use Rattle.chart_machine_laws.proofs.ChartTables.{within_or_past, around_there, no_regions_past}
+use Rattle.chart_machine_laws.proofs.ChartTables.{around_there, no_regions_past}
 use Rattle.abort_expansion.specs.declared.flags.Flags.{Flags}
 use Rattle.abort_expansion.specs.Flags.{has_join, counts, given, one, weak_around, local}
 use Rattle.core_charts.specs.Aborts.{has_strong, has_weak, has_aborts}

@@ -1,5 +1,5 @@
 -- An expression over some variables has the same value over more; what flags and counters give.
-use Rattle.std.proofs.Common.{◌≡◌, ◌≢◌, ℕ, zero, suc, Bool, true, false, not, pos, Option, Some, None, List, [], ◌∷◌, ◌++◌, slice_get, option_and_then, refl}
+use Rattle.std.proofs.Common.{◌≡◌, ◌≢◌, ℕ, Bool, true, false, not, pos, Option, Some, None, List, ◌++◌, slice_get, option_and_then, refl}
 use Rattle.std.proofs.Common.{ap, sym, ◌∙◌}
 use Rattle.std.specs.Ordering.{int_eq}
 use Rattle.std.proofs.lemmas.Bool.Decides.{Decides-int_eq}
@@ -19,12 +19,7 @@ use Rattle.sc_values.specs.Expr.{value}
 use Rattle.sc_values.proofs.Induction.{induct, value-literal, value-load, value-unary, value-binary}
 use Rattle.chart_machine.specs.Steps.{truth, verdict}
 use Rattle.abort_expansion.specs.Transitions.{number, is_number, is_raised}
-
--- an item of the first list, with another behind it
-pub at_front : {A : Type 0} (xs ys : List A) (i : ℕ) (x : A) → slice_get xs i ≡ Some x → slice_get (xs ++ ys) i ≡ Some x
-at_front [] ys i x at = absurd cc
-at_front (y ∷ xs) ys zero x at = at
-at_front (y ∷ xs) ys (suc i) x at = at_front xs ys i x at
+use Rattle.abort_expansion.proofs.Lists.{at_front}
 
 pub record Got {A B : Type 0} (g : A → Option B) (o : Option A) (b : B) : Type 0 where
   pub item : A

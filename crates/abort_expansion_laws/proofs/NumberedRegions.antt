@@ -7,8 +7,9 @@ use Rattle.chart_machine.specs.declared.standing.Standing.{Standing}
 use Rattle.chart_machine.specs.declared.standing.Standing.TheVariants as at
 use Rattle.chart_machine.specs.declared.table.Table.{Table}
 use Rattle.chart_machine.specs.Turns.{standing_of}
+use Rattle.chart_machine.proofs.Outside.{within_or_past}
 use Rattle.chart_machine_laws.specs.Tree.{IsThere}
-use Rattle.chart_machine_laws.proofs.ChartTables.{no_regions_past, within_or_past}
+use Rattle.chart_machine_laws.proofs.ChartTables.{no_regions_past}
 use Rattle.abort_expansion_laws.specs.CoreRows.{IsState, IsSuper}
 
 pub past_number : (zs : List Standing) (q : ℕ) → length zs ≤ q → unwrap_or (slice_get zs q) at.Outside ≡ at.Outside

@@ -1,12 +1,10 @@
 -- A monitor is that of one superstate.
-use Rattle.std.proofs.Common.{◌≡◌, ℕ, true, List, ◌∷◌, sym, ap, ◌∙◌}
+use Rattle.std.proofs.Common.{◌≡◌, ℕ, true, sym, ap, ◌∙◌}
 use Rattle.core_charts.specs.Aborts.{has_aborts}
 use Rattle.chart_machine.specs.declared.table.Table.{Table}
 use Rattle.chart_machine_laws.specs.Tree.{around, holder}
+use Rattle.compiled_charts_laws.proofs.Stands.{heads}
 use Rattle.abort_expansion_laws.specs.CoreRows.{own, IsState, Images, CoreRows}
-
-heads : (x y : ℕ) (xs ys : List ℕ) → x ∷ xs ≡ y ∷ ys → x ≡ y
-heads x y xs ys e = cc
 
 pub one_monitor : (k core : Table) (i : Images) → CoreRows k core i → (u o : ℕ) → IsState k u → has_aborts (own k u) ≡ true → IsState k o →
     has_aborts (own k o) ≡ true → i.watcher_of u ≡ i.watcher_of o → u ≡ o

@@ -1,6 +1,7 @@
 -- A superstate that was opened: what its being over says of its regions, and where its thread stands while it is not over.
 use Rattle.std.proofs.Common.{◌≡◌, ℕ, Bool, true, false, not, ◌&&◌, List, [], ◌∷◌, Contains, ap, subst, ◌∙◌}
 use Rattle.std.specs.List.{list_all}
+use Rattle.scl_graph_laws.proofs.Searching.{unlike}
 use Rattle.core_charts.specs.declared.region.Transition.{Transition}
 use Rattle.core_charts.specs.Aborts.{has_aborts}
 use Rattle.chart_machine.specs.declared.standing.Standing.{Standing}
@@ -16,7 +17,6 @@ use Rattle.tick_laws.proofs.Lists.{list_all_at}
 use Rattle.chart_machine_laws.specs.Tree.{holder}
 use Rattle.abort_expansion_laws.specs.CoreRows.{own, joins, Images, flags_around}
 use Rattle.abort_expansion_laws.specs.Related.{Stands, outside, ended, left, trying, acting, entering, guarding, staying, within, behind, is_behind}
-use Rattle.abort_expansion_laws.proofs.Unchanged.{not_both}
 
 module _ (k core : Table) (i : Images) (c : Configuration) where
   -- all regions of what is over have ended
@@ -34,7 +34,7 @@ module _ (k core : Table) (i : Images) (c : Configuration) where
   -- so it is not over where one of them has not
   pub not_over : (u q : ℕ) → Contains (state_at k u).regions q → has_ended (standing_of c q) ≡ false → is_behind k core i c u ≡ true → ⊥
   not_over u q child goes over =
-      not_both (has_ended (standing_of c q)) (list_all_at (λ z. has_ended (standing_of c z)) (state_at k u).regions q (all_over u over) child) goes
+      unlike (has_ended (standing_of c q)) (list_all_at (λ z. has_ended (standing_of c z)) (state_at k u).regions q (all_over u over) child) goes
 
   -- while it is not, the thread of what is split stands in the fork
   pub fork_of : (u : ℕ) (tests : List Transition) (x y : Standing) → (is_behind k core i c u ≡ true → ⊥) → Stands k core i c (holder k u) x y →
@@ -49,7 +49,7 @@ module _ (k core : Table) (i : Images) (c : Configuration) where
   fork_of u tests _ _ never (guarding v join t others has its leads) w apart = absurd cc
   fork_of u tests _ _ never (staying v others super its stay) w apart =
       let same : v ≡ u = cc in
-      absurd (not_both (stays (flags_around k core i (holder k u)) (own k u))
+      absurd (unlike (stays (flags_around k core i (holder k u)) (own k u))
       (subst (λ z. stays (flags_around k core i (holder k u)) (own k z) ≡ true) same stay) apart)
   fork_of u tests _ _ never (within v join others super its split still leads) w apart =
       let same : v ≡ u = cc in

@@ -13,12 +13,13 @@ use Rattle.chart_machine.specs.Turns.{standing_of, is_guarded}
 use Rattle.chart_machine.specs.Steps.{moved}
 use Rattle.abort_expansion.specs.Transitions.{go}
 use Rattle.abort_expansion.specs.Superstates.{resets}
+use Rattle.chart_lowering_laws.proofs.Entering.{moved_length}
 use Rattle.abort_expansion_laws.specs.Stages.{Entry, Silent}
 use Rattle.abort_expansion_laws.specs.CoreRows.{Images, CoreRows, SplitImage, joins}
 use Rattle.abort_expansion_laws.specs.Related.{is_behind}
 use Rattle.chart_machine_laws.proofs.LyingIn.{IsNested, around, holder}
 use Rattle.abort_expansion_laws.proofs.TablesCorrespond.{IsThere}
-use Rattle.abort_expansion_laws.proofs.Leaving.{at_number, set_here, set_other, moved_size}
+use Rattle.abort_expansion_laws.proofs.Leaving.{at_number, set_here, set_other}
 use Rattle.abort_expansion_laws.proofs.Pending.{Sound, IsOpening, IsStarting, IsJoining, opening_kept, starting_kept, joining_kept}
 use Rattle.abort_expansion_laws.proofs.Pending.{IsEmpty, Pending}
 use Rattle.abort_expansion_laws.proofs.Pending.{behind_unprepared}
@@ -100,7 +101,7 @@ module _ (k core : Table) (i : Images) (rows : CoreRows k core i) (tree : IsNest
   same t ne out = at_z t ∙ (fork_rows.opens_inside s t d1.regions o.there o.super out ∙ set_other d.regions h t W ne)
 
   pub size : length z.regions ≡ length d.regions
-  size = ap length regions_are ∙ (moved_size (state_at core (i.main_of s)).opened d1.regions ∙ length-set d.regions h W)
+  size = ap length regions_are ∙ (moved_length (state_at core (i.main_of s)).opened d1.regions ∙ length-set d.regions h W)
 
   in_fork_ne : (t : ℕ) → Contains (around core t) (i.main_of s) → t ≢ h
   in_fork_ne t inner e = h_out (subst (λ v. Contains (around core v) (i.main_of s)) e inner)

@@ -19,9 +19,11 @@ use Rattle.chart_machine.specs.Table.{state_at}
 use Rattle.chart_machine.specs.Turns.{standing_of, inside}
 use Rattle.chart_machine.specs.Steps.{to, moved, state_in, dropped, acts, taken, entering_on, guarding_on, step}
 use Rattle.chart_machine.specs.Machine.{initial, start, woken, guarded_first, is_outside, regions_at_start}
+use Rattle.chart_machine.proofs.Outside.{within_or_past}
 use Rattle.tick_laws.proofs.Lists.{same_or_not, contains_get}
 use Rattle.chart_machine_laws.proofs.LyingIn.{around, holder, head_in, tail_in}
-use Rattle.chart_machine_laws.proofs.ChartTables.{within_or_past, around_there}
+use Rattle.chart_machine_laws.proofs.ChartTables.{around_there}
+use Rattle.chart_lowering_laws.proofs.Entering.{moved_length}
 use Rattle.abort_expansion_laws.specs.CoreRows.{own, IsState, IsSuper, Images}
 use Rattle.abort_expansion_laws.proofs.ChartSteps.{Makes, takes_trying, takes_entering, takes_guarding, takes_within, tries_on, enters_on, guards_on}
 use Rattle.abort_expansion_laws.proofs.ChartSteps.{waits_on, acts_on, StepMade, step_made}
@@ -30,7 +32,6 @@ use Rattle.abort_expansion_laws.proofs.FreshInside.{nobody_there}
 use Rattle.abort_expansion_laws.proofs.StateEntry.{Entry, entry_ends, entry_tries, entry_guards, entry_opens}
 use Rattle.abort_expansion_laws.proofs.Unchanged.{get_same, get_other}
 use Rattle.abort_expansion_laws.proofs.WokenConfigurations.{woken_at}
-use Rattle.abort_expansion_laws.proofs.Leaving.{moved_size}
 
 module _ (k : Table) where
   abbrev pub AreOwn : ℕ → List Transition → Type 0
@@ -109,7 +110,7 @@ module _ (k : Table) where
           (sym (ap (λ r. slice_get (slice_set zs r m.standing) q) (sym same) ∙ get_same zs q m.standing lt)) of_move)
           (λ past.
           subst (λ o. IsOwn (unwrap_or o at.Outside))
-          (sym (slice_get_past (slice_set zs m.region m.standing) q (let size = moved_size (m ∷ []) zs in omega (size, past, arith)))) tt)
+          (sym (slice_get_past (slice_set zs m.region m.standing) q (let size = moved_length (m ∷ []) zs in omega (size, past, arith)))) tt)
           (cases_lt q (length zs))
 
   all_moved : (ms : List Move) (zs : List Standing) → Each IsOwnMove ms → ((q : ℕ) → IsOwn (unwrap_or (slice_get zs q) at.Outside)) → (q : ℕ) →

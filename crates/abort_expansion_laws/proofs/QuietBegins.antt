@@ -1,12 +1,12 @@
 -- As long as a monitor has a delayed test to make, what is inside of its superstate stays below the nodes that raise the
 -- strong flag. So from when a strong test was made on, it is quiet.
 use Rattle.std.proofs.Common.{◌≡◌, ◌≢◌, ℕ, suc, ◌⊎◌, inl, inr, ⊎_elim, true, false, not, Option, Some, None, List, [], ◌∷◌, ◌++◌, map}
-use Rattle.std.proofs.Common.{length, unwrap_or, pos, ◌≤◌, Contains, refl, sym, ap, subst, ◌∙◌, arith}
+use Rattle.std.proofs.Common.{length, unwrap_or, pos, ◌≤◌, Contains, refl, sym, ap, subst, ◌∙◌}
 use Rattle.std.proofs.lemmas.Option.{slice_get_past}
 use Rattle.std.proofs.lemmas.Bool.{not-true}
 use Rattle.sc_values.specs.declared.value.Value.TheVariants as value_is
 use Rattle.sc_values.specs.declared.expression.Expr.{Expr}
-use Rattle.sc_values.specs.Access.{Access, no_access, Inits, Precedes, init_update, init_read, update_read}
+use Rattle.sc_values.specs.Access.{Access, no_access, Inits, Precedes}
 use Rattle.sc_graph.specs.declared.tables.Tables.{Tables}
 use Rattle.sc_graph.specs.declared.control.Control.{Control}
 use Rattle.sc_graph.specs.declared.control.Status.TheVariants as status
@@ -27,12 +27,13 @@ use Rattle.chart_machine.specs.declared.table.StateRow.{StateRow}
 use Rattle.chart_machine.specs.declared.table.Table.{Table}
 use Rattle.chart_machine.specs.Turns.{standing_of, has_work, inside_is_done, inside}
 use Rattle.chart_machine.specs.Steps.{step, access_of_trigger}
+use Rattle.chart_machine.proofs.Outside.{within_or_past}
 use Rattle.abort_expansion.specs.Transitions.{put, raising}
 use Rattle.chart_lowering_laws.specs.Stands.{Followed, Lowered}
+use Rattle.chart_lowering_laws.proofs.Ordering.{nothing_second}
 use Rattle.compiled_charts_laws.proofs.LateTests.{is_late}
 use Rattle.compiled_charts_laws.proofs.TestNodes.{TestNode}
 use Rattle.chart_machine_laws.proofs.LyingIn.{IsNested, around, holder, head_in}
-use Rattle.chart_machine_laws.proofs.ChartTables.{within_or_past}
 use Rattle.chart_machine_laws.specs.Tree.{IsThere}
 use Rattle.abort_expansion_laws.specs.CoreRows.{own, IsState, Images, CoreRows, WatcherImage}
 use Rattle.abort_expansion_laws.specs.Related.{raises, raise_each, Related, monitor_last}
@@ -66,7 +67,7 @@ pub record GuardTold (k core : Table) (i : Images) (d : Configuration) (r g : �
   pub ready : MonitorGuards k core i superstate test others (standing_of d (i.watcher_of superstate))
   pub acts : a ≡ access_of_trigger test.trigger
 
-late_works : (k : Table) (c : Configuration) (x : Standing) → is_late x ≡ true → has_work k c x ≡ true
+pub late_works : (k : Table) (c : Configuration) (x : Standing) → is_late x ≡ true → has_work k c x ≡ true
 late_works k c (at.Trying s (t ∷ tests)) late = refl
 late_works k c (at.Trying s []) late = absurd cc
 late_works k c at.Outside late = absurd cc
@@ -86,12 +87,6 @@ pub state_with_aborts : (k : Table) (s : ℕ) → has_aborts (own k s) ≡ true 
 state_with_aborts k s has =
     ⊎_elim (λ lt. lt) (λ past. let wrong : true ≡ false = sym has ∙ ap has_aborts (no_tests_past k s past) in absurd cc)
     (within_or_past s (length k.states))
-
--- nothing is to come before who neither reads nor writes
-pub none_before : (b : Access) → ¬ Precedes b no_access
-none_before b (init_update x f i u) = absurd cc
-none_before b (init_read x i r) = let lt = r.1 in absurd (omega (lt, arith))
-none_before b (update_read x f u r) = let lt = r.1 in absurd (omega (lt, arith))
 
 module _ (k core : Table) (i : Images) (rows : CoreRows k core i) (tree : IsNested core) (p : Program) (q : Tables) (valid : IsValid p q)
     (Stands : Configuration → Control → Type 0) (lowered : Lowered core p Stands) (tests : LoweredTests core p Stands lowered)
@@ -279,5 +274,5 @@ module _ (k core : Table) (i : Images) (rows : CoreRows k core i) (tree : IsNest
   -- what is quiet is not to be preceded
   pub spared_quietly : (r : ℕ) (a b : Access) (d : Configuration) → StaysQuiet r a d →
       (IsQuiet k core i rows tree p q valid Stands lowered r a d → ¬ Precedes b a) → ¬ Precedes b a
-  spared_quietly r a b d (inl none) by_quiet first = none_before b (subst (Precedes b) none first)
+  spared_quietly r a b d (inl none) by_quiet first = nothing_second b (subst (Precedes b) none first)
   spared_quietly r a b d (inr quiet) by_quiet first = by_quiet quiet first

@@ -4,6 +4,7 @@ use Rattle.std.proofs.Common.{slice_get, slice_set}
 use Rattle.std.proofs.Common.{Contains, refl, sym, ap, subst, ◌∙◌, arith}
 use Rattle.std.proofs.lemmas.List.{length-set}
 use Rattle.sc_values.specs.declared.value.Value.{Value}
+use Rattle.scl_graph_laws.proofs.Searching.{unlike}
 use Rattle.core_charts.specs.declared.region.Transition.{Transition}
 use Rattle.core_charts.specs.Aborts.{has_aborts}
 use Rattle.chart_machine.specs.declared.standing.Standing.{Standing}
@@ -19,7 +20,7 @@ use Rattle.abort_expansion_laws.specs.Related.{IsCalm, calm_outside, Closes, Sta
 use Rattle.abort_expansion_laws.specs.Related.{LooksFirst}
 use Rattle.abort_expansion_laws.specs.Related.{within, behind, Watches, IsInside, open_inside, Related}
 use Rattle.abort_expansion_laws.proofs.Fronts.{front_same}
-use Rattle.abort_expansion_laws.proofs.Unchanged.{none_among, none_are, not_both, stands_same, stands_other, SameShape, stands_so, stands_kept, nobody_lies}
+use Rattle.abort_expansion_laws.proofs.Unchanged.{none_among, none_are, stands_same, stands_other, SameShape, stands_so, stands_kept, nobody_lies}
 use Rattle.abort_expansion_laws.proofs.LooksFirst.{out_looks, still_looks, watch_gone}
 use Rattle.abort_expansion_laws.proofs.RegionMoved.{RegionMoved, back_inside, still_inside, was_present, is_present, down_still}
 use Rattle.chart_machine_laws.proofs.ChartTables.{around_there}
@@ -209,7 +210,7 @@ module _ (k core : Table) (i : Images) (rows : CoreRows k core i) where
     still_calm q s there around_it guarded_by =
         let was : guards (standing_of c (holder k s)) ≡ true = sym (same_shape.guards_alike (holder k s)) ∙ guarded_by in
         ⊎_elim
-        (λ e. absurd (not_both (guards (standing_of c (holder k s))) was
+        (λ e. absurd (unlike (guards (standing_of c (holder k s))) was
         (none_among (λ v. guards (standing_of c (holder k v))) (around k r) s go.free (subst (λ p. Contains (around k p) s) e around_it))))
         (λ ne. subst IsCalm (sym (rests q ne)) (related.calm q s there around_it was)) (same_or_not q r)
 
@@ -304,7 +305,7 @@ module _ (k core : Table) (i : Images) (rows : CoreRows k core i) where
         (λ elsewhere.
         let was : guards (standing_of c (holder k s)) ≡ true = sym (ap guards (rests_so (holder k s) elsewhere)) ∙ guarded_by in
         ⊎_elim
-        (λ e. absurd (not_both (guards (standing_of c (holder k s))) was
+        (λ e. absurd (unlike (guards (standing_of c (holder k s))) was
         (none_among (λ v. guards (standing_of c (holder k v))) (around k r) s go.free (subst (λ p. Contains (around k p) s) e around_it))))
         (λ ne. subst IsCalm (sym (rests_so q ne)) (related.calm q s there around_it was)) (same_or_not q r))
         (same_or_not (holder k s) r)
@@ -325,7 +326,7 @@ module _ (k core : Table) (i : Images) (rows : CoreRows k core i) where
     bare_free =
         none_are (λ s. guards (standing_of c' (holder k s))) (around k r)
         (λ s h on.
-        not_both (guards (standing_of c' (holder k s))) on
+        unlike (guards (standing_of c' (holder k s))) on
         (guards_so s (not_around s h) ∙ none_among (λ v. guards (standing_of c (holder k v))) (around k r) s go.free h))
 
     pub bare_goes_on : Related k core i c' d'

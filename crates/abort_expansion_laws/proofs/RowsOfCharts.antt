@@ -11,9 +11,10 @@ use Rattle.core_charts.specs.Tests.{strong_aborts, weak_aborts, is_strong, is_we
 use Rattle.chart_machine.specs.declared.table.Table.{Table}
 use Rattle.chart_machine.specs.Table.{table}
 use Rattle.chart_machine.specs.Steps.{state_in}
+use Rattle.chart_machine.proofs.Outside.{within_or_past}
 use Rattle.chart_machine_laws.specs.Tree.{IsThere, IsTree, around, holder}
 use Rattle.chart_machine_laws.proofs.LyingIn.{none_in, head_or_tail}
-use Rattle.chart_machine_laws.proofs.ChartTables.{chart_is_tree, nothing_around, within_or_past, no_regions_past}
+use Rattle.chart_machine_laws.proofs.ChartTables.{chart_is_tree, nothing_around, no_regions_past, no_states_past}
 use Rattle.abort_expansion.specs.Flags.{counts, one, flags_of, weak_around}
 use Rattle.core_charts.specs.Aborts.{has_strong, has_weak, has_aborts}
 use Rattle.abort_expansion.specs.Expansion.{expanded, expansion}
@@ -22,7 +23,7 @@ use Rattle.abort_expansion_laws.specs.CoreRows.{WatcherImage}
 use Rattle.abort_expansion_laws.proofs.Walked.{World, images_of, RegionFits, StateFits, FlagsFit, Origin, thread, watcher, OwnerFits}
 use Rattle.abort_expansion_laws.proofs.Walked.{thread_by, IsFlag, CoreSort}
 use Rattle.abort_expansion_laws.proofs.WalkedWhole.{world, facts, chart_size, core_size, image_past, owner_else}
-use Rattle.abort_expansion_laws.proofs.TableEnds.{first_state, no_holder_past, no_entered_past, no_states_past, any_first}
+use Rattle.abort_expansion_laws.proofs.TableEnds.{first_state, no_holder_past, no_entered_past, any_first}
 use Rattle.abort_expansion_laws.proofs.TableEnds.{given_some, given_is}
 use Rattle.abort_expansion_laws.proofs.NumberedRegions.{super_is_state}
 use Rattle.tick_laws.proofs.Lists.{contains_map}

@@ -6,6 +6,7 @@ use Rattle.std.proofs.lemmas.Bool.Decides.{Decides-eqb}
 use Rattle.std.proofs.lemmas.Option.{same_Some}
 use Rattle.std.proofs.lemmas.Bool.{and_parts, not-true}
 use Rattle.sc_values.specs.declared.value.Value.{Value}
+use Rattle.scl_graph_laws.proofs.Targets.{same_number}
 use Rattle.core_charts.specs.Aborts.{has_aborts}
 use Rattle.chart_machine.specs.declared.standing.Standing.{Standing}
 use Rattle.chart_machine.specs.declared.standing.Standing.TheVariants as at
@@ -13,18 +14,15 @@ use Rattle.chart_machine.specs.declared.standing.Configuration.{Configuration}
 use Rattle.chart_machine.specs.declared.table.Table.{Table}
 use Rattle.chart_machine.specs.Turns.{standing_of}
 use Rattle.chart_machine.specs.Machine.{stands_in, is_active}
+use Rattle.chart_machine.proofs.Outside.{within_or_past}
 use Rattle.abort_expansion.specs.Superstates.{stays}
 use Rattle.abort_expansion_laws.specs.Related.{is_behind}
 use Rattle.chart_machine_laws.proofs.LyingIn.{holder}
 use Rattle.abort_expansion_laws.proofs.TablesCorrespond.{IsThere}
-use Rattle.chart_machine_laws.proofs.ChartTables.{within_or_past}
 use Rattle.abort_expansion_laws.specs.CoreRows.{own, IsState, flags_around, Images, CoreRows}
 use Rattle.abort_expansion_laws.proofs.Owed.{RestsIn, rests_outside, rests_ended, rests_left, rests_trying, rests_staying, rests_within, rests_behind}
 use Rattle.abort_expansion_laws.proofs.Owed.{WatchRests, watch_within, watch_elsewhere, Resting}
 use Rattle.abort_expansion_laws.proofs.NumberedRegions.{past_regions, super_is_state}
-
-itself : (n : ℕ) → nat_eq n n ≡ true
-itself n = (Decides-eqb n n).1 refl
 
 one_number : (m n : ℕ) → nat_eq m n ≡ true → m ≡ n
 one_number m n e = (Decides-eqb m n).0 e
@@ -72,13 +70,14 @@ module _ (k core : Table) (i : Images) (rows : CoreRows k core i) (m : ℕ → O
   forth_at r s _ _ is (rests_ended inner) e = absurd cc
   forth_at r s _ _ is (rests_left u ss f over) e = absurd cc
   forth_at r s _ _ is (rests_trying u simple held) e =
-      subst InCore (one_number u s e) (in_main r u (simple.there) held (ap (λ w. stands_in w (i.main_of u)) is ∙ itself (i.main_of u)))
+      subst InCore (one_number u s e) (in_main r u (simple.there) held (ap (λ w. stands_in w (i.main_of u)) is ∙ same_number (i.main_of u)))
   forth_at r s _ _ is (rests_staying u tests super held stays) e =
-      subst InCore (one_number u s e) (in_main r u (super_is_state k u super) held (ap (λ w. stands_in w (i.main_of u)) is ∙ itself (i.main_of u)))
+      subst InCore (one_number u s e) (in_main r u (super_is_state k u super) held (ap (λ w. stands_in w (i.main_of u)) is ∙ same_number (i.main_of u)))
   forth_at r s _ _ is (rests_within u join tests super held stays still leads) e =
-      subst InCore (one_number u s e) (in_main r u (super_is_state k u super) held (ap (λ w. stands_in w (i.main_of u)) is ∙ itself (i.main_of u)))
+      subst InCore (one_number u s e) (in_main r u (super_is_state k u super) held (ap (λ w. stands_in w (i.main_of u)) is ∙ same_number (i.main_of u)))
   forth_at r s _ _ is (rests_behind u tests super held over) e =
-      subst InCore (one_number u s e) (in_behind r u (super_is_state k u super) over held (ap (λ w. stands_in w (i.behind_of u)) is ∙ itself (i.behind_of u)))
+      subst InCore (one_number u s e)
+      (in_behind r u (super_is_state k u super) over held (ap (λ w. stands_in w (i.behind_of u)) is ∙ same_number (i.behind_of u)))
 
   nowhere : (x : Standing) (s : ℕ) → x ≡ at.Outside → stands_in x s ≡ true → ⊥
   nowhere x s is e = let wrong : true ≡ false = sym e ∙ ap (λ w. stands_in w s) is in absurd cc
@@ -108,16 +107,17 @@ module _ (k core : Table) (i : Images) (rows : CoreRows k core i) (m : ℕ → O
   back_at r n s _ _ is (rests_ended inner) e mapped = absurd cc
   back_at r n s _ _ is (rests_left u ss f over) e mapped = absurd cc
   back_at r n s _ _ is (rests_trying u simple held) e mapped =
-      in_chart r u s (at.Trying u []) is held (same_state n u s mapped (ap m (sym (one_number (i.main_of u) n e)) ∙ maps.main_is u (simple.there))) (itself u)
+      in_chart r u s (at.Trying u []) is held
+      (same_state n u s mapped (ap m (sym (one_number (i.main_of u) n e)) ∙ maps.main_is u (simple.there))) (same_number u)
   back_at r n s _ _ is (rests_staying u tests super held stays) e mapped =
       in_chart r u s (at.Within u tests) is held
-      (same_state n u s mapped (ap m (sym (one_number (i.main_of u) n e)) ∙ maps.main_is u (super_is_state k u super))) (itself u)
+      (same_state n u s mapped (ap m (sym (one_number (i.main_of u) n e)) ∙ maps.main_is u (super_is_state k u super))) (same_number u)
   back_at r n s _ _ is (rests_within u join tests super held stays still leads) e mapped =
       in_chart r u s (at.Within u tests) is held
-      (same_state n u s mapped (ap m (sym (one_number (i.main_of u) n e)) ∙ maps.main_is u (super_is_state k u super))) (itself u)
+      (same_state n u s mapped (ap m (sym (one_number (i.main_of u) n e)) ∙ maps.main_is u (super_is_state k u super))) (same_number u)
   back_at r n s _ _ is (rests_behind u tests super held over) e mapped =
       in_chart r u s (at.Within u tests) is held (same_state n u s mapped
-      (ap m (sym (one_number (i.behind_of u) n e)) ∙ maps.behind_is u (super_is_state k u super) (is_split u over))) (itself u)
+      (ap m (sym (one_number (i.behind_of u) n e)) ∙ maps.behind_is u (super_is_state k u super) (is_split u over))) (same_number u)
 
   not_watching : (o n s : ℕ) → IsState k o → has_aborts (own k o) ≡ true → (x y : Standing) → WatchRests k core i o x y → stands_in y n ≡ true →
       m n ≡ Some s → ⊥

@@ -1,6 +1,7 @@
 -- A region with work goes on, and with it whatever lies in it: which stages are reached then, and by whom steps are still owed.
 use Rattle.std.proofs.Common.{◌≡◌, ◌≢◌, ℕ, ◌≤◌, ◌⊎◌, ⊎_elim, Bool, true, false, List, Contains, sym, subst, arith, if◌then◌else◌}
 use Rattle.std.specs.List.{list_any}
+use Rattle.scl_graph_laws.proofs.Searching.{unlike}
 use Rattle.core_charts.specs.declared.region.Transition.{Transition}
 use Rattle.core_charts.specs.Tests.{is_weak}
 use Rattle.core_charts.specs.Aborts.{has_aborts}
@@ -18,7 +19,6 @@ use Rattle.abort_expansion_laws.proofs.KnownVariables.{present_there}
 use Rattle.abort_expansion_laws.proofs.StageReached.{some_work, stage_of, Stage, any_in, inside_in, staged, either_rises}
 use Rattle.abort_expansion_laws.proofs.StagesInside.{none_comes}
 use Rattle.abort_expansion_laws.proofs.Pending.{IsBusy, Reached}
-use Rattle.abort_expansion_laws.proofs.Unchanged.{not_both}
 
 low_staged : (a b w : Bool) → b ≡ true → (if a then staged b w else 1) ≤ 1
 low_staged true true w e = omega arith
@@ -51,7 +51,7 @@ module _ (k core : Table) (i : Images) (tree : IsTree k) (c d : Configuration) (
   within_rises u tests out =
       either_rises (has_aborts (own k u)) (some_work k c u) (some_work k next u) (list_any (λ t. is_weak t.kind) tests)
       (λ idle.
-      ⊎_elim (λ round. absurd (not_both (some_work k c u) (has_some u round) idle))
+      ⊎_elim (λ round. absurd (unlike (some_work k c u) (has_some u round) idle))
       (λ apart.
       none_comes k core i tree.children c d related next u (λ q inner. same q (λ in_q. apart (inner_around q u in_q inner out))) idle)
       (contained (around k r) u))

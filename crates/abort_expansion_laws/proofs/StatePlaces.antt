@@ -11,8 +11,8 @@ use Rattle.chart_machine.specs.declared.table.RegionRow.{RegionRow}
 use Rattle.chart_machine.specs.declared.table.Table.{Table}
 use Rattle.chart_machine.specs.Table.{Subtree, region_at}
 use Rattle.chart_machine.specs.Table.{state_numbers}
+use Rattle.chart_machine.proofs.Outside.{within_or_past}
 use Rattle.chart_machine_laws.specs.Tree.{IsThere, holder}
-use Rattle.chart_machine_laws.proofs.ChartTables.{within_or_past}
 use Rattle.abort_expansion.specs.Pieces.{StatePiece}
 use Rattle.abort_expansion.specs.Expansion.{piece_of_state}
 use Rattle.abort_expansion.specs.Expansion.{begins_anew, initial_number}

@@ -20,6 +20,7 @@ use Rattle.chart_machine.specs.Machine.{machine}
 use Rattle.abort_expansion.specs.Flags.{aborts_around}
 use Rattle.abort_expansion.specs.Transitions.{put, counting, place_of, led}
 use Rattle.abort_expansion.specs.Superstates.{stays}
+use Rattle.chart_lowering_laws.proofs.Finished.{each_all}
 use Rattle.abort_expansion_laws.specs.Stages.{Entry, Image, Silent, Correspondence}
 use Rattle.abort_expansion_laws.proofs.Supplying.{climbs_fewer}
 use Rattle.abort_expansion_laws.proofs.Segments.{Segment}
@@ -34,7 +35,7 @@ use Rattle.abort_expansion_laws.proofs.StageReached.{Stage, holds_other, inside_
 use Rattle.abort_expansion_laws.proofs.StartingRegions.{CounterRows}
 use Rattle.abort_expansion_laws.proofs.EffectAhead.{BeginsAt}
 use Rattle.abort_expansion_laws.proofs.Owed.{Enters}
-use Rattle.abort_expansion_laws.proofs.InsideAround.{all_from, inside_around}
+use Rattle.abort_expansion_laws.proofs.InsideAround.{inside_around}
 use Rattle.abort_expansion_laws.proofs.Leaving.{drops, set_here, set_other, drops_in, drops_out, drops_length, terminated}
 use Rattle.abort_expansion_laws.proofs.StandsInside.{only_inside, inside_not_acting}
 use Rattle.abort_expansion_laws.proofs.DropsOut.{DropsOut, dropped_out}
@@ -92,8 +93,8 @@ module _ (k core : Table) (i : Images) (rows : CoreRows k core i) (tree : IsNest
   steps =
       terminated core d (i.thread_of r) (i.main_of s) (led (i.places_of r) t) (map (led (i.places_of r)) rest)
       (never_guarded k core i rows c d related (around core (i.thread_of r))) core_stands join no_trigger
-      (all_from (λ g. has_ended (standing_of d g)) (state_at core (i.main_of s)).regions child_over)
-      (all_from (λ g. not (has_work core d (standing_of d g))) (inside core (i.main_of s)) idle)
+      (each_all (λ g. has_ended (standing_of d g)) (state_at core (i.main_of s)).regions child_over)
+      (each_all (λ g. not (has_work core d (standing_of d g))) (inside core (i.main_of s)) idle)
 
   -- what is left when all inside is dropped
   abbrev from : List Standing

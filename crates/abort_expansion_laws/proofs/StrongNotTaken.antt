@@ -1,9 +1,7 @@
 -- A strong abort that is not taken, with another one behind it: the monitor makes the same test.
-use Rattle.std.proofs.Common.{◌≡◌, ℕ, inl, Bool, true, false, Option, Some, None, List, [], ◌∷◌, ◌++◌, map, slice_get, slice_set, refl, sym, ap, subst, ◌∙◌}
+use Rattle.std.proofs.Common.{◌≡◌, ℕ, inl, Bool, true, false, Some, None, List, [], ◌∷◌, ◌++◌, map, slice_get, slice_set, refl, sym, ap, subst, ◌∙◌}
 use Rattle.std.proofs.Common.{arith}
 use Rattle.std.proofs.lemmas.Option.{same_Some}
-use Rattle.sc_values.specs.declared.expression.Expr.{Expr}
-use Rattle.sc_values.specs.Access.{Nothing}
 use Rattle.sc_values.specs.Runs.{act_of}
 use Rattle.core_charts.specs.declared.region.Transition.{Transition}
 use Rattle.core_charts.specs.Tests.{strong_aborts, weak_aborts}
@@ -16,6 +14,7 @@ use Rattle.chart_machine.specs.Turns.{standing_of, has_work, is_guarded}
 use Rattle.chart_machine.specs.Steps.{to, after, verdict, change_of, step, access_of, access_of_trigger, state_in}
 use Rattle.chart_machine.specs.Machine.{machine}
 use Rattle.abort_expansion.specs.Transitions.{raising}
+use Rattle.compiled_charts_laws.proofs.Stands.{trigger_writes}
 use Rattle.abort_expansion_laws.specs.Stages.{Entry, Watched}
 use Rattle.abort_expansion_laws.proofs.Segments.{Segment}
 use Rattle.chart_machine_laws.proofs.LyingIn.{IsNested, around, holder}
@@ -32,10 +31,6 @@ use Rattle.abort_expansion_laws.proofs.ImageSteps.{pair}
 use Rattle.abort_expansion_laws.proofs.MonitorSteps.{WatchedStep, watched_segment}
 use Rattle.abort_expansion_laws.proofs.KnownVariables.{Stepped, stepped, present_there, trigger_known}
 use Rattle.abort_expansion_laws.proofs.TestFails.{tested_is, fails, watch_other}
-
-pub trigger_plain : (trigger : Option Expr) → (access_of_trigger trigger).writes ≡ Nothing
-trigger_plain None = refl
-trigger_plain (Some e) = refl
 
 -- ---- where a region guards, taken apart
 
@@ -183,7 +178,7 @@ module _ (k core : Table) (i : Images) (rows : CoreRows k core i) (tree : IsNest
         staged = inl refl;
         not_above = rw (stands) (omega arith);
         not_below = omega arith;
-        plain = trigger_plain t.trigger;
+        plain = trigger_writes t.trigger;
         works = works;
         free = free;
         steps =

@@ -4,6 +4,7 @@ use Rattle.std.specs.Prelude.{slice_index_or}
 use Rattle.sc_values.specs.declared.value.Value.{Value}
 use Rattle.sc_values.specs.declared.operator.Combination.{Combination}
 use Rattle.sc_values.specs.Access.{Access, Nothing, Init, Update, no_access}
+use Rattle.chart_machine_laws.proofs.LyingIn.{none_in}
 use Rattle.abort_expansion_laws.specs.Stages.{Entry, Correspondence, core_act, Touches, InitsFlag, UpdatesFlag}
 use Rattle.abort_expansion_laws.specs.Stages.{ReadsFlag, IsSilent, HasStage, ReachedAfter, Climbs}
 
@@ -44,9 +45,6 @@ sets x v = record { reads = []; writes = Init x (Some v) }
 
 abbrev pub combines : ℕ → Combination → Access
 combines x f = record { reads = []; writes = Update x f }
-
-none_in : (x : ℕ) → Contains [] x → ⊥
-none_in x h = let lt = h.1 in absurd (omega arith)
 
 only_in : (x y : ℕ) → Contains (y ∷ []) x → y ≡ x
 only_in x y h = at h.0 h.1 h.2

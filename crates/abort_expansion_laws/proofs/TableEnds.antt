@@ -1,5 +1,5 @@
 -- First states of regions, what is past the end of a table, and that who has aborts has flags.
-use Rattle.std.proofs.Common.{◌≡◌, ℕ, zero, suc, ◌<◌, ◌≤◌}
+use Rattle.std.proofs.Common.{◌≡◌, ℕ, zero, suc, ◌≤◌}
 use Rattle.std.proofs.Common.{Bool, true, false, ◌||◌, ◌&&◌, Option, Some, List, [], ◌∷◌}
 use Rattle.std.proofs.Common.{length, slice_get, unwrap_or, refl, ap, subst, ◌∙◌, arith}
 use Rattle.std.specs.Prelude.{filter}
@@ -14,6 +14,7 @@ use Rattle.chart_machine.specs.declared.table.RegionRow.{RegionRow}
 use Rattle.chart_machine.specs.declared.table.Table.{Table}
 use Rattle.chart_machine.specs.Table.{table, whole, region_at}
 use Rattle.chart_machine_laws.specs.Tree.{IsThere, around, holder}
+use Rattle.chart_machine_laws.proofs.ChartTables.{row_there}
 use Rattle.abort_expansion.specs.declared.flags.Flags.{Flags}
 use Rattle.abort_expansion.specs.Flags.{has_join, given, weak_around, aborts_around, is_there}
 use Rattle.core_charts.specs.Aborts.{has_aborts}
@@ -25,11 +26,6 @@ use Rattle.abort_expansion_laws.proofs.ChartWalk.{rows_have, HasState}
 
 pub region_is : (k : Table) (j : ℕ) (row : RegionRow) → slice_get k.regions j ≡ Some row → region_at k (suc j) ≡ row
 region_is k j row e = ap (λ o. unwrap_or o (record { around = []; states = [] })) e
-
-pub row_there : (rows : List RegionRow) (j : ℕ) → j < length rows → (row : RegionRow) × (slice_get rows j ≡ Some row)
-row_there [] j lt = absurd (omega (lt, arith))
-row_there (x ∷ rows) zero lt = (x, refl)
-row_there (x ∷ rows) (suc j) lt = row_there rows j (omega (lt, arith))
 
 pub first_state : (f : Rattle.core_charts.specs.declared.features.Features.Features) (c : Chart) → IsChart f c → (r : ℕ) → IsThere (table c) r →
     (s : ℕ) × ((more : List ℕ) × ((region_at (table c) r).states ≡ s ∷ more))
@@ -55,10 +51,6 @@ no_entered_past k s past =
       entered = [];
       opened = [];
     })).entered) (slice_get_past k.states s past)
-
-pub no_states_past : (k : Table) (r : ℕ) → length k.regions ≤ r → (region_at k (suc r)).states ≡ []
-no_states_past k r past =
-    ap (λ (o : Option RegionRow). (unwrap_or {T = RegionRow} o (record { around = []; states = [] })).states) (slice_get_past k.regions r past)
 
 -- ---- who has aborts has flags
 

@@ -9,6 +9,7 @@ use Rattle.chart_machine.specs.Table.{state_at}
 use Rattle.chart_machine.specs.Turns.{standing_of, has_ended, has_work, is_guarded, LiesIn}
 use Rattle.chart_machine.specs.Steps.{state_in}
 use Rattle.chart_machine_laws.specs.Tree.{around}
+use Rattle.chart_lowering_laws.proofs.Entering.{moved_length}
 use Rattle.abort_expansion_laws.specs.CoreRows.{is_final, Images}
 use Rattle.abort_expansion_laws.specs.Related.{Related}
 use Rattle.abort_expansion_laws.specs.StageReached.{stage_of}
@@ -18,7 +19,6 @@ use Rattle.abort_expansion_laws.proofs.ChartEntered.{Stood, stood_of}
 use Rattle.abort_expansion_laws.proofs.Arrives.{Arrives}
 use Rattle.abort_expansion_laws.proofs.TargetEntered.{next, core_next, there, held, here, chart_none, in_none, core_held, core_is_state, chart_begins_there}
 use Rattle.abort_expansion_laws.proofs.TargetEntered.{target_goes, target_sort}
-use Rattle.abort_expansion_laws.proofs.Leaving.{moved_size}
 
 module _ (k core : Table) (i : Images) (more : EntryRows k core i) (c d : Configuration) (related : Related k core i c d) (r s p : ℕ) (e : Effect)
     (stands : standing_of c r ≡ at.Acting s (e ∷ []) p) (free : is_guarded k c (around k r) ≡ false) (values : List Value)
@@ -34,8 +34,8 @@ module _ (k core : Table) (i : Images) (more : EntryRows k core i) (c d : Config
         low = subst (λ z. stage_of k c z ≤ 1) (sym stands) (omega arith);
         free = free;
         none = λ q y inner its. chart_none k core i more c d related r (in_none k core i more c d related r s p e stands values open_ends) q y inner its;
-        chart_regions = moved_size (state_at k (state_in k r p)).entered c.regions ∙ related.chart_regions;
-        core_regions = moved_size (state_at core (i.entry_of (state_in k r p))).entered d.regions ∙ related.core_regions;
+        chart_regions = moved_length (state_at k (state_in k r p)).entered c.regions ∙ related.chart_regions;
+        core_regions = moved_length (state_at core (i.entry_of (state_in k r p))).entered d.regions ∙ related.core_regions;
         chart_values = refl;
         core_values = same_values;
         unchanged = λ q out.

@@ -2,6 +2,7 @@
 use Rattle.std.proofs.Common.{◌≡◌, ◌≢◌, ℕ, suc, ◌⊎◌, inl, inr, ⊎_elim, Bool, true, false, List, [], ◌∷◌, length, Contains, refl, sym, ap, subst}
 use Rattle.std.proofs.Common.{◌∙◌, arith}
 use Rattle.sc_values.specs.declared.value.Value.{Value}
+use Rattle.scl_graph_laws.proofs.Searching.{unlike}
 use Rattle.core_charts.specs.declared.region.Effect.{Effect}
 use Rattle.core_charts.specs.declared.region.Transition.{Transition}
 use Rattle.core_charts.specs.Aborts.{has_aborts}
@@ -19,7 +20,7 @@ use Rattle.chart_machine_laws.proofs.ChartTables.{around_there}
 use Rattle.abort_expansion_laws.specs.CoreRows.{own, IsState, is_final, IsSuper, Images, flags_around, ends}
 use Rattle.abort_expansion_laws.specs.Related.{Related, Stands, outside, ended, left, trying, acting, entering, guarding, staying, within, behind, Watches}
 use Rattle.abort_expansion_laws.specs.Related.{guards, waits, looks_strong, looks, elsewhere, IsInside, guarded, open_inside}
-use Rattle.abort_expansion_laws.proofs.Unchanged.{nobody_lies, not_both}
+use Rattle.abort_expansion_laws.proofs.Unchanged.{nobody_lies}
 use Rattle.abort_expansion_laws.proofs.KnownVariables.{present_there}
 use Rattle.abort_expansion_laws.proofs.EffectFollowed.{IsActing, acting_back}
 use Rattle.abort_expansion_laws.proofs.Owed.{chart_enters, core_enters}
@@ -198,5 +199,5 @@ module _ (k core : Table) (i : Images) (more : EntryRows k core i) (c d : Config
     target_sort =
         subst (Sort k core i more.rows (suc (length k.regions)) (suc (length core.regions)) (standing_of next) (standing_of core_next)) held
         (sort_of k core i more.rows (suc (length k.regions)) (suc (length core.regions)) (standing_of next) (standing_of core_next) x (i.entry_of x) here
-        (entry_held x here open_ends) (comes_there refl (λ final. absurd (not_both (is_final k x) final open_ends))) chart_begins_there core_begins_there
+        (entry_held x here open_ends) (comes_there refl (λ final. absurd (unlike (is_final k x) final open_ends))) chart_begins_there core_begins_there
         (more.entries x here))

@@ -18,6 +18,7 @@ use Rattle.chart_machine.specs.Machine.{machine}
 use Rattle.abort_expansion.specs.Transitions.{put, go, is_number, weak_checks}
 use Rattle.abort_expansion.specs.Superstates.{stays, all_ended}
 use Rattle.tick_laws.proofs.Lists.{same_or_not, contained, contains_map}
+use Rattle.chart_lowering_laws.proofs.Finished.{each_all}
 use Rattle.abort_expansion_laws.specs.Stages.{Entry, Silent, Correspondence, IsSilent}
 use Rattle.abort_expansion_laws.proofs.Supplying.{silent_test, tests, climbs_fewer}
 use Rattle.abort_expansion_laws.proofs.Segments.{Segment}
@@ -37,7 +38,7 @@ use Rattle.abort_expansion_laws.proofs.KnownVariables.{in_either}
 use Rattle.abort_expansion_laws.proofs.StartingRegions.{CounterRows}
 use Rattle.abort_expansion_laws.proofs.LeftTests.{kept_is}
 use Rattle.abort_expansion_laws.proofs.LaterTicks.{weak_no_join}
-use Rattle.abort_expansion_laws.proofs.InsideAround.{all_from, inside_around}
+use Rattle.abort_expansion_laws.proofs.InsideAround.{inside_around}
 use Rattle.abort_expansion_laws.proofs.Leaving.{drops, at_number, set_here, set_other, drops_in, drops_out, drops_length, leaves, joined}
 use Rattle.chart_machine_laws.proofs.ChartTables.{around_there}
 use Rattle.abort_expansion_laws.proofs.TerminationNext as next
@@ -286,8 +287,8 @@ module _ (k core : Table) (i : Images) (rows : CoreRows k core i) (tree : IsNest
   joins_it =
       joined core monitor_ends.last (i.thread_of r) (i.main_of s) j (at.Trying (i.behind_of s) (at_once (behind_transitions k core i r s)))
       (unguarded core monitor_ends.last quiet0 (around core (i.thread_of r))) home0
-      (all_from (λ g. has_ended (standing_of monitor_ends.last g)) (state_at core (i.main_of s)).regions child_over0)
-      (all_from (λ g. not (has_work core monitor_ends.last (standing_of monitor_ends.last g))) (inside core (i.main_of s)) idle0) enters
+      (each_all (λ g. has_ended (standing_of monitor_ends.last g)) (state_at core (i.main_of s)).regions child_over0)
+      (each_all (λ g. not (has_work core monitor_ends.last (standing_of monitor_ends.last g))) (inside core (i.main_of s)) idle0) enters
 
   -- ---- what is reached: nobody is inside, all others stand as before
 

@@ -3,7 +3,6 @@ use Rattle.std.proofs.Common.{◌≡◌, ℕ, ◌⊎◌, inl, inr, ⊎_elim, Boo
 use Rattle.std.proofs.Common.{refl, sym, ap, subst, ◌∙◌}
 use Rattle.std.specs.Prelude.{filter}
 use Rattle.std.specs.List.{list_all, list_any}
-use Rattle.std.proofs.lemmas.Bool.{and_parts}
 use Rattle.core_charts.specs.declared.region.Transition.{Transition}
 use Rattle.core_charts.specs.Tests.{terminations, is_join}
 use Rattle.core_charts.specs.Aborts.{has_aborts}
@@ -16,6 +15,7 @@ use Rattle.chart_machine.specs.Turns.{standing_of, has_ended, has_work}
 use Rattle.abort_expansion.specs.Flags.{has_join}
 use Rattle.abort_expansion.specs.Superstates.{stays}
 use Rattle.chart_machine_laws.proofs.LyingIn.{IsNested, around, holder, none_in, head_or_tail, head_in, tail_in}
+use Rattle.chart_lowering_laws.proofs.Finished.{all_each}
 use Rattle.abort_expansion_laws.proofs.TablesCorrespond.{IsThere}
 use Rattle.chart_machine_laws.proofs.ChartTables.{around_there}
 use Rattle.abort_expansion_laws.specs.CoreRows.{own, IsState, Images, CoreRows, flags_around}
@@ -30,12 +30,6 @@ use Rattle.abort_expansion_laws.proofs.ThreadsAround.{region_within}
 -- it has ended, or is outside
 abbrev pub IsOver : Standing → Type 0
 IsOver x = (x ≡ at.Ended) ⊎ (x ≡ at.Outside)
-
-all_in : (p : ℕ → Bool) (xs : List ℕ) → list_all p xs ≡ true → (y : ℕ) → Contains xs y → p y ≡ true
-all_in p [] e y h = absurd (none_in y h)
-all_in p (x ∷ xs) e y h =
-    let both = and_parts (p x) (list_all p xs) e in
-    ⊎_elim (λ same. ap p (sym same) ∙ both.0) (λ tail. all_in p xs both.1 y tail) (head_or_tail x y xs h)
 
 once_in : (r : ℕ) (xs : List ℕ) → Once r xs → Contains xs r
 once_in r [] once = absurd once
@@ -91,7 +85,7 @@ module _ (k core : Table) (i : Images) (rows : CoreRows k core i) (tree : IsNest
       subst (λ b. (not b || list_all (λ q. has_ended (standing_of c q)) (state_at k s).regions) ≡ true) join may
 
   pub child_ended : (q : ℕ) → Contains (state_at k s).regions q → standing_of c q ≡ at.Ended
-  child_ended q h = ended_back (standing_of c q) (all_in (λ p. has_ended (standing_of c p)) (state_at k s).regions all_ended q h)
+  child_ended q h = ended_back (standing_of c q) (all_each (λ p. has_ended (standing_of c p)) (state_at k s).regions all_ended q h)
 
   under_over : (q u : ℕ) → IsThere k q → Contains (around k q) u → IsOver (standing_of c (holder k u)) → IsOver (standing_of c q)
   under_over q u there around_it over =

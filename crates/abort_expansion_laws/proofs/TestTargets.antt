@@ -20,10 +20,11 @@ use Rattle.chart_machine.specs.declared.table.Table.{Table}
 use Rattle.chart_machine.specs.declared.table.TablePosition.{TablePosition}
 use Rattle.chart_machine.specs.Table.{Subtree, table, whole, region_at, side_by_side, behind, within, inside_region, states_in, next_behind}
 use Rattle.chart_machine.specs.Table.{past_states, regions_in_initial, region_subtree, state_subtree, subtree_of_region, subtree_of_state}
+use Rattle.chart_machine.proofs.Outside.{within_or_past}
 use Rattle.chart_machine_laws.specs.Tree.{holder}
 use Rattle.chart_machine_laws.proofs.RowsOfSubtrees.{Holds, IsSized, AllSized, state_sized, region_sized, side_states}
 use Rattle.chart_machine_laws.proofs.TableTrees.{OnceInitial}
-use Rattle.chart_machine_laws.proofs.ChartTables.{holds_whole, within_or_past}
+use Rattle.chart_machine_laws.proofs.ChartTables.{holds_whole}
 use Rattle.abort_expansion_laws.specs.CoreRows.{own}
 use Rattle.abort_expansion_laws.proofs.InRegionRows.{InRegionAt, first_holds, rest_holds, position_of}
 use Rattle.abort_expansion_laws.proofs.SideRows.{side_head, side_tail}

@@ -36,16 +36,9 @@ use Rattle.abort_expansion_laws.proofs.WokenConfigurations.{IsLocal}
 use Rattle.abort_expansion_laws.proofs.WokenConfigurations.{woken_at, woken_ended, guards_then}
 use Rattle.abort_expansion_laws.proofs.WokenConfigurations.{open_then, behind_too}
 use Rattle.abort_expansion_laws.proofs.NumberedRegions.{is_region}
+use Rattle.abort_expansion_laws.proofs.JoinsFork.{no_chosen}
 
 -- ---- of transitions
-
-pub kept_none : (P : Transition → Bool) (ts : List Transition) → list_any P ts ≡ false → filter P ts ≡ []
-kept_none P [] e = refl
-kept_none P (t ∷ ts) e = by_own (P t) refl e (λ rest. kept_none P ts rest)
-  where
-    by_own : (b : Bool) → P t ≡ b → (P t || list_any P ts) ≡ false → (list_any P ts ≡ false → filter P ts ≡ []) → filter P (t ∷ ts) ≡ []
-    by_own true is e rest = let wrong : true ≡ false = subst (λ b. (b || list_any P ts) ≡ false) is e in absurd cc
-    by_own false is e rest = rw (is) (rest (subst (λ b. (b || list_any P ts) ≡ false) is e))
 
 pub some_kept : (P : Transition → Bool) (ts : List Transition) → list_any P ts ≡ true → (t : Transition) × ((more : List Transition) × (filter P ts ≡ t ∷ more))
 some_kept P [] e = absurd cc
@@ -177,7 +170,7 @@ module _ (k core : Table) (i : Images) (rows : CoreRows k core i) (lone : AloneR
       subst (λ zs. Stands k core i c r (at.Trying s (own k s)) (at.Trying (i.main_of s) zs)) (sym tests) (trying s (own k s) simple held)
   wakes r is _ _ e (rests_staying s tests super held stay) =
       let plain = or_parts (has_strong (own k s)) (has_weak (own k s)) (not_stays s (flags_around k core i r) stay) in
-      let strong : strong_aborts (own k s) ≡ [] = kept_none (λ t. is_strong t.kind) (own k s) plain.0 in
+      let strong : strong_aborts (own k s) ≡ [] = no_chosen (λ t. is_strong t.kind) (own k s) plain.0 in
       let chart : woken k (at.Within s tests) ≡ at.Within s (closing_tests (own k s)) = open_then k s tests strong in
       let here : IsState k s = state_of s super in
       let fork = rows.staying s here super (subst (λ q. stays (flags_around k core i q) (own k s) ≡ true) (sym held) stay) in
@@ -223,7 +216,7 @@ module _ (k core : Table) (i : Images) (rows : CoreRows k core i) (lone : AloneR
           by_has : (b : Bool) → has_strong (own k s) ≡ b → (has_strong (own k s) || has_weak (own k s)) ≡ true
           by_has true is = rw (is) refl
           by_has false is =
-              let none : strong_aborts (own k s) ≡ [] = kept_none (λ t. is_strong t.kind) (own k s) is in
+              let none : strong_aborts (own k s) ≡ [] = no_chosen (λ t. is_strong t.kind) (own k s) is in
               let wrong : t ∷ more ≡ [] = sym e ∙ none in absurd cc
 
       by_strong : (strong : List Transition) → strong_aborts (own k s) ≡ strong →
@@ -240,9 +233,9 @@ module _ (k core : Table) (i : Images) (rows : CoreRows k core i) (lone : AloneR
       let now : is_behind k core i c s ≡ true = behind_is s ∙ over in
       let parts = parts_behind s now in
       let two = or_parts (has_strong (own k s)) (has_weak (own k s)) parts.0 in
-      let strong : strong_aborts (own k s) ≡ [] = kept_none (λ t. is_strong t.kind) (own k s) two.0 in
-      let weak : weak_aborts (own k s) ≡ [] = kept_none (λ t. is_weak t.kind) (own k s) two.1 in
-      let ends : terminations (own k s) ≡ [] = kept_none (λ t. is_join t.kind) (own k s) parts.1 in
+      let strong : strong_aborts (own k s) ≡ [] = no_chosen (λ t. is_strong t.kind) (own k s) two.0 in
+      let weak : weak_aborts (own k s) ≡ [] = no_chosen (λ t. is_weak t.kind) (own k s) two.1 in
+      let ends : terminations (own k s) ≡ [] = no_chosen (λ t. is_join t.kind) (own k s) parts.1 in
       let chart : woken k (at.Within s tests) ≡ at.Within s (closing_tests (own k s)) = open_then k s tests strong in
       let present : standing_of before r ≢ at.Outside = present_of r (at.Within s tests) e (λ out. absurd (cc)) in
       let apart : stays (flags_around k core i (holder k s)) (own k s) ≡ false =

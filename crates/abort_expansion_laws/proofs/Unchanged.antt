@@ -162,10 +162,6 @@ module _ (k core : Table) (i : Images) (rows : CoreRows k core i) (c d : Configu
 
 -- ---- whose turn it is, by whom nobody guards
 
-pub not_both : (b : Bool) → b ≡ true → b ≡ false → ⊥
-not_both true e f = absurd cc
-not_both false e f = absurd cc
-
 pub none_among : (p : ℕ → Bool) (xs : List ℕ) (y : ℕ) → list_any p xs ≡ false → Contains xs y → p y ≡ false
 none_among p [] y e h = absurd (none_in y h)
 none_among p (x ∷ xs) y e h =

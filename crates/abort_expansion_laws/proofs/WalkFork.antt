@@ -28,6 +28,7 @@ use Rattle.core_charts.specs.Aborts.{has_aborts, has_weak}
 use Rattle.abort_expansion.specs.Pieces.{expanded_regions, variables_in}
 use Rattle.abort_expansion.specs.Superstates.{stays, is_prepared, within, forked, fork, watched, monitor, monitor_transitions, continuation}
 use Rattle.abort_expansion.specs.Expansion.{piece_of_region}
+use Rattle.abort_expansion.proofs.Inner.{weak_inside}
 use Rattle.chart_machine_laws.specs.Tree.{IsThere, around, holder}
 use Rattle.chart_machine_laws.proofs.RowsOfSubtrees.{Holds, IsSized, AllSized, state_sized}
 use Rattle.chart_machine_laws.proofs.TableTrees.{NoneInitial, OnceInitial}
@@ -45,7 +46,7 @@ use Rattle.abort_expansion_laws.proofs.WalkSide.{walk_side}
 use Rattle.abort_expansion_laws.proofs.LocalImages.{Located, split_image, preparing, continuing}
 use Rattle.abort_expansion_laws.proofs.WalkSimple.{state_there, region_there, located, one_row, one_sized, one_begins, one_state}
 use Rattle.abort_expansion_laws.proofs.RowsOfForks.{some_regions, super_row, watching, MonitorRows}
-use Rattle.abort_expansion_laws.proofs.FlagOwners.{flag_owners, owners_long, declarations_long, flags_owned, flags_declared, owners_range, weak_inside}
+use Rattle.abort_expansion_laws.proofs.FlagOwners.{flag_owners, owners_long, declarations_long, flags_owned, flags_declared, owners_range}
 use Rattle.abort_expansion_laws.proofs.AddedMonitors.{watched_sized, no_entries, watched_many, watched_numbers, monitor_there}
 use Rattle.abort_expansion_laws.proofs.AddedMonitors.{none_first, first_around, numbers_many, watched_entered}
 use Rattle.abort_expansion_laws.proofs.EnteredAlike.{AreEntered, watcher_enters, OpensAlike}

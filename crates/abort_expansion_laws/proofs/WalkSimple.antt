@@ -11,6 +11,7 @@ use Rattle.chart_machine.specs.declared.table.RegionRow.{RegionRow}
 use Rattle.chart_machine.specs.declared.table.Table.{Table}
 use Rattle.chart_machine.specs.declared.table.TablePosition.{TablePosition}
 use Rattle.chart_machine.specs.Table.{Subtree, state_at, region_at, states_in, subtree_of_state as table_of_state, state_subtree as table_state_piece}
+use Rattle.chart_machine.proofs.Outside.{within_or_past}
 use Rattle.abort_expansion.specs.declared.flags.Flags.{Flags}
 use Rattle.abort_expansion.specs.declared.places.RegionPlaces.{RegionPlaces}
 use Rattle.abort_expansion.specs.declared.pieces.NextNumbers.{NextNumbers}
@@ -19,7 +20,6 @@ use Rattle.core_charts.specs.Aborts.{has_aborts}
 use Rattle.abort_expansion.specs.Superstates.{simple_transitions, simple}
 use Rattle.chart_machine_laws.specs.Tree.{IsThere, holder}
 use Rattle.chart_machine_laws.proofs.RowsOfSubtrees.{Holds, IsSized, state_sized}
-use Rattle.chart_machine_laws.proofs.ChartTables.{within_or_past}
 use Rattle.abort_expansion_laws.specs.CoreRows.{own, IsState, is_final, IsSuper, IsSimple, simple_row, Images, flags_around}
 use Rattle.abort_expansion_laws.specs.CoreRows.{SimpleImage, FinalImage, StayingImage, SplitImage}
 use Rattle.abort_expansion_laws.proofs.SimpleRows.{rolled, rolled_piece}

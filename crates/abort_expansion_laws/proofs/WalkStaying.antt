@@ -28,6 +28,8 @@ use Rattle.abort_expansion.specs.Transitions.{led}
 use Rattle.abort_expansion.specs.Pieces.{expanded_regions, variables_in}
 use Rattle.abort_expansion.specs.Superstates.{stays, within, as_it_is}
 use Rattle.abort_expansion.specs.Expansion.{piece_of_region}
+use Rattle.abort_expansion.proofs.Inner.{weak_inside}
+use Rattle.abort_expansion.proofs.Assembled.{weak_none}
 use Rattle.chart_machine_laws.specs.Tree.{holder}
 use Rattle.chart_machine_laws.proofs.RowsOfSubtrees.{Holds, IsSized, state_sized}
 use Rattle.abort_expansion_laws.specs.CoreRows.{own, IsState, is_final, ends, IsSuper, fork_row}
@@ -41,10 +43,8 @@ use Rattle.abort_expansion_laws.proofs.WalkSide.{walk_side}
 use Rattle.abort_expansion_laws.proofs.LocalImages.{Located, staying_image}
 use Rattle.abort_expansion_laws.proofs.WalkSimple.{state_there, located}
 use Rattle.abort_expansion_laws.proofs.RowsOfForks.{some_regions, super_row}
-use Rattle.abort_expansion_laws.proofs.FlagOwners.{weak_inside}
 use Rattle.abort_expansion_laws.proofs.AddedMonitors.{first_around, numbers_many}
 use Rattle.abort_expansion_laws.proofs.EnteredAlike.{AreEntered, unwatched, OpensAlike}
-use Rattle.abort_expansion_laws.proofs.WeakSeen.{none_around}
 
 -- ---- who stays has no aborts, and none are around it
 
@@ -61,7 +61,7 @@ pub has_none : (flags : List Flags) (all : List Transition) → stays flags all 
 has_none flags all stay =
     let both = or_parts (has_aborts all) (aborts_around flags) (not-true (has_aborts all || aborts_around flags) stay) in
     let two = or_parts (has_strong all) (has_weak all) both.0 in
-    record { strong = two.0; weak = two.1; counted = rw (two.0, two.1, none_around flags both.1) (and_false (has_join all)) }
+    record { strong = two.0; weak = two.1; counted = rw (two.0, two.1, weak_none flags both.1) (and_false (has_join all)) }
   where
     and_false : (b : Bool) → (b && false) ≡ false
     and_false true = refl

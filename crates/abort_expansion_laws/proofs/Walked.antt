@@ -8,6 +8,7 @@ use Rattle.chart_machine.specs.declared.table.TablePosition.{TablePosition}
 use Rattle.chart_machine.specs.Table.{state_at, region_at, region_numbers, subtree_of_region as table_of_region}
 use Rattle.chart_machine.specs.Steps.{state_in, to}
 use Rattle.chart_machine.specs.declared.standing.Standing.TheVariants as at
+use Rattle.chart_machine.proofs.Outside.{within_or_past}
 use Rattle.abort_expansion.specs.declared.flags.Flags.{Flags}
 use Rattle.abort_expansion.specs.declared.places.RegionPlaces.{RegionPlaces}
 use Rattle.abort_expansion.specs.Flags.{has_join, flags_of, weak_around, local}
@@ -97,14 +98,11 @@ module _ {X : Type 0} (f : ℕ → X) where
 abbrev pub Range : (ℕ → Type 0) → ℕ → ℕ → Type 0
 Range P low high = (n : ℕ) → low ≤ n → n < high → P n
 
-pub below_or_not : (n m : ℕ) → (n < m) ⊎ (m ≤ n)
-below_or_not n m = grind arith
-
 pub range_none : (P : ℕ → Type 0) (n m : ℕ) → m ≤ n → Range P n m
 range_none P n m le i low high = absurd (omega (low, high, le, arith))
 
 pub range_both : (P : ℕ → Type 0) (a b c : ℕ) → Range P a b → Range P b c → Range P a c
-range_both P a b c first second n low high = ⊎_elim (λ lt. first n low lt) (λ le. second n le high) (below_or_not n b)
+range_both P a b c first second n low high = ⊎_elim (λ lt. first n low lt) (λ le. second n le high) (within_or_past n b)
 
 pub range_to : (P : ℕ → Type 0) (a b c : ℕ) → b ≡ c → Range P a b → Range P a c
 range_to P a b c e h = subst (Range P a) e h

@@ -39,8 +39,8 @@ use Rattle.abort_expansion_laws.proofs.InsideAround.{one_in_other}
 use Rattle.abort_expansion_laws.proofs.StageReached.{holds_other}
 use Rattle.abort_expansion_laws.proofs.WeakSeen as seen
 use Rattle.abort_expansion_laws.proofs.MonitorsLeave as monitors
-use Rattle.abort_expansion_laws.proofs.WeakSeen.{any_none, some_still_in}
-use Rattle.abort_expansion_laws.proofs.Unchanged.{none_among}
+use Rattle.abort_expansion_laws.proofs.WeakSeen.{some_still_in}
+use Rattle.abort_expansion_laws.proofs.Unchanged.{none_among, none_are}
 use Rattle.abort_expansion_laws.proofs.NumberedRegions.{super_is_state}
 
 module _ (k core : Table) (i : Images) (rows : CoreRows k core i) (lone : AloneRows k core i) (tree : IsNested k)
@@ -113,7 +113,7 @@ module _ (k core : Table) (i : Images) (rows : CoreRows k core i) (lone : AloneR
 
   not_guarded : (q : ℕ) → IsThere k q → Contains (around k q) o → standing_of c q ≢ at.Outside → is_guarded k c (around k q) ≡ false
   not_guarded q there in_o present =
-      any_none (λ s. guards (standing_of c (holder k s))) (around k q)
+      none_are (λ s. guards (standing_of c (holder k s))) (around k q)
       (λ s h on. by_inside s h (standing_of c (holder k s)) refl (related.enclosed q s there present h) on)
     where
       by_inside : (s : ℕ) → Contains (around k q) s → (w : Standing) → standing_of c (holder k s) ≡ w → IsInside k core i s w → guards w ≡ true → ⊥

@@ -1,7 +1,6 @@
 -- A weak abort that is not taken: when nobody inside has anything left to do, the monitor makes the same test.
 use Rattle.std.proofs.Common.{◌≡◌, ◌≢◌, ℕ, ◌≤◌, inr, Bool, true, false, Some, None, List, [], ◌∷◌, ◌++◌, map, slice_get, slice_set, Contains, ⊎_elim, not}
 use Rattle.std.proofs.Common.{◌&&◌, ◌||◌, refl, sym, ap, subst, ◌∙◌, arith, if◌then◌else◌}
-use Rattle.std.specs.Prelude.{filter}
 use Rattle.std.specs.List.{list_all, list_any}
 use Rattle.std.proofs.lemmas.Option.{same_Some}
 use Rattle.std.proofs.lemmas.Bool.{and_parts, not-true}
@@ -18,6 +17,8 @@ use Rattle.chart_machine.specs.Steps.{to, after, verdict, change_of, step, acces
 use Rattle.chart_machine.specs.Machine.{machine}
 use Rattle.abort_expansion.specs.Flags.{aborts_around}
 use Rattle.abort_expansion.specs.Superstates.{stays}
+use Rattle.chart_lowering_laws.proofs.ByRegions.{chosen_first}
+use Rattle.compiled_charts_laws.proofs.Stands.{trigger_writes}
 use Rattle.abort_expansion_laws.specs.Stages.{Entry, Watched}
 use Rattle.abort_expansion_laws.proofs.Segments.{Segment}
 use Rattle.chart_machine_laws.proofs.LyingIn.{IsNested, around, holder, head_in, tail_in}
@@ -32,7 +33,6 @@ use Rattle.abort_expansion_laws.proofs.Unchanged.{SameShape, stands_same, stands
 use Rattle.abort_expansion_laws.proofs.StageReached.{Stage, some_work, has_work_same, holds_other}
 use Rattle.abort_expansion_laws.proofs.InsideAround.{inside_around}
 use Rattle.tick_laws.proofs.Lists.{same_or_not}
-use Rattle.abort_expansion_laws.proofs.StrongNotTaken.{trigger_plain}
 use Rattle.abort_expansion_laws.proofs.ImageSteps.{pair}
 use Rattle.abort_expansion_laws.proofs.MonitorSteps.{WatchedStep, watched_segment}
 use Rattle.abort_expansion_laws.proofs.KnownVariables.{Stepped, stepped, present_there, trigger_known}
@@ -148,21 +148,12 @@ just_two true true e f = omega arith
 just_two true false e f = absurd cc
 just_two false b e f = absurd cc
 
--- once a weak test has failed, the rest still ends with the termination
-filter_first : (p : Transition → Bool) (xs : List Transition) (t : Transition) (ts : List Transition) → filter p xs ≡ t ∷ ts → p t ≡ true
-filter_first p [] t ts e = absurd cc
-filter_first p (x ∷ xs) t ts e = by_bool (p x) refl e (λ f. filter_first p xs t ts f)
-  where
-    by_bool : (b : Bool) → p x ≡ b → (if b then x ∷ filter p xs else filter p xs) ≡ t ∷ ts → (filter p xs ≡ t ∷ ts → p t ≡ true) → p t ≡ true
-    by_bool true is f rest = let same : x ≡ t = cc in ap p (sym same) ∙ is
-    by_bool false is f rest = rest f
-
 closes_on : (k core : Table) (i : Images) (o : ℕ) (t : Transition) (tests : List Transition) → is_join t.kind ≡ false → Closes k core i o (t ∷ tests) →
     Closes k core i o tests
 closes_on k core i o t tests none closes = by_some closes.some closes.no_join closes.are
   where
     by_some : (some : List Transition) → Each (λ z. is_join z.kind ≡ false) some → t ∷ tests ≡ some ++ terminations (own k o) → Closes k core i o tests
-    by_some [] weak e = let wrong : true ≡ false = sym (filter_first (λ z. is_join z.kind) (own k o) t tests (sym e)) ∙ none in absurd cc
+    by_some [] weak e = let wrong : true ≡ false = sym (chosen_first (λ z. is_join z.kind) (own k o) t tests (sym e)) ∙ none in absurd cc
     by_some (u ∷ some) weak e = let rest : tests ≡ some ++ terminations (own k o) = cc in record { some = some; no_join = weak.1; are = rest }
 
 module _ (k core : Table) (i : Images) (rows : CoreRows k core i) (tree : IsNested k) (counts : ℕ → Bool) (written_at : ℕ → ℕ)
@@ -275,7 +266,7 @@ module _ (k core : Table) (i : Images) (rows : CoreRows k core i) (tree : IsNest
         not_above = let calm = (idle done).0 in rw (stands, calm) (just_two (has_aborts (own k o)) (list_any (λ z. is_weak z.kind) (t ∷ tests)) has
             (rw (weak) refl));
         not_below = let calm = (idle done).1 in rw (calm) (two_or_three (has_aborts (own k o)) (list_any (λ z. is_weak z.kind) tests) has);
-        plain = trigger_plain t.trigger;
+        plain = trigger_writes t.trigger;
         works = works;
         free = free;
         steps =

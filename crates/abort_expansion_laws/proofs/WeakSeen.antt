@@ -2,8 +2,8 @@
 use Rattle.std.proofs.Common.{◌≡◌, ◌≢◌, ℕ, ◌+◌, ◌<◌, ◌≤◌, inl, inr, Bool, true, false, not, ◌&&◌, ◌||◌, ⊎_elim, Option, Some, None, List, [], map, ◌⊎◌}
 use Rattle.std.proofs.Common.{◌∷◌, ◌++◌, length, slice_get, Contains, refl, sym, ap, subst, ◌∙◌, arith, if◌then◌else◌}
 use Rattle.std.specs.Prelude.{reverse, flat_map}
-use Rattle.std.specs.List.{list_all, list_any}
-use Rattle.std.proofs.lemmas.Bool.{or_parts, true_from_ne_false}
+use Rattle.std.specs.List.{list_all}
+use Rattle.std.proofs.lemmas.Bool.{true_from_ne_false}
 use Rattle.std.proofs.lemmas.List.{append_assoc}
 use Rattle.std.proofs.lemmas.List.Folds.{flat_map-map}
 use Rattle.core_charts.specs.declared.region.Transition.{Transition}
@@ -16,9 +16,9 @@ use Rattle.chart_machine.specs.declared.table.Table.{Table}
 use Rattle.chart_machine.specs.Table.{state_at}
 use Rattle.chart_machine.specs.Turns.{standing_of, has_ended, has_work, may_close, inside}
 use Rattle.chart_machine.specs.Steps.{to, state_in, verdict, access_of_trigger}
-use Rattle.abort_expansion.specs.declared.flags.Flags.{Flags}
 use Rattle.abort_expansion.specs.Flags.{aborts_around, weak_around, is_there}
 use Rattle.abort_expansion.specs.Transitions.{is_raised, go, check, strong_checks, weak_checks}
+use Rattle.abort_expansion.proofs.Assembled.{weak_none}
 use Rattle.abort_expansion_laws.specs.Stages.{Correspondence, IsSilent}
 use Rattle.abort_expansion_laws.proofs.Supplying.{silent_test, tests}
 use Rattle.chart_machine_laws.proofs.LyingIn.{IsNested, around, holder, none_in, head_or_tail, head_in, tail_in, around_around}
@@ -44,20 +44,6 @@ use Rattle.abort_expansion_laws.proofs.StageReached.{holds_other}
 use Rattle.abort_expansion_laws.proofs.ThreadsAround.{thread_within}
 
 -- ---- weak flags around
-
-pub none_around : (fs : List Flags) → aborts_around fs ≡ false → weak_around fs ≡ false
-none_around [] e = refl
-none_around (f ∷ fs) e =
-    let both = or_parts (is_there f.strong || is_there f.weak) (aborts_around fs) e in
-    let two = or_parts (is_there f.strong) (is_there f.weak) both.0 in rw (two.1, none_around fs both.1) refl
-
-pub any_none : (p : ℕ → Bool) (xs : List ℕ) → ((y : ℕ) → Contains xs y → p y ≡ true → ⊥) → list_any p xs ≡ false
-any_none p [] none = refl
-any_none p (x ∷ xs) none = rw (never (p x) (none x (head_in x xs)), any_none p xs (λ y h. none y (tail_in x y xs h))) refl
-  where
-    never : (b : Bool) → (b ≡ true → ⊥) → b ≡ false
-    never true no_way = absurd (no_way refl)
-    never false no_way = refl
 
 -- ---- counters
 
@@ -145,7 +131,7 @@ module _ (k core : Table) (i : Images) (rows : CoreRows k core i) (lone : AloneR
   pub aborts_here : (q : ℕ) → Contains (around k q) o → aborts_around (flags_around k core i q) ≡ true
   aborts_here q in_o =
       true_from_ne_false (aborts_around (flags_around k core i q))
-      (λ e. let wrong : true ≡ false = sym (weak_here q in_o) ∙ none_around (flags_around k core i q) e in absurd cc)
+      (λ e. let wrong : true ≡ false = sym (weak_here q in_o) ∙ weak_none (flags_around k core i q) e in absurd cc)
 
   home_is : (y : ℕ) → rows.of_flag y ≡ o → corr.home y ≡ i.thread_of r
   home_is y owner = ap (λ s. holder core (i.main_of s)) owner ∙ (rows.held o ∙ ap i.thread_of held)

@@ -1,5 +1,5 @@
 -- The names of labels whose numbers stand once each are distinct.
-use Rattle.std.proofs.Common.{◌≡◌, ℕ, ◌<◌, ◌≤◌, ◌⊎◌, inl, inr, Bool, true, false, IsTrue, List, [], ◌∷◌, map, refl, arith}
+use Rattle.std.proofs.Common.{◌≡◌, ℕ, ◌<◌, ◌≤◌, inl, inr, Bool, true, false, IsTrue, List, [], ◌∷◌, map, refl, arith}
 use Rattle.std.specs.List.{list_any}
 use Rattle.std.specs.Str.{bytes_eq}
 use Rattle.std.proofs.lemmas.Bool.{eq-eqb}
@@ -8,7 +8,7 @@ use Rattle.sc_text.specs.Parts.{are_distinct}
 use Rattle.sc_text.proofs.EachItem.{Each}
 use Rattle.chart_lowering.specs.Lowering.{label_name}
 use Rattle.chart_lowering.proofs.Names.{IsCountable, names_differ}
-use Rattle.chart_lowering.proofs.Once.{count}
+use Rattle.chart_lowering.proofs.Once.{count, below_or_not}
 
 false_where_never : (b : Bool) → (IsTrue b → ⊥) → b ≡ false
 false_where_never true never = absurd (never refl)
@@ -41,9 +41,6 @@ pub names_distinct : (ns : List ℕ) → Each IsCountable ns → ((k : ℕ) → 
 names_distinct [] h once = refl
 names_distinct (n ∷ ns) h once =
     rw (no_such_name n ns h.0 h.1 (first_once n ns (once n))) (names_distinct ns h.1 (λ k. later_once n k ns (once k)))
-
-below_or_not : (k m : ℕ) → (k < m) ⊎ (m ≤ k)
-below_or_not k m = grind arith
 
 -- numbers that stand nowhere from `end` on are below it
 pub all_below : (end : ℕ) (ns : List ℕ) → ((k : ℕ) → end ≤ k → count k ns ≡ 0) → Each (λ n. n < end) ns

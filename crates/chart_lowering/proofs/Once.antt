@@ -23,7 +23,7 @@ none_once from c none = record {
   once = λ k. omega (arith, none k);
 }
 
-below_or_not : (k m : ℕ) → (k < m) ⊎ (m ≤ k)
+pub below_or_not : (k m : ℕ) → (k < m) ⊎ (m ≤ k)
 below_or_not k m = grind arith
 
 -- a number alone

@@ -18,6 +18,7 @@ use Rattle.chart_machine.specs.declared.table.TablePosition.{TablePosition}
 use Rattle.chart_machine.specs.declared.table.StatesRows.{StatesRows}
 use Rattle.chart_machine.specs.Table.{Subtree, region_at, state_numbers, states_in, regions_in, in_region, past_states, with_region, regions_in_initial}
 use Rattle.chart_machine.specs.Table.{inside_region, region_subtree, state_subtree, subtree_of_state}
+use Rattle.chart_machine.proofs.Outside.{within_or_past}
 use Rattle.scl.specs.declared.statement.Statement.{Statement}
 use Rattle.scl.specs.Block.{Block, End, Label}
 use Rattle.scl.specs.Numbering.{Piece as TextPiece}
@@ -40,7 +41,7 @@ use Rattle.chart_lowering_laws.proofs.Rows.{Rowed, StateRowed, open_region, stat
 use Rattle.chart_lowering_laws.specs.Marks.{Mark, initial_among, RegionMarks, StateMarks, marks_among, region_marks, state_marks, marks_of_region}
 use Rattle.chart_lowering_laws.proofs.Marking.{marks_of_state, StateMarked, low_states_same, state_is_marked, regions_marked}
 use Rattle.chart_lowering_laws.proofs.Walking.{HasLabel, Goes, StateAt, RegionAt, Found, WalksRegion, WalksRegionBy, WalksState, WalksSide, low_open_region}
-use Rattle.chart_lowering_laws.proofs.Walking.{walk_side, walk_state, less_or_not}
+use Rattle.chart_lowering_laws.proofs.Walking.{walk_side, walk_state}
 use Rattle.chart_lowering_laws.proofs.InitialFirst.{others_in, NoneInitial, MostOne, both_in, none_in, joined_by, first_long, initial_threads, OneInitial}
 use Rattle.chart_lowering_laws.proofs.InitialFirst.{one_initial, most_one}
 use Rattle.chart_lowering_laws.proofs.StateTexts.{marked_by, marks_of_other, marks_of_initial, get_map, text_of_other, none_of_other, text_of_initial}
@@ -150,8 +151,9 @@ module _ (k : Table) (ms : List Mark) (root : Block) (keeps : KeepsScopes root) 
         (omega (arith, now, count, thread)) passed.place in
         let sum : others_in (p ∷ ps) ≡ p.regions + others_in ps = ap (λ b. (if b then 0 else p.regions) + others_in ps) none.0 in
         record {
-          states = λ q lo hi. ⊎_elim (λ less. own.states q lo less) (λ later. more.states q later (omega (arith, hi))) (less_or_not q (sc.state + p.states));
-          others = λ q lo hi. ⊎_elim (λ less. own.regions q lo less) (λ later. more.others q later (omega (arith, hi, sum))) (less_or_not q (next + p.regions));
+          states = λ q lo hi. ⊎_elim (λ less. own.states q lo less) (λ later. more.states q later (omega (arith, hi))) (within_or_past q (sc.state + p.states));
+          others = λ q lo hi.
+              ⊎_elim (λ less. own.regions q lo less) (λ later. more.others q later (omega (arith, hi, sum))) (within_or_past q (next + p.regions));
         }
 
     -- the initial state, and what the others have behind it
@@ -237,7 +239,7 @@ module _ (k : Table) (ms : List Mark) (root : Block) (keeps : KeepsScopes root) 
         let no_more : regions_in_initial ps ≡ 0 = none_in ps most.1 in
         let sum : others_in (p ∷ ps) ≡ 0 + others_in ps = ap (λ b. (if b then 0 else p.regions) + others_in ps) most.0 in
         record {
-          states = λ q lo hi. ⊎_elim (λ less. own.states q lo less) (λ later. more.states q later (omega (arith, hi))) (less_or_not q (sc.state + p.states));
+          states = λ q lo hi. ⊎_elim (λ less. own.states q lo less) (λ later. more.states q later (omega (arith, hi))) (within_or_past q (sc.state + p.states));
           first = λ q lo hi. own.regions q lo (omega (arith, hi, init, no_more));
           others = λ q lo hi. more.others q lo (omega (arith, hi, sum));
         }
@@ -277,9 +279,10 @@ module _ (k : Table) (ms : List Mark) (root : Block) (keeps : KeepsScopes root) 
         let init : regions_in_initial (p ∷ ps) ≡ 0 + regions_in_initial ps = ap (λ b. (if b then p.regions else 0) + regions_in_initial ps) most.0 in
         let sum : others_in (p ∷ ps) ≡ p.regions + others_in ps = ap (λ b. (if b then 0 else p.regions) + others_in ps) most.0 in
         record {
-          states = λ q lo hi. ⊎_elim (λ less. own.states q lo less) (λ later. more.states q later (omega (arith, hi))) (less_or_not q (sc.state + p.states));
+          states = λ q lo hi. ⊎_elim (λ less. own.states q lo less) (λ later. more.states q later (omega (arith, hi))) (within_or_past q (sc.state + p.states));
           first = λ q lo hi. more.first q lo (omega (arith, hi, init));
-          others = λ q lo hi. ⊎_elim (λ less. own.regions q lo less) (λ later. more.others q later (omega (arith, hi, sum))) (less_or_not q (next + p.regions));
+          others = λ q lo hi.
+              ⊎_elim (λ less. own.regions q lo less) (λ later. more.others q later (omega (arith, hi, sum))) (within_or_past q (next + p.regions));
         }
 
   -- a region, over its states
@@ -386,8 +389,8 @@ module _ (k : Table) (ms : List Mark) (root : Block) (keeps : KeepsScopes root) 
                 ⊎_elim
                 (λ less. subst (RegionAt k ms root keeps top) (omega (arith, lo, less)) own)
                 (λ more. ⊎_elim (λ less. among.first q more less) (λ later. among.others q later (omega (arith, hi, sum)))
-                (less_or_not q (suc at.region + init)))
-                (less_or_not q (suc at.region));
+                (within_or_past q (suc at.region + init)))
+                (within_or_past q (suc at.region));
           }
         where
           many_numbers : (ss : List State) (n : ℕ) → length (state_numbers (map subtree_of_state ss) n) ≡ length ss

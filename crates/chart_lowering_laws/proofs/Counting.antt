@@ -4,6 +4,7 @@ use Rattle.std.proofs.Common.{subst, ◌∙◌, arith}
 use Rattle.sc_values.specs.declared.expression.Expr.{Expr}
 use Rattle.sc_graph.specs.declared.program.Variable.{Variable}
 use Rattle.sc_text.proofs.EachItem.{Each, each_of}
+use Rattle.scl_graph.proofs.Resolved.{pieces_map}
 use Rattle.core_charts.specs.declared.features.Features.TheVariants as features
 use Rattle.core_charts.specs.declared.region.Effect.{Effect}
 use Rattle.core_charts.specs.declared.region.Transition.{Transition}
@@ -24,7 +25,7 @@ use Rattle.chart_lowering.specs.Lowering.{superstate, branches, text_of, texts, 
 use Rattle.chart_lowering.specs.Lowering.{labels_in_states, labels_in, label_at}
 use Rattle.chart_lowering.specs.Lowering.{region_piece as low_region, state_piece as low_state, piece_of_region as low_of_region}
 use Rattle.chart_lowering.specs.Lowering.{piece_of_state as low_of_state}
-use Rattle.chart_lowering_laws.proofs.Texts.{assign_piece, label_piece, goto_piece, pause_piece, if_piece, fork_piece, pieces_map}
+use Rattle.chart_lowering_laws.proofs.Texts.{assign_piece, label_piece, goto_piece, pause_piece, if_piece, fork_piece}
 
 abbrev pub threads_in : List Statement → ℕ
 threads_in statements = (in_row (pieces_of statements)).counts.threads

@@ -13,6 +13,7 @@ use Rattle.chart_machine.specs.declared.table.RegionRow.{RegionRow}
 use Rattle.chart_machine.specs.declared.table.Table.{Table}
 use Rattle.chart_machine.specs.Steps.{to}
 use Rattle.chart_machine.specs.Table.{state_at, region_at, side_by_side, within, subtree_of_region, entered_state, is_superstate}
+use Rattle.chart_machine.proofs.Outside.{within_or_past}
 use Rattle.scl.specs.declared.statement.Statement.{Statement}
 use Rattle.scl.specs.declared.statement.Statement.TheVariants as statement
 use Rattle.scl.specs.declared.statement.Statement.TheOpen as text
@@ -32,7 +33,7 @@ use Rattle.scl_graph_laws.proofs.Members.{contains_none, contains_cons}
 use Rattle.chart_lowering_laws.proofs.Texts.{made, label_piece, pause_piece, if_piece}
 use Rattle.chart_lowering_laws.proofs.Finding.{MainPlace, label_found, main_label, main_pause, main_if}
 use Rattle.chart_lowering_laws.proofs.Reading.{acts_at, tries_at, tries_map}
-use Rattle.chart_lowering_laws.proofs.Walking.{StateAt, low_open_state, less_or_not}
+use Rattle.chart_lowering_laws.proofs.Walking.{StateAt, low_open_state}
 use Rattle.chart_lowering_laws.proofs.ReadingOff.{begin_of, pause_of, into_of, BeginsWith, begins_with, Leads, each_found, simple_begins, final_begins}
 use Rattle.chart_lowering_laws.proofs.Leading.{holder_is, transitions_are, all_lead}
 
@@ -47,7 +48,7 @@ none_around k l tree s bare q = up_to (suc q) q (omega arith)
     up_to zero q less here = absurd (omega (arith, less))
     up_to (suc bound) zero less here = contains_none s here
     up_to (suc bound) (suc q) less here = ⊎_elim (λ within. inside within (up_to bound))
-        (λ past. contains_none s (subst (λ xs. Contains xs s) (no_region q past) here)) (less_or_not q (length k.regions))
+        (λ past. contains_none s (subst (λ xs. Contains xs s) (no_region q past) here)) (within_or_past q (length k.regions))
       where
         inside : q < length k.regions → ((q : ℕ) → q < bound → ¬ Contains (region_at k q).around s) → ⊥
         inside within smaller_ones =

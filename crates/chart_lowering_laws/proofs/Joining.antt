@@ -29,7 +29,7 @@ use Rattle.chart_lowering_laws.proofs.Silently.{doing_in, member_or_not}
 
 -- ---- what is dropped
 
-list_any_none : (f : ℕ → Bool) (xs : List ℕ) → ((x : ℕ) → Contains xs x → f x ≡ false) → list_any f xs ≡ false
+pub list_any_none : (f : ℕ → Bool) (xs : List ℕ) → ((x : ℕ) → Contains xs x → f x ≡ false) → list_any f xs ≡ false
 list_any_none f [] none = refl
 list_any_none f (x ∷ xs) none = two (f x) (list_any f xs) (none x (contains_head x xs)) (list_any_none f xs (λ y h. none y (contains_tail x y xs h)))
   where

@@ -5,11 +5,11 @@ use Rattle.core_charts.specs.declared.region.Effect.{Effect}
 use Rattle.core_charts.specs.declared.region.Transition.{Transition}
 use Rattle.scl.specs.declared.statement.Statement.{Statement}
 use Rattle.scl.specs.declared.statement.Statement.TheVariants as statement
-use Rattle.scl.specs.Rules.{Part, part_of, side_by_side}
+use Rattle.scl.specs.Rules.{Part, part_of}
 use Rattle.scl.specs.Rules.{in_row as parts_in_row}
 use Rattle.scl.specs.Block.{Block}
 use Rattle.scl.specs.Numbering.{Numbers}
-use Rattle.scl_graph_laws.proofs.Gathering.{text_gathers}
+use Rattle.scl_graph_laws.proofs.Gathering.{text_gathers, no_labels}
 use Rattle.scl_graph_laws.proofs.Searching.{own_labels}
 use Rattle.chart_lowering.specs.declared.targets.Targets.{Targets}
 use Rattle.chart_lowering.specs.Lowering.{RegionPiece, label, goto, label_name, label_at, assignment, taken, tested, transitions, depth, text_of, is_sure}
@@ -72,10 +72,6 @@ tests_split at (t ∷ ts) rest stays = by t.trigger stays (tests_split at ts res
     by None stays more = absurd (cc)
     by (Some e) stays more = ap (λ xs. statement.If e (taken at t) [] ∷ xs) (more stays)
 
-beside_none : (bs : List (List Part)) → (side_by_side bs).labels ≡ []
-beside_none [] = refl
-beside_none (b ∷ bs) = beside_none bs
-
 -- a label and transitions, a label and a fork
 pub surface_labels : (at : Targets) (ts : List Transition) (n : ℕ) → text_labels (label n ∷ transitions at ts []) ≡ label_name n ∷ []
 surface_labels at ts n = label_first n (transitions at ts []) ∙ ap (λ xs. label_name n ∷ xs) (tests_none at ts [] refl)
@@ -83,7 +79,7 @@ surface_labels at ts n = label_first n (transitions at ts []) ∙ ap (λ xs. lab
 pub fork_labels : (bodies : List (List Statement)) (n : ℕ) → text_labels (label n ∷ statement.Fork bodies ∷ []) ≡ label_name n ∷ []
 fork_labels bodies n =
     label_first n (statement.Fork bodies ∷ [])
-    ∙ ap (λ xs. label_name n ∷ xs) (ap (λ (p : Part). p.labels ++ []) (part_of_fork bodies) ∙ ap (λ xs. xs ++ []) (beside_none (map (map part_of) bodies)))
+    ∙ ap (λ xs. label_name n ∷ xs) (ap (λ (p : Part). p.labels ++ []) (part_of_fork bodies) ∙ ap (λ xs. xs ++ []) (no_labels (map (map part_of) bodies)))
 
 -- behind a pause
 pub behind_pause : (at : Targets) (all : List Transition) (n : ℕ) → text_labels (transitions at all (goto n ∷ [])) ≡ []

@@ -1,22 +1,22 @@
 pub mod NumberTests
 mod Waiting
-mod Ordering
+pub mod Ordering
 pub mod Following
-mod Entering
+pub mod Entering
 pub mod LeadAlike
-mod Matching
+pub mod Matching
 mod Structure
 mod Updating
 mod Stepping
 mod Silently
-mod Joining
+pub mod Joining
 mod Steps
-mod Finished
+pub mod Finished
 mod Joins
 mod Alone
 pub mod Catching
 pub mod Showing
-mod ByRegions
+pub mod ByRegions
 mod Resting
 mod Apart
 mod RegionsWait

@@ -3,6 +3,7 @@ use Rattle.std.proofs.Common.{◌≡◌, ℕ, zero, suc, ◌+◌, ◌⊎◌, inl
 use Rattle.std.proofs.Common.{subst, ◌∙◌, arith}
 use Rattle.sc_graph.specs.declared.program.Variable.{Variable}
 use Rattle.sc_text.proofs.EachItem.{Each, each_of}
+use Rattle.scl_graph.proofs.Resolved.{pieces_map}
 use Rattle.core_charts.specs.declared.features.Features.TheVariants as features
 use Rattle.core_charts.specs.declared.region.Region.{Region}
 use Rattle.core_charts.specs.declared.region.State.{State}
@@ -32,7 +33,7 @@ use Rattle.chart_lowering_laws.specs.Layout.{Layout, Opens, all_entered}
 use Rattle.chart_lowering_laws.specs.Marks.{Mark, RegionMarks, StateMarks, mark_at, initial_among, marks_beside, marks_among, region_marks, state_marks}
 use Rattle.chart_lowering_laws.specs.Marks.{marks_of_region, layout_of}
 use Rattle.chart_lowering_laws.specs.Marks.{behind as behind_number}
-use Rattle.chart_lowering_laws.proofs.Texts.{made, label_piece, pieces_map}
+use Rattle.chart_lowering_laws.proofs.Texts.{made, label_piece}
 use Rattle.chart_lowering_laws.proofs.Counting.{threads_in, CountsRegion}
 use Rattle.chart_lowering_laws.proofs.Finding.{MainPlace, label_found}
 use Rattle.chart_lowering_laws.proofs.Rows.{RegionRowed, StateRowed, open_region, state_is_rowed, regions_rowed}

@@ -15,7 +15,7 @@ nothing_first a (init_update x f i u) = absurd (cc)
 nothing_first a (init_read x i r) = absurd (cc)
 nothing_first a (update_read x f u r) = absurd (cc)
 
-nothing_second : (a : Access) → ¬ Precedes a no_access
+pub nothing_second : (a : Access) → ¬ Precedes a no_access
 nothing_second a (init_update x f i u) = absurd (cc)
 nothing_second a (init_read x i r) = absurd (reads_nothing x r)
 nothing_second a (update_read x f u r) = absurd (reads_nothing x r)

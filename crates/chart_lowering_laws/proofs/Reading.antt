@@ -2,6 +2,7 @@
 use Rattle.std.proofs.Common.{true, false, if◌then◌else◌, ◌≡◌, refl, ℕ, Option, Some, None, List, [], ◌∷◌, ◌++◌, map, sym, ap, subst, ◌∙◌}
 use Rattle.sc_text.proofs.EachItem.{Each}
 use Rattle.sc_values.specs.declared.expression.Expr.{Expr}
+use Rattle.scl_graph.proofs.Resolved.{pieces_map}
 use Rattle.core_charts.specs.declared.region.Effect.{Effect}
 use Rattle.core_charts.specs.declared.region.Transition.{Transition}
 use Rattle.scl.specs.declared.statement.Statement.{Statement}
@@ -17,7 +18,7 @@ use Rattle.chart_lowering.specs.Lowering.{is_sure, leaves_surely, assignment, ta
 use Rattle.chart_lowering_laws.specs.Layout.{Acts, Tests, Tries}
 use Rattle.scl_graph_laws.proofs.Scopes.{KeepsScopes}
 use Rattle.chart_lowering_laws.proofs.Finding.{MainPlace, main_if}
-use Rattle.chart_lowering_laws.proofs.Texts.{made, assign_piece, goto_piece, if_piece, pieces_map, before_taken, goto_leads}
+use Rattle.chart_lowering_laws.proofs.Texts.{made, assign_piece, goto_piece, if_piece, before_taken, goto_leads}
 
 module _ (root : Block) (keeps : KeepsScopes root) (settles : EachSettles root) (v : ℕ) where
   -- a goto at its place leads where its label does

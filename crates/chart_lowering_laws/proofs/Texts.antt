@@ -2,6 +2,7 @@
 use Rattle.std.proofs.Common.{◌≡◌, ℕ, zero, suc, Option, Some, None, List, [], ◌∷◌, ◌++◌, map, option_and_then, refl, sym, ap, subst, ◌∙◌}
 use Rattle.std.proofs.lemmas.Option.{none-some}
 use Rattle.sc_values.specs.declared.expression.Expr.{Expr}
+use Rattle.scl_graph.proofs.Resolved.{pieces_map}
 use Rattle.core_charts.specs.declared.region.Effect.{Effect}
 use Rattle.core_charts.specs.declared.region.Transition.{Transition}
 use Rattle.scl.specs.declared.statement.Statement.{Statement}
@@ -81,11 +82,6 @@ acts_text root into name leads (e ∷ effects) at k =
       acts_text root into name leads effects
           (beyond at (piece (text.Assign e.variable e.value)).counts) k,
     )
-
--- the pieces of statements as those of the spec
-pub pieces_map : (xs : List Statement) → pieces_of xs ≡ map piece_of xs
-pieces_map [] = refl
-pieces_map (x ∷ xs) = ap (λ r. piece_of x ∷ r) (pieces_map xs)
 
 -- effects and a goto, and then what follows
 pub before_taken : (name : List ℕ) (effects : List Effect) (at : Numbers) (k : Block) →

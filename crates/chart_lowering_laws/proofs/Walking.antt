@@ -1,8 +1,9 @@
 -- Where the states and regions of a chart stand, in its table and in the text of its lowering: regions and states that
 -- stand side by side.
-use Rattle.std.proofs.Common.{◌≡◌, ℕ, zero, suc, ◌+◌, ◌<◌, ◌≤◌, ◌⊎◌, inl, inr, ⊎_elim, Bool, true, false, Some, List, [], ◌∷◌, map, length, slice_get}
+use Rattle.std.proofs.Common.{◌≡◌, ℕ, suc, ◌+◌, ◌<◌, ◌≤◌, ◌⊎◌, inr, ⊎_elim, Bool, true, false, Some, List, [], ◌∷◌, map, length, slice_get}
 use Rattle.std.proofs.Common.{unwrap_or, count_by, Contains, refl, sym, ap, subst, arith}
 use Rattle.sc_text.proofs.EachItem.{Each}
+use Rattle.scl_graph.proofs.Resolved.{pieces_map}
 use Rattle.core_charts.specs.declared.region.Region.{Region}
 use Rattle.core_charts.specs.declared.region.State.{State}
 use Rattle.core_charts.specs.declared.region.Transition.{Transition}
@@ -22,6 +23,7 @@ use Rattle.chart_machine.specs.declared.table.TablePosition.{TablePosition}
 use Rattle.chart_machine.specs.Table.{Subtree, state_at, region_at, region_numbers, states_in, regions_in, side_by_side, within, state_row, state_numbers}
 use Rattle.chart_machine.specs.Table.{state_subtree, region_subtree, subtree_of_region, subtree_of_state}
 use Rattle.chart_machine.specs.Table.{behind as behind_piece}
+use Rattle.chart_machine.proofs.Outside.{within_or_past}
 use Rattle.scl.specs.declared.statement.Statement.{Statement}
 use Rattle.scl.specs.declared.statement.Statement.TheVariants as statement
 use Rattle.scl.specs.Block.{Block, End, Fork, Branches}
@@ -36,7 +38,7 @@ use Rattle.chart_lowering.specs.declared.targets.Targets.{Targets}
 use Rattle.chart_lowering.specs.Lowering.{RegionPiece, StatePiece, label, label_name, behind, branches, labels_in, text_of}
 use Rattle.chart_lowering.specs.Lowering.{region_piece as low_region, state_piece as low_state, piece_of_region as low_of_region}
 use Rattle.chart_lowering.specs.Lowering.{piece_of_state as low_of_state}
-use Rattle.chart_lowering_laws.proofs.Texts.{made, fork_piece, pieces_map}
+use Rattle.chart_lowering_laws.proofs.Texts.{made, fork_piece}
 use Rattle.chart_lowering_laws.proofs.Counting.{threads_in, label_none, CountsRegion}
 use Rattle.chart_lowering_laws.proofs.Finding.{MainPlace, main_branch}
 use Rattle.chart_lowering_laws.proofs.Passing.{pass_one}
@@ -44,12 +46,6 @@ use Rattle.chart_lowering_laws.proofs.Rows.{RegionRowed, open_state}
 use Rattle.chart_lowering_laws.specs.Marks.{Mark, initial_among, RegionMarks, StateMarks, lows, marks_beside, region_marks, state_marks, marks_of_region}
 use Rattle.chart_lowering_laws.specs.Marks.{second_of}
 use Rattle.chart_lowering_laws.proofs.Marking.{marks_of_state, RegionMarked}
-
-pub less_or_not : (a b : ℕ) → (a < b) ⊎ (b ≤ a)
-less_or_not zero zero = inr (omega arith)
-less_or_not zero (suc b) = inl (omega arith)
-less_or_not (suc a) zero = inr (omega arith)
-less_or_not (suc a) (suc b) = ⊎_elim (λ h. inl (omega (arith, h))) (λ h. inr (omega (arith, h))) (less_or_not a b)
 
 -- a state, and a region, with the lowerings of what is in them
 abbrev pub low_open_state : State → State-F RegionPiece StatePiece
@@ -179,8 +175,8 @@ module _ (k : Table) (ms : List Mark) (root : Block) (keeps : KeepsScopes root) 
 
   found_both : (a b c d e f : ℕ) → Found a b d e → Found b c e f → Found a c d f
   found_both a b c d e f x y = record {
-    states = λ s lo hi. ⊎_elim (λ less. x.states s lo less) (λ more. y.states s more hi) (less_or_not s b);
-    regions = λ q lo hi. ⊎_elim (λ less. x.regions q lo less) (λ more. y.regions q more hi) (less_or_not q e);
+    states = λ s lo hi. ⊎_elim (λ less. x.states s lo less) (λ more. y.states s more hi) (within_or_past s b);
+    regions = λ q lo hi. ⊎_elim (λ less. x.regions q lo less) (λ more. y.regions q more hi) (within_or_past q e);
   }
 
   found_to : (a b c d e f : ℕ) → b ≡ e → d ≡ f → Found a b c d → Found a e c f
@@ -367,6 +363,6 @@ module _ (k : Table) (ms : List Mark) (root : Block) (keeps : KeepsScopes root) 
           } in
           record {
             states = λ q lo hi. ⊎_elim (λ less. subst StateAt (omega (arith, lo, less)) own) (λ more. inner.states q more (omega (arith, hi)))
-                (less_or_not q (suc at.state));
+                (within_or_past q (suc at.state));
             regions = inner.regions;
           }

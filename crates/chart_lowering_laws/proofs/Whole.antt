@@ -25,7 +25,7 @@ use Rattle.chart_lowering_laws.proofs.Rows.{regions_rowed, Rowed, StateRowed, op
 use Rattle.chart_lowering_laws.specs.Marks.{marks, Mark, initial_among, RegionMarks, StateMarks, marks_among, region_marks, state_marks, marks_of_region}
 use Rattle.chart_lowering_laws.proofs.Marking.{regions_marked, marks_of_state, StateMarked, low_states_same, state_is_marked}
 use Rattle.chart_lowering_laws.proofs.Walking.{Found, walk_side, HasLabel, Goes, StateAt, RegionAt, WalksRegion, WalksRegionBy, WalksState, WalksSide}
-use Rattle.chart_lowering_laws.proofs.Walking.{low_open_region, walk_state, less_or_not}
+use Rattle.chart_lowering_laws.proofs.Walking.{low_open_region, walk_state}
 use Rattle.std.proofs.lemmas.Option.{slice_get_within}
 use Rattle.std.proofs.lemmas.List.{length-map}
 use Rattle.chart_lowering_laws.specs.Layout.{InRegion}

@@ -17,6 +17,7 @@ use Rattle.chart_machine.specs.declared.table.Table.{Table}
 use Rattle.chart_machine.specs.Table.{Subtree, region_subtree, state_subtree, subtree_of_region, subtree_of_state, side_by_side}
 use Rattle.chart_machine.specs.Table.{whole, table_of, table, state_at}
 use Rattle.chart_machine.specs.Table.{region_at}
+use Rattle.chart_machine.proofs.Outside.{within_or_past}
 use Rattle.scl_graph_laws.proofs.Segments.{StandAt, stand_all, each_at}
 use Rattle.chart_machine_laws.proofs.LyingIn.{IsTree, around, holder, none_in}
 use Rattle.chart_machine_laws.proofs.RowsOfSubtrees.{StatesAt, RegionsAt, Holds, IsSized, AllSized, state_sized, region_sized}
@@ -184,19 +185,16 @@ holds_whole variables regions =
     let k : Table = table_of variables regions in
     record { states = states_stand k 0 k.states (stand_all k.states); regions = regions_stand k 0 k.regions (stand_all k.regions) }
 
-pub within_or_past : (i n : ℕ) → (i < n) ⊎ (n ≤ i)
-within_or_past i n = grind arith
-
-there : (xs : List RegionRow) (i : ℕ) → i < length xs → (x : RegionRow) × (slice_get xs i ≡ Some x)
-there [] i lt = absurd (omega (lt, arith))
-there (x ∷ xs) zero lt = (x, refl)
-there (x ∷ xs) (suc i) lt = there xs i (omega (lt, arith))
+pub row_there : (xs : List RegionRow) (i : ℕ) → i < length xs → (x : RegionRow) × (slice_get xs i ≡ Some x)
+row_there [] i lt = absurd (omega (lt, arith))
+row_there (x ∷ xs) zero lt = (x, refl)
+row_there (x ∷ xs) (suc i) lt = row_there xs i (omega (lt, arith))
 
 pub nothing_around : (k : Table) (i : ℕ) → length k.regions ≤ i → around k (suc i) ≡ []
 nothing_around k i past = ap (λ (o : Option RegionRow). (unwrap_or {T = RegionRow} o (record { around = []; states = [] })).around) (slice_get_past
     k.regions i past)
 
-no_states_past : (k : Table) (i : ℕ) → length k.regions ≤ i → (region_at k (suc i)).states ≡ []
+pub no_states_past : (k : Table) (i : ℕ) → length k.regions ≤ i → (region_at k (suc i)).states ≡ []
 no_states_past k i past = ap (λ (o : Option RegionRow). (unwrap_or {T = RegionRow} o (record { around = []; states = [] })).states) (slice_get_past
     k.regions i past)
 
@@ -208,7 +206,7 @@ each_rooted k each zero = (λ s ss e. absurd cc, λ s h. absurd (none_in s h), �
 each_rooted k each (suc i) = by_place (within_or_past i (length k.regions))
   where
     by_place : (i < length k.regions) ⊎ (length k.regions ≤ i) → Rooted k (suc i)
-    by_place (inl lt) = let x = there k.regions i lt in subst (λ q. Rooted k q) (one_more i) (each_at (λ q row. Rooted k q) 1 k.regions i x.0 each x.1)
+    by_place (inl lt) = let x = row_there k.regions i lt in subst (λ q. Rooted k q) (one_more i) (each_at (λ q row. Rooted k q) 1 k.regions i x.0 each x.1)
     by_place (inr past) = (
       λ s ss e. let none : [] ≡ s ∷ ss = sym (nothing_around k i past) ∙ e in absurd cc,
       λ s h. absurd (none_in s (subst (λ zs. Contains zs s) (nothing_around k i past) h)),

@@ -1,7 +1,6 @@
 -- Each variable's value is of its kind.
 use Rattle.std.proofs.Common.{◌≡◌, ℕ, zero, suc, Option, Some, None, List, [], ◌∷◌, map, slice_get, slice_set, unwrap_or, refl, sym, ap, ◌∙◌}
 use Rattle.sc_values.specs.declared.value.Kind.{Kind}
-use Rattle.sc_values.specs.declared.value.Kind.TheVariants as of_kind
 use Rattle.sc_values.specs.declared.value.Value.{Value}
 use Rattle.sc_values.specs.Operator.{kind_of, initial_value}
 use Rattle.sc_values.proofs.WellKinded.{AreOf, Gives}
@@ -9,6 +8,7 @@ use Rattle.sc_graph.specs.declared.program.Variable.{Variable}
 use Rattle.sc_graph.specs.declared.program.Role.{Role}
 use Rattle.sc_graph.specs.declared.program.Role.TheVariants as role
 use Rattle.sc_graph.specs.Tick.{Inputs, given, value_at_start, values_at_start}
+use Rattle.sc_graph.proofs.AtRest.{kind_of-initial_value}
 use Rattle.core_charts.specs.Rules.{kinds_of}
 use Rattle.chart_machine_laws.specs.Progress.{KeepKinds}
 
@@ -37,13 +37,9 @@ kept_kinds (y ∷ variables) (w ∷ values) h (suc i) x is v of = (h.0, kept_kin
 kept_kinds [] (v ∷ values) h i x is w of = absurd h
 kept_kinds (y ∷ variables) [] h i x is v of = absurd h
 
-initial_kind : (k : Kind) → kind_of (initial_value k) ≡ k
-initial_kind of_kind.Bool = refl
-initial_kind of_kind.Int = refl
-
 pub initial_kinds : (variables : List Variable) → Kinded variables (map (λ x. initial_value x.kind) variables)
 initial_kinds [] = tt
-initial_kinds (x ∷ variables) = (initial_kind x.kind, initial_kinds variables)
+initial_kinds (x ∷ variables) = (kind_of-initial_value x.kind, initial_kinds variables)
 
 started_kind : (inputs : Inputs) (x : Variable) (present : Value) → kind_of present ≡ x.kind →
     (x.role ≡ role.Input → (v : Value) → given inputs x.name ≡ Some v → kind_of v ≡ x.kind) → (r : Role) → x.role ≡ r →
@@ -51,7 +47,7 @@ started_kind : (inputs : Inputs) (x : Variable) (present : Value) → kind_of pr
 started_kind inputs x present of inputs_of role.Input is = by (given inputs x.name) refl
   where
     by : (o : Option Value) → given inputs x.name ≡ o → kind_of (unwrap_or o (initial_value x.kind)) ≡ x.kind
-    by None none = initial_kind x.kind
+    by None none = kind_of-initial_value x.kind
     by (Some v) some = inputs_of is v some
 started_kind inputs x present of inputs_of role.Output is = of
 started_kind inputs x present of inputs_of role.Local is = of

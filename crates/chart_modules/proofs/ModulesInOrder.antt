@@ -14,6 +14,7 @@ use Rattle.chart_modules.specs.Known.{known_in}
 use Rattle.chart_modules.specs.Uses.{Made, stands_for, used}
 use Rattle.chart_modules.specs.Well.{well_text}
 use Rattle.chart_modules.specs.Modules.{semicolon, next_module, all_modules, module_place, put_together, plain_text}
+use Rattle.chart_modules.proofs.Nexts.{tells_next, tells_as}
 
 abbrev All : Type 0
 All = List Module × List Token
@@ -56,14 +57,6 @@ module _ (end : ℕ) (modules : List Module) (text : List Token) where
         sym is ∙ ap (λ n. all_modules end n modules text) over
 
 -- ---- the text behind its front
-
-tells_next : {A B : Type 0} (a : Answer A) (go : A → Answer B) (f : ReadFault) → Tells a f → Tells (next a go) f
-tells_next a go (fault.Text b at) t = ap (λ x. next x go) t
-tells_next a go fault.Memory t = tt
-
-tells_as : {A : Type 0} (a b : Answer A) (f : ReadFault) → a ≡ b → Tells b f → Tells a f
-tells_as a b (fault.Text k at) e t = e ∙ t
-tells_as a b fault.Memory e t = tt
 
 module _ (end : ℕ) (front text : List Token) where
   abbrev uses_in : All → Answer Made

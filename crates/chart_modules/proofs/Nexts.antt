@@ -16,11 +16,11 @@ use Rattle.chart_modules.specs.Phrases.{using, opened}
 use Rattle.chart_modules.specs.Uses.{Made, Stand, made_limit, size_of, next_use}
 use Rattle.chart_modules.specs.Modules.{right_head, closing, closed, next_module}
 
-tells_next : {A B : Type 0} (a : Answer A) (go : A → Answer B) (f : ReadFault) → Tells a f → Tells (next a go) f
+pub tells_next : {A B : Type 0} (a : Answer A) (go : A → Answer B) (f : ReadFault) → Tells a f → Tells (next a go) f
 tells_next a go (fault.Text b at) t = ap (λ x. next x go) t
 tells_next a go fault.Memory t = tt
 
-tells_as : {A : Type 0} (a b : Answer A) (f : ReadFault) → a ≡ b → Tells b f → Tells a f
+pub tells_as : {A : Type 0} (a b : Answer A) (f : ReadFault) → a ≡ b → Tells b f → Tells a f
 tells_as a b (fault.Text k at) e t = e ∙ t
 tells_as a b fault.Memory e t = tt
 

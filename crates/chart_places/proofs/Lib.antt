@@ -1,7 +1,7 @@
 mod Parts
 mod Pairing
 mod Placing
-mod Words
+pub mod Words
 mod Spelling
 mod Within
 mod Telling

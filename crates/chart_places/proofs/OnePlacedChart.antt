@@ -1,23 +1,15 @@
 -- A text has one draft, and so one chart with its places, or a fault.
 use Rattle.std.proofs.Common.{◌≡◌, ℕ, List, refl, sym, ◌∙◌, ap}
-use Rattle.sc_text.specs.declared.language.Language.TheVariants as language
 use Rattle.sc_text.specs.declared.read_fault.FaultKind.{FaultKind}
 use Rattle.sc_text.specs.declared.read_fault.ReadFault.TheVariants as fault
-use Rattle.sc_text.proofs.OneReading.{one_phrase}
 use Rattle.core_charts.specs.Chart.{Chart}
-use Rattle.chart_drafts.specs.declared.draft.DraftChart.{DraftChart}
 use Rattle.chart_drafts.specs.Checked.{IsTextFault}
-use Rattle.chart_drafts.specs.ChartText.{chart_text}
-use Rattle.chart_drafts.specs.Reading.{IsDraft}
-use Rattle.chart_drafts.proofs.Deepens.{is_language}
 use Rattle.chart_reader.specs.Resolved.{chart_of}
 use Rattle.chart_reader.proofs.Exactly as reading
+use Rattle.chart_reader.proofs.OneChartAnswer.{one_draft}
 use Rattle.chart_places.specs.declared.places.Places.{Places}
 use Rattle.chart_places.specs.Places.{places_of}
 use Rattle.chart_places.specs.Read.{IsPlaced}
-
-one_draft : (text : List ℕ) (d e : DraftChart) → IsDraft text d → IsDraft text e → d ≡ e
-one_draft text d e a b = one_phrase language.Chart chart_text is_language text a.tokens b.tokens a.cut b.cut d e a.spelled b.spelled
 
 pub one_chart : (text : List ℕ) (c d : Chart) (p q : Places) → IsPlaced text c p → IsPlaced text d q → (c ≡ d) × (p ≡ q)
 one_chart text c d p q a b =

@@ -9,5 +9,5 @@ pub mod Narrow
 pub mod Inner
 pub mod Whole
 pub mod Reading
-mod OneChartAnswer
+pub mod OneChartAnswer
 pub mod Exactly

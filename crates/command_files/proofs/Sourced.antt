@@ -15,7 +15,7 @@ pub as_reduced : (files : Option Contents) (name bytes seen text made : List ℕ
 as_reduced files name bytes seen text made held same is reduced =
     record { written = bytes; held = held; stands = inr (subst (λ b. AreReduced b made) same (subst (AreReduced seen) (sym is) reduced)) }
 
-none_held : (files : Option Contents) (name bytes : List ℕ) (f : LoadFault) → HasBytes files name bytes → BytesLackSource bytes f
+pub none_held : (files : Option Contents) (name bytes : List ℕ) (f : LoadFault) → HasBytes files name bytes → BytesLackSource bytes f
     → FileLacksSource files name f
 none_held files name bytes fault.Memory held why = tt
 none_held files name bytes (fault.File shown) held why = absurd why.1

@@ -2,9 +2,9 @@
 use Rattle.std.proofs.Common.{◌≡◌, ℕ, List, Option, inl, inr, subst, sym}
 use Rattle.std.specs.Str.{IsUtf8}
 use Rattle.command_files.specs.declared.fault.LoadFault.{LoadFault}
-use Rattle.command_files.specs.declared.fault.LoadFault.TheVariants as load
 use Rattle.command_files.specs.Files.{Contents, HasBytes}
-use Rattle.command_files.specs.Standing.{AreAsWritten, AreReduced, BytesLackSource, FileLacksSource}
+use Rattle.command_files.specs.Standing.{AreAsWritten, AreReduced}
+use Rattle.command_files.proofs.Sourced.{none_held}
 use Rattle.command_texts.specs.Drawing.{HasDrawing, HasDrawingIn, HasDrawnSource, BytesLackDrawing, FileLacksDrawing, LacksDrawnSource}
 
 pub is_text : (written text : List ℕ) → AreReduced written text → IsUtf8 written
@@ -31,19 +31,9 @@ drawn_in files name bytes seen held same is = of_bytes (subst HasDrawnSource sam
     of_bytes : HasDrawnSource bytes → HasDrawingIn files name
     of_bytes d = record { bytes = d.source; held = record { written = bytes; held = held; stands = d.stands }; is_text = d.is_text; drawn = d.drawn }
 
-no_source : (files : Option Contents) (name bytes : List ℕ) (f : LoadFault) → HasBytes files name bytes → BytesLackSource bytes f
-    → FileLacksSource files name f
-no_source files name bytes load.Memory held why = tt
-no_source files name bytes (load.File shown) held why = absurd why.1
-no_source files name bytes (load.Image f) held why = absurd why.1
-no_source files name bytes (load.Rule f) held why = absurd why.1
-no_source files name bytes (load.Text f) held why = (bytes, held, why)
-no_source files name bytes (load.Program f) held why = (bytes, held, why)
-no_source files name bytes (load.Source shown) held why = absurd why.1
-
 none_drawn : (files : Option Contents) (name bytes : List ℕ) (f : LoadFault) → HasBytes files name bytes → LacksDrawnSource bytes f
     → FileLacksDrawing files name f
-none_drawn files name bytes f held (inl why) = inl (no_source files name bytes f held why)
+none_drawn files name bytes f held (inl why) = inl (none_held files name bytes f held why)
 none_drawn files name bytes f held (inr (source, stands, why)) =
     inr (source, record { written = bytes; held = held; stands = stands }, why)
 

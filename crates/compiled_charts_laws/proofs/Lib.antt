@@ -6,7 +6,7 @@ mod Reading
 pub mod Told
 mod Resting
 pub mod Ticks
-mod StepsFollowed
+pub mod StepsFollowed
 pub mod LateTests
 pub mod Mirrored
 pub mod AtJoins

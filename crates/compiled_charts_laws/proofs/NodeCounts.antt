@@ -3,6 +3,7 @@ use Rattle.std.proofs.Common.{◌≡◌, ℕ, suc, ◌+◌, Bool, true, false, i
 use Rattle.std.proofs.Common.{length-append, subst, ◌∙◌, arith}
 use Rattle.std.proofs.lemmas.List.{length-map}
 use Rattle.sc_values.specs.declared.expression.Expr.{Expr}
+use Rattle.scl_graph.proofs.Resolved.{pieces_map}
 use Rattle.core_charts.specs.declared.region.Effect.{Effect}
 use Rattle.core_charts.specs.declared.region.Transition.{Transition}
 use Rattle.scl.specs.declared.statement.Statement.{Statement}
@@ -12,7 +13,7 @@ use Rattle.chart_lowering.specs.declared.targets.Targets.{Targets}
 use Rattle.chart_lowering.specs.Lowering.{label, label_name, assignment, taken, tested, transitions, label_at}
 use Rattle.chart_lowering.specs.Lowering.{leaves_surely, is_sure}
 use Rattle.node_states.specs.Nodes as row
-use Rattle.chart_lowering_laws.proofs.Texts.{assign_piece, label_piece, goto_piece, if_piece, pieces_map}
+use Rattle.chart_lowering_laws.proofs.Texts.{assign_piece, label_piece, goto_piece, if_piece}
 
 abbrev pub counts_of : List Statement → Counts
 counts_of statements = (in_row (pieces_of statements)).counts

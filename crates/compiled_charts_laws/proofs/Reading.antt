@@ -2,6 +2,7 @@
 use Rattle.std.proofs.Common.{◌≡◌, ℕ, suc, ◌+◌, Bool, true, false, if◌then◌else◌, Option, Some, None, List, [], ◌∷◌, ◌++◌, map, length, slice_get}
 use Rattle.std.proofs.Common.{unwrap_or, length-append, refl, sym, ap, subst, ◌∙◌, arith}
 use Rattle.sc_values.specs.declared.expression.Expr.{Expr}
+use Rattle.scl_graph.proofs.Resolved.{pieces_map}
 use Rattle.core_charts.specs.declared.region.Region.{Region}
 use Rattle.core_charts.specs.declared.region.Region.TheViews.{out-State}
 use Rattle.core_charts.specs.declared.region.Transition.{Transition}
@@ -14,6 +15,7 @@ use Rattle.scl.specs.Numbering.{Numbers, Piece, piece, piece_of, beyond, branche
 use Rattle.scl_graph_laws.proofs.Segments.{StandAt, stand_second}
 use Rattle.scl_graph_laws.proofs.Scopes.{KeepsScopes}
 use Rattle.scl_graph_laws.proofs.Searching.{unlike}
+use Rattle.scl_graph_laws.proofs.Numbers.{no_nodes}
 use Rattle.chart_lowering.specs.declared.targets.Targets.{Targets}
 use Rattle.chart_lowering.specs.Lowering.{label, label_name, goto, transitions, tested, taken}
 use Rattle.chart_lowering.specs.Lowering.{depth, behind, branches, labels_in, text_of, is_sure, leaves_surely}
@@ -21,7 +23,7 @@ use Rattle.chart_lowering.specs.Lowering.{piece_of_region as low_of_region}
 use Rattle.node_states.specs.Nodes as row
 use Rattle.chart_lowering_laws.specs.Marks.{Mark, mark_at, second_of, second_behind}
 use Rattle.chart_lowering_laws.specs.Marks.{behind as behind_number, behind_some}
-use Rattle.chart_lowering_laws.proofs.Texts.{made, label_piece, pause_piece, if_piece, fork_piece, pieces_map}
+use Rattle.chart_lowering_laws.proofs.Texts.{made, label_piece, pause_piece, if_piece, fork_piece}
 use Rattle.chart_lowering_laws.proofs.Finding.{MainPlace, label_found}
 use Rattle.chart_lowering_laws.proofs.Passing.{pass_one}
 use Rattle.chart_lowering_laws.proofs.Marking.{lows_same}
@@ -37,10 +39,6 @@ node_of other = 0
 abbrev is_pause : Block → Bool
 is_pause (Pause n rest) = true
 is_pause other = false
-
-pub no_branch_nodes : (bs : List (List Piece)) → (all_branch_counts bs).nodes ≡ 0
-no_branch_nodes [] = refl
-no_branch_nodes (b ∷ bs) = let rest : (all_branch_counts bs).nodes ≡ 0 = no_branch_nodes bs in omega (arith, rest)
 
 module _ (root : Block) (keeps : KeepsScopes root) (t : ℕ) where
   -- what is found behind a label of the text
@@ -187,7 +185,7 @@ module _ (root : Block) (keeps : KeepsScopes root) (ms : List Mark) (nodes : Lis
           (made rest last x.following) at_fork in
           let pause : AtPause root keeps x.thread second last = depth_found root keeps x.thread x.targets [] second last x.following
           (subst (λ js. MainPlace root keeps x.thread (made (behind x.targets js second) last x.following)) are deep) in
-          let none : (all_branch_counts (map (map piece_of) bodies)).nodes ≡ 0 = no_branch_nodes (map (map piece_of) bodies) in
+          let none : (all_branch_counts (map (map piece_of) bodies)).nodes ≡ 0 = no_nodes (map (map piece_of) bodies) in
           let two : (piece_of (statement.Fork bodies)).counts.nodes ≡ 2 + (all_branch_counts (map (map piece_of) bodies)).nodes =
           ap (λ (p : Piece). p.counts.nodes) (fork_piece bodies) in
           let same : next.node ≡ x.numbers.node = same_node root keeps x.thread x.label x.numbers in

@@ -4,6 +4,7 @@ use Rattle.std.proofs.Common.{subst, ◌∙◌, arith}
 use Rattle.std.proofs.lemmas.List.{length-map}
 use Rattle.sc_graph.specs.declared.program.Variable.{Variable}
 use Rattle.sc_text.proofs.EachItem.{Each, each_of}
+use Rattle.scl_graph.proofs.Resolved.{pieces_map}
 use Rattle.core_charts.specs.declared.features.Features.TheVariants as features
 use Rattle.core_charts.specs.declared.region.Region.{Region}
 use Rattle.core_charts.specs.declared.region.State.{State}
@@ -16,17 +17,18 @@ use Rattle.scl.specs.Block.{Block, End}
 use Rattle.scl.specs.Numbering.{Numbers, Piece, piece_of, in_row, thread_body, inside}
 use Rattle.scl_graph_laws.proofs.Segments.{StandAt, stand_from, stand_first, stand_second}
 use Rattle.scl_graph_laws.proofs.Scopes.{KeepsScopes}
+use Rattle.chart_machine.proofs.Outside.{within_or_past}
 use Rattle.chart_lowering.specs.declared.targets.Targets.{Targets}
 use Rattle.chart_lowering.specs.Lowering.{RegionPiece, StatePiece, label, texts, numbers, targets, body, labels_in_initial, labels_in_states}
 use Rattle.chart_lowering.specs.Lowering.{region_piece as low_region, state_piece as low_state, piece_of_region as low_of_region}
 use Rattle.chart_lowering.specs.Lowering.{piece_of_state as low_of_state}
 use Rattle.node_states.specs.Nodes as row
 use Rattle.chart_lowering_laws.specs.Marks.{Mark, RegionMarks, StateMarks, marks_among, region_marks, state_marks, marks_of_region}
-use Rattle.chart_lowering_laws.proofs.Texts.{made, pieces_map}
+use Rattle.chart_lowering_laws.proofs.Texts.{made}
 use Rattle.chart_lowering_laws.proofs.Finding.{MainPlace}
 use Rattle.chart_lowering_laws.proofs.OwnNames.{numbers_long}
 use Rattle.chart_lowering_laws.proofs.Marking.{marks_of_state, StateMarked, low_states_same, state_is_marked, regions_marked}
-use Rattle.chart_lowering_laws.proofs.Walking.{low_open_region, less_or_not}
+use Rattle.chart_lowering_laws.proofs.Walking.{low_open_region}
 use Rattle.compiled_charts_laws.proofs.NodeCounts.{Has, counts_of}
 use Rattle.compiled_charts_laws.proofs.StateCounts.{StateHas, states_have, texts_have, thread_long, regions_have}
 use Rattle.compiled_charts_laws.proofs.Walking.{AllAt, AllWanted, WalksRegion, WalksRegionBy, WalksState, WalksSide, PassedNodes, pass_nodes, in_front}
@@ -46,7 +48,7 @@ module _ (root : Block) (keeps : KeepsScopes root) (ms : List Mark) (nodes : Lis
   all_wanted (x ∷ states) number first others s lo hi =
       let size : ℕ = (row.piece_of_state x).states in
       ⊎_elim (λ less. by (low_of_state x).is_initial first.0 others.0 s lo less)
-      (λ more. all_wanted states (number + size) first.1 others.1 s more (omega (arith, hi))) (less_or_not s (number + size))
+      (λ more. all_wanted states (number + size) first.1 others.1 s more (omega (arith, hi))) (within_or_past s (number + size))
     where
       by : (b : Bool) → (b ≡ true → All number (number + (row.piece_of_state x).states)) →
           (not b ≡ true → All number (number + (row.piece_of_state x).states)) →

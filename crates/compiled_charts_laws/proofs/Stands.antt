@@ -52,13 +52,13 @@ use Rattle.compiled_charts_laws.proofs.Mirrored.{owned, node_access, apart_too, 
 use Rattle.compiled_charts_laws.proofs.AtJoins.{join_at}
 use Rattle.compiled_charts_laws.proofs.AtJoins as at_joins
 
-heads : (x y : ℕ) (xs ys : List ℕ) → x ∷ xs ≡ y ∷ ys → x ≡ y
+pub heads : (x y : ℕ) (xs ys : List ℕ) → x ∷ xs ≡ y ∷ ys → x ≡ y
 heads x y xs ys h = cc
 
 no_item : (x : ℕ) (xs : List ℕ) → [] ≡ x ∷ xs → ⊥
 no_item x xs h = cc
 
-trigger_writes : (o : Option Expr) → (access_of_trigger o).writes ≡ Nothing
+pub trigger_writes : (o : Option Expr) → (access_of_trigger o).writes ≡ Nothing
 trigger_writes None = refl
 trigger_writes (Some e) = refl
 

@@ -4,6 +4,7 @@ use Rattle.std.proofs.Common.{◌≡◌, ℕ, zero, suc, ◌+◌, Bool, true, fa
 use Rattle.std.proofs.Common.{length-append, subst, ◌∙◌, arith}
 use Rattle.sc_graph.specs.declared.program.Variable.{Variable}
 use Rattle.sc_text.proofs.EachItem.{Each, each_of}
+use Rattle.scl_graph.proofs.Resolved.{pieces_map}
 use Rattle.core_charts.specs.declared.features.Features.TheVariants as features
 use Rattle.core_charts.specs.declared.region.Transition.{Transition}
 use Rattle.core_charts.specs.declared.region.Region.{Region}
@@ -23,7 +24,7 @@ use Rattle.chart_lowering.specs.Lowering.{labels_in_states, leaves_surely}
 use Rattle.chart_lowering.specs.Lowering.{region_piece as low_region, state_piece as low_state, piece_of_region as low_of_region}
 use Rattle.chart_lowering.specs.Lowering.{piece_of_state as low_of_state}
 use Rattle.node_states.specs.Nodes as row
-use Rattle.chart_lowering_laws.proofs.Texts.{fork_piece, pause_piece, pieces_map}
+use Rattle.chart_lowering_laws.proofs.Texts.{fork_piece, pause_piece}
 use Rattle.chart_lowering_laws.proofs.OwnNames.{numbers_long}
 use Rattle.compiled_charts_laws.proofs.NodeCounts.{Has, has_as, has_none, has_first, has_append}
 use Rattle.compiled_charts_laws.proofs.NodeCounts.{label_first, goto_first, taken_has, tests_have, unless, counts_of}

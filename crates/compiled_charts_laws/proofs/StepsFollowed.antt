@@ -67,7 +67,7 @@ head_or_tail x y xs h = at h.0 h.1 h.2
 
 -- ---- where threads stand
 
-standing_in : (ds : List Doing) (t : ℕ) → unwrap_or (slice_get (map standing ds) t) status.Absent ≡ standing (unwrap_or (slice_get ds t) Away)
+pub standing_in : (ds : List Doing) (t : ℕ) → unwrap_or (slice_get (map standing ds) t) status.Absent ≡ standing (unwrap_or (slice_get ds t) Away)
 standing_in [] t = refl
 standing_in (d ∷ ds) zero = refl
 standing_in (d ∷ ds) (suc t) = standing_in ds t

@@ -9,6 +9,7 @@ use Rattle.scl.specs.declared.statement.Statement.TheVariants as statement
 use Rattle.scl.specs.Block.{End}
 use Rattle.scl.specs.Numbering.{Piece, piece_of, all_branch_counts}
 use Rattle.scl_graph_laws.proofs.Segments.{stand_all, stand_from}
+use Rattle.scl_graph_laws.proofs.Numbers.{no_nodes}
 use Rattle.node_states.specs.Nodes as row
 use Rattle.chart_lowering_laws.specs.Laws.{IsLowering}
 use Rattle.chart_lowering_laws.specs.Marks.{marks}
@@ -21,7 +22,7 @@ use Rattle.compiled_charts_laws.proofs.NodeCounts.{counts_of}
 use Rattle.compiled_charts_laws.proofs.StateCounts.{RegionHas, regions_have, side_states}
 use Rattle.compiled_charts_laws.proofs.Walking.{StateAt, walk_side}
 use Rattle.compiled_charts_laws.proofs.Regions.{regions_walk}
-use Rattle.compiled_charts_laws.proofs.Reading.{node_of, no_branch_nodes, pause_told, fork_told}
+use Rattle.compiled_charts_laws.proofs.Reading.{node_of, pause_told, fork_told}
 
 module _ (c : Chart) (p : Scl) (low : IsLowering c p) where
   abbrev nodes : row.Nodes
@@ -33,7 +34,7 @@ module _ (c : Chart) (p : Scl) (low : IsLowering c p) where
       ap (λ xs. (counts_of xs).nodes) low.body in
       let fork : (piece_of (statement.Fork (bodies c p low))).counts.nodes ≡ 2 + (all_branch_counts (map (map piece_of) (bodies c p low))).nodes =
       ap (λ (q : Piece). q.counts.nodes) (fork_piece (bodies c p low)) in
-      let none : (all_branch_counts (map (map piece_of) (bodies c p low))).nodes ≡ 0 = no_branch_nodes (map (map piece_of) (bodies c p low)) in
+      let none : (all_branch_counts (map (map piece_of) (bodies c p low))).nodes ≡ 0 = no_nodes (map (map piece_of) (bodies c p low)) in
       omega (arith, own, fork, none)
 
   state_there : (s : ℕ) → s < length (k c p low).states → StateAt (root c p low) (keeps c p low) (marks c) nodes s

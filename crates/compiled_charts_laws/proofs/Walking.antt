@@ -2,6 +2,7 @@
 use Rattle.std.proofs.Common.{◌≡◌, ℕ, suc, ◌+◌, ◌<◌, ◌≤◌, ⊎_elim, Bool, true, false, if◌then◌else◌, Option, Some, List, [], ◌∷◌, ◌++◌, map, length}
 use Rattle.std.proofs.Common.{slice_get, refl, sym, ap, subst, ◌∙◌, arith}
 use Rattle.sc_text.proofs.EachItem.{Each}
+use Rattle.scl_graph.proofs.Resolved.{pieces_map}
 use Rattle.core_charts.specs.declared.region.Region.{Region}
 use Rattle.core_charts.specs.declared.region.State.{State}
 use Rattle.core_charts.specs.declared.region.Transition.{Transition}
@@ -11,6 +12,7 @@ use Rattle.core_charts.specs.declared.region.Region.TheFolds.{fold_out-State}
 use Rattle.core_charts.specs.Rules.{IsBareIfFinal}
 use Rattle.core_charts.specs.Tests.{terminations}
 use Rattle.chart_machine.specs.Table as table
+use Rattle.chart_machine.proofs.Outside.{within_or_past}
 use Rattle.scl.specs.declared.statement.Statement.{Statement}
 use Rattle.scl.specs.declared.statement.Statement.TheVariants as statement
 use Rattle.scl.specs.Block.{Block, Fork}
@@ -26,11 +28,11 @@ use Rattle.chart_lowering.specs.Lowering.{piece_of_state as low_of_state}
 use Rattle.node_states.specs.Nodes as row
 use Rattle.chart_lowering_laws.specs.Marks.{Mark, RegionMarks, StateMarks, lows, marks_beside}
 use Rattle.chart_lowering_laws.specs.Marks.{marks_among, region_marks, state_marks, marks_of_region, second_of}
-use Rattle.chart_lowering_laws.proofs.Texts.{made, label_piece, fork_piece, pieces_map}
+use Rattle.chart_lowering_laws.proofs.Texts.{made, label_piece, fork_piece}
 use Rattle.chart_lowering_laws.proofs.Finding.{MainPlace, main_branch}
 use Rattle.chart_lowering_laws.proofs.Passing.{pass_one}
 use Rattle.chart_lowering_laws.proofs.Marking.{marks_of_state, RegionMarked, StateMarked}
-use Rattle.chart_lowering_laws.proofs.Walking.{low_open_state, mark_open_state, less_or_not}
+use Rattle.chart_lowering_laws.proofs.Walking.{low_open_state, mark_open_state}
 use Rattle.compiled_charts_laws.proofs.NodeCounts.{Has, counts_of}
 use Rattle.compiled_charts_laws.proofs.StateCounts.{RegionHas, StateHas}
 
@@ -102,7 +104,7 @@ module _ (root : Block) (keeps : KeepsScopes root) (ms : List Mark) (nodes : Lis
   none_at lo s a b = absurd (omega (arith, a, b))
 
   both_at : (a b c : ℕ) → AllAt a b → AllAt b c → AllAt a c
-  both_at a b c x y s lo hi = ⊎_elim (λ less. x s lo less) (λ more. y s more hi) (less_or_not s b)
+  both_at a b c x y s lo hi = ⊎_elim (λ less. x s lo less) (λ more. y s more hi) (within_or_past s b)
 
   all_to : (a b c : ℕ) → b ≡ c → AllAt a b → AllAt a c
   all_to a b c same x = subst (AllAt a) same x
@@ -219,7 +221,7 @@ module _ (root : Block) (keeps : KeepsScopes root) (ms : List Mark) (nodes : Lis
             own = own;
           } in
           λ q lo hi. ⊎_elim (λ less. subst StateAt (omega (arith, lo, less)) own_state) (λ more. inner q more (omega (arith, hi)))
-          (less_or_not q (suc number))
+          (within_or_past q (suc number))
 
   -- of the states of a region those that are wanted
   abbrev pub AllWanted : Bool → List State → ℕ → Type 0

@@ -1,3 +1,3 @@
 mod Refused
 pub mod Texts
-mod Charts
+pub mod Charts

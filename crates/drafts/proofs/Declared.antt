@@ -80,7 +80,7 @@ flawless names at outputs (x ∷ V) none =
 pub few_variables : (V : List Declaration) → variable_flaws (variable_names V) 0 0 V ≡ [] → length V ≤ variable_limit
 few_variables V none = let few = (flawless (variable_names V) 0 0 V none).count (omega arith) in omega (arith, few)
 
-names_same : (V : List Declaration) → map (λ (v : Variable). v.name) (variables_of V) ≡ variable_names V
+pub names_same : (V : List Declaration) → map (λ (v : Variable). v.name) (variables_of V) ≡ variable_names V
 names_same [] = refl
 names_same (x ∷ V) = ap (λ names. x.named.name ∷ names) (names_same V)
 

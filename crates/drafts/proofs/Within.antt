@@ -25,7 +25,7 @@ use Rattle.drafts.specs.Resolved.{operation_of, code_of}
 
 -- ---- how many operands stand
 
-height_grown : (names : List (List ℕ)) (o : TextOperation) (ts after : List Expr) → grown (operation_of names o) ts ≡ Some after
+pub height_grown : (names : List (List ℕ)) (o : TextOperation) (ts after : List Expr) → grown (operation_of names o) ts ≡ Some after
     → length after ≡ height_behind o (length ts)
 height_grown names (text.Literal v) ts after e =
     let same : roll-Expr (tree.Literal v) ∷ ts ≡ after = cc in

@@ -24,7 +24,7 @@ pub(crate) struct Lowered {
 }
 
 // The core chart of a chart, and its SCL program. Err: it has none; or memory was refused.
-#[tactic(auto, using(source_programs::proofs::Spelling::lowering_of))]
+#[tactic(auto, using(compiler::proofs::Charts::lowering_of))]
 fn core_of(alloc: Global, chart: &Chart) -> Result<(CoreChart, Scl), ExpandFault>
     ensures { IfOk result (λ made. (made.0 ≡ expanded chart.now) × IsSclOf chart.now made.1) }
 {

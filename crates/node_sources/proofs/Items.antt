@@ -1,5 +1,5 @@
 -- Items of lists, by their numbers.
-use Rattle.std.proofs.Common.{◌≡◌, ℕ, zero, suc, ◌<◌, Some, List, [], ◌∷◌, map, length, slice_get, refl, ap, arith}
+use Rattle.std.proofs.Common.{◌≡◌, ℕ, zero, suc, ◌<◌, Some, List, [], ◌∷◌, length, slice_get, refl, arith}
 
 pub record Item {A : Type 0} (xs : List A) (k : ℕ) : Type 0 where
   pub item : A
@@ -12,8 +12,3 @@ item_below (x ∷ xs) (suc k) small =
     let less : k < length xs = omega (arith, small) in
     let later : Item xs k = item_below xs k less in
     record { item = later.item; there = later.there }
-
-pub get_mapped : {A B : Type 0} (f : A → B) (xs : List A) (k : ℕ) (x : A) → slice_get xs k ≡ Some x → slice_get (map f xs) k ≡ Some (f x)
-get_mapped f [] k x there = absurd cc
-get_mapped f (y ∷ xs) zero x there = let same : y ≡ x = cc in ap (λ z. Some (f z)) same
-get_mapped f (y ∷ xs) (suc k) x there = get_mapped f xs k x there

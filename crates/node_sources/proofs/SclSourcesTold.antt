@@ -14,12 +14,13 @@ use Rattle.graph_origins.specs.declared.origin.NodeOrigin.TheVariants as node
 use Rattle.graph_origins.specs.Laws.{IsDone, IsSecond, OriginsTellNodes, TellsNodes}
 use Rattle.graph_origins.specs.Origins.{node_origins}
 use Rattle.graph_origins.specs.Points.{Point, Assigns, Marks, Jumps, Pauses, Tests, Forks, Ends, text_points}
+use Rattle.node_elements.proofs.Telling.{get_mapped}
 use Rattle.node_sources.specs.declared.origin.Origin.{Origin}
 use Rattle.node_sources.specs.declared.statements.StatementPlace.{StatementPlace}
 use Rattle.node_sources.specs.SclLaws.{NodeTold, OriginStands, PointStands, SecondStands, SourcesTellScl}
 use Rattle.node_sources.specs.SclOrigins.{at_first, at_second, point_origin, spots_of, statement_at}
 use Rattle.node_sources.specs.Sources.{SclSources}
-use Rattle.node_sources.proofs.Items.{Item, get_mapped, item_below}
+use Rattle.node_sources.proofs.Items.{Item, item_below}
 use Rattle.node_sources.proofs.StatementsPlaced.{SecondOf, SpotStands, Stand, as_many, stand_at}
 use Rattle.node_sources.proofs.SclTold.{spots_stand}
 

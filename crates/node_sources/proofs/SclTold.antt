@@ -1,6 +1,6 @@
 -- Each node of the program of an SCL text comes from a point that has a spot.
-use Rattle.std.proofs.Common.{◌≡◌, ℕ, suc, ◌<◌, Option, Some, None, IsSome, is_some, List, [], ◌∷◌}
-use Rattle.std.proofs.Common.{map, length, slice_get, refl, sym, ap, subst, ◌∙◌, arith}
+use Rattle.std.proofs.Common.{◌≡◌, ℕ, ◌<◌, Option, Some, None, IsSome, is_some, List, [], ◌∷◌}
+use Rattle.std.proofs.Common.{map, length, slice_get, sym, ap, subst, ◌∙◌, arith}
 use Rattle.std.proofs.lemmas.Option.{slice_get-get_or}
 use Rattle.std.specs.List.{slice_index_or}
 use Rattle.grammar.specs.Grammar.{spells}
@@ -23,6 +23,7 @@ use Rattle.scl_drafts.specs.Checked.{IsFlawless}
 use Rattle.scl_drafts.specs.Program.{scl as scl_grammar}
 use Rattle.scl_drafts.specs.Statements.{Statements}
 use Rattle.scl_reader.specs.Resolved.{IsProgramOf, statements_of}
+use Rattle.scl_reader.proofs.Pieces.{every_of}
 use Rattle.scl_graph.specs.Answers.{IsGraph}
 use Rattle.scl_graph.specs.Graph.{program_of}
 use Rattle.graph_origins.specs.declared.origin.NodeOrigin.{NodeOrigin}
@@ -50,11 +51,6 @@ done_there spots body (node.Second n) s each h =
     let less : n < length (text_points body) = below (text_points body) n h.0 h.1 in
     let small : n < length spots = omega (arith, each, less) in
     ap (λ o. is_some (at_second o)) (item_below spots n small).there
-
--- what holds at each place holds of each
-every_of : {A : Type 0} (P : A → Type 0) (xs : List A) → ((n : ℕ) (x : A) → slice_get xs n ≡ Some x → P x) → Every P xs
-every_of P [] h = tt
-every_of P (x ∷ xs) h = (h 0 x refl, every_of P xs (λ n y at. h (suc n) y at))
 
 module _ (text : List ℕ) (d : Draft) (is : IsFlawless text d) (tokens : List Token) (cut : AreTokens language.Scl 0 text tokens)
     (scl : Scl) (spelled : IsProgramOf d scl) where

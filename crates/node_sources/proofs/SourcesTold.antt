@@ -15,13 +15,14 @@ use Rattle.chart_places.specs.Laws.{EffectStands, NameStands, PlacesTellTexts, T
 use Rattle.chart_places.specs.Places.{place_of, state_around}
 use Rattle.node_elements.specs.Laws.{Comes, ElementsTellNodes, NodeFrom, TellsElements}
 use Rattle.node_elements.specs.Origins.{node_elements}
+use Rattle.node_elements.proofs.Telling.{get_mapped}
 use Rattle.node_sources.specs.declared.origin.Origin.{Origin}
 use Rattle.node_sources.specs.declared.origin.Part.{Part}
 use Rattle.node_sources.specs.ChartOrigins.{in_state_around, node_origin, origins_from, standing, standing_if}
 use Rattle.node_sources.specs.Laws.{ElementStands, IsStanding, NodeTold, SourcesTellCharts}
 use Rattle.node_sources.specs.Parts.{part_of}
 use Rattle.node_sources.specs.Sources.{ChartSources}
-use Rattle.node_sources.proofs.Items.{Item, get_mapped, item_below}
+use Rattle.node_sources.proofs.Items.{Item, item_below}
 use Rattle.node_sources.proofs.ChartsTold.{HasPlace, has_place, tells_elements, tells_places}
 
 -- ---- rows of origins

@@ -18,18 +18,11 @@ use Rattle.scl_drafts.specs.declared.statement.TextStatement.{TextStatement}
 use Rattle.scl_drafts.specs.Statements.{Statements, branch_of, goto_statement, named_statement, none_or_them, pause_statement}
 use Rattle.scl_drafts.specs.Program.{Grows, Inner, NoMore, Nested, Text, block, branch, choice, fork, forking, forks_within, goto}
 use Rattle.scl_drafts.specs.Program.{ifs_within, name, named, pause, program, scl, simple, statement, test, thread}
+use Rattle.chart_places.proofs.Words.{name_is}
 use Rattle.node_sources.specs.SclLaws.{NameStands, OpensThread, OpeningStands, TokenStands, WordStands, opens_branch, opens_fork, opens_text}
 use Rattle.node_sources.proofs.StatementsPlaced.{IsBranchPut, IsPut, fork_put, goto_put, if_put, named_put, pause_put}
 
 -- ---- tokens of one class
-
-name_is : (k : TokenKind) → IsTrue (is_in text_tokens (AName ∷ []) (class_of k)) → k ≡ token.Name (name_of k)
-name_is (token.Name name) c = refl
-name_is (token.Number (pos zero)) c = absurd cc
-name_is (token.Number (pos (suc n))) c = absurd cc
-name_is (token.Number (negsuc n)) c = absurd cc
-name_is (token.Word w) c = absurd cc
-name_is (token.Sign s) c = absurd cc
 
 in_one : (b : Bool) → IsTrue (b || false) → IsTrue b
 in_one true h = refl

@@ -10,11 +10,12 @@ use Rattle.core_charts.specs.Chart.{Chart}
 use Rattle.core_charts.specs.Rules.{IsChart}
 use Rattle.chart_machine.specs.declared.table.Table.{Table}
 use Rattle.chart_machine.specs.Table.{table, state_at}
+use Rattle.chart_machine.proofs.Outside.{within_or_past}
 use Rattle.abort_expansion.specs.Expansion.{expanded}
 use Rattle.abort_expansion.specs.Superstates.{stays}
 use Rattle.chart_machine_laws.specs.Tree.{IsThere, around, holder}
 use Rattle.chart_machine_laws.proofs.LyingIn.{none_in, head_in, head_or_tail}
-use Rattle.chart_machine_laws.proofs.ChartTables.{around_there, no_regions_past, within_or_past}
+use Rattle.chart_machine_laws.proofs.ChartTables.{around_there, no_regions_past}
 use Rattle.tick_laws.proofs.Lists.{contains_map, map_contains}
 use Rattle.abort_expansion_laws.specs.CoreRows.{own, IsState, IsSuper, Images, flags_around, watchers}
 use Rattle.abort_expansion_laws.proofs.ChartsOpened.{entry_rows}

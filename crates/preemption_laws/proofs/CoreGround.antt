@@ -10,10 +10,11 @@ use Rattle.core_charts.specs.Rules.{IsChart}
 use Rattle.chart_machine.specs.declared.table.Table.{Table}
 use Rattle.chart_machine.specs.Steps.{state_in}
 use Rattle.chart_machine.specs.Table.{table, state_at, region_at}
+use Rattle.chart_machine.proofs.Outside.{within_or_past}
 use Rattle.abort_expansion.specs.Expansion.{expanded}
 use Rattle.chart_machine_laws.specs.Tree.{IsThere, around, holder}
 use Rattle.chart_machine_laws.proofs.LyingIn.{none_in}
-use Rattle.chart_machine_laws.proofs.ChartTables.{around_there, within_or_past}
+use Rattle.chart_machine_laws.proofs.ChartTables.{around_there, no_states_past}
 use Rattle.tick_laws.proofs.Lists.{contains_get, contains_map, slice_get_there, map_contains}
 use Rattle.abort_expansion_laws.specs.CoreRows.{own, IsState, Images}
 use Rattle.abort_expansion_laws.proofs.ChartsOpened.{entry_rows}
@@ -23,7 +24,6 @@ use Rattle.abort_expansion_laws.proofs.JustEntered.{EntryRows}
 use Rattle.abort_expansion_laws.proofs.OpenedInside.{Leads, charts_lead}
 use Rattle.abort_expansion_laws.proofs.RowsOfCharts as whole
 use Rattle.abort_expansion_laws.proofs.StartingRegions.{Once}
-use Rattle.abort_expansion_laws.proofs.TableEnds.{no_states_past}
 use Rattle.abort_expansion_laws.proofs.TopRegions.{tops, top_there}
 use Rattle.abort_expansion_laws.proofs.WalkedWhole.{entered}
 use Rattle.reaction_laws.proofs.EnclosedStill.{Firsts}

@@ -8,6 +8,7 @@ use Rattle.std.proofs.lemmas.List.{append-nil}
 use Rattle.sc_text.proofs.EachItem.{Each, each_append, each_at, each_more}
 use Rattle.sc_values.specs.Access.{Reads}
 use Rattle.sc_values.specs.Assignment.{assignment_of, access_of_assignment}
+use Rattle.scl_graph_laws.proofs.Targets.{same_number}
 use Rattle.core_charts.specs.declared.features.Features.TheVariants as features
 use Rattle.core_charts.specs.declared.region.Effect.{Effect}
 use Rattle.core_charts.specs.declared.region.Transition.{Transition}
@@ -20,8 +21,8 @@ use Rattle.chart_machine.specs.declared.table.StateRow.{StateRow}
 use Rattle.chart_machine.specs.declared.table.Table.{Table}
 use Rattle.chart_machine.specs.Table.{table, state_at}
 use Rattle.chart_machine.specs.Steps.{to, state_in}
+use Rattle.chart_machine.proofs.Outside.{within_or_past}
 use Rattle.chart_machine_laws.specs.Tree.{around, holder}
-use Rattle.chart_machine_laws.proofs.ChartTables.{within_or_past}
 use Rattle.chart_machine_laws.proofs.LyingIn.{none_in, tail_in}
 use Rattle.tick_laws.proofs.Lists.{get_contains, true_both}
 use Rattle.abort_expansion.specs.declared.flags.Flags.{Flags}
@@ -30,7 +31,6 @@ use Rattle.abort_expansion.specs.Flags.{aborts_around, has_join}
 use Rattle.abort_expansion.specs.Superstates.{stays, is_prepared, all_ended}
 use Rattle.abort_expansion.specs.Transitions.{strong_checks, raising}
 use Rattle.abort_expansion_laws.specs.CoreRows.{own, is_final, IsState, IsSuper, Images, CoreRows, WatcherImage, flags_around}
-use Rattle.abort_expansion_laws.proofs.FlagNumbers.{same_number}
 use Rattle.abort_expansion_laws.proofs.RowsOfCharts as whole
 use Rattle.abort_expansion_laws.proofs.TicksOfCharts as ticks
 use Rattle.abort_expansion_laws.proofs.TickStarts.{some_kept}

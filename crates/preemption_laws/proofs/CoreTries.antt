@@ -26,10 +26,11 @@ use Rattle.chart_machine.specs.Turns.{standing_of, has_work, inside}
 use Rattle.chart_machine_laws.specs.Tree.{IsThere, holder}
 use Rattle.tick_laws.proofs.Lists.{same_or_not}
 use Rattle.tick_laws.proofs.Views.{only_if_some}
+use Rattle.chart_lowering_laws.proofs.Entering.{moved_length}
 use Rattle.abort_expansion_laws.specs.CoreRows.{own, IsState}
 use Rattle.abort_expansion_laws.proofs.KnownVariables.{Stepped, stepped}
 use Rattle.abort_expansion_laws.proofs.MoreValues.{Got, got}
-use Rattle.abort_expansion_laws.proofs.Leaving.{at_number, set_here, set_other, moved_append, moved_size}
+use Rattle.abort_expansion_laws.proofs.Leaving.{at_number, set_here, set_other, moved_append}
 use Rattle.abort_expansion_laws.proofs.WokenConfigurations.{woken_at}
 use Rattle.reaction_laws.proofs.SitsAtStart.{Tops, all_out}
 use Rattle.preemption_laws.specs.Looks.{look, Looks}
@@ -179,7 +180,7 @@ module _ (k : Table) (looks : ℕ → List Transition) (l : Looks k looks) (g : 
           let last : at_number (moved (taken k t u first) c.regions) t ≡ at.Ended =
           ap (λ ms. at_number (moved (dropped k u ++ ms) c.regions) t) ends
           ∙ (ap (λ ys. at_number ys t) (moved_append (dropped k u) (to t at.Ended ∷ []) c.regions)
-          ∙ set_here zs t at.Ended (in_place zs (moved_size (dropped k u) c.regions))) in
+          ∙ set_here zs t at.Ended (in_place zs (moved_length (dropped k u) c.regions))) in
           let wrong : at.Trying s tests ≡ at.Ended =
           sym stands ∙ (now (taken k t u first) is ∙ (ap (at_number (moved (taken k t u first) c.regions)) e ∙ last)) in
           absurd cc

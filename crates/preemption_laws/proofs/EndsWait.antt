@@ -6,6 +6,7 @@ use Rattle.std.proofs.lemmas.List.{length-append}
 use Rattle.std.proofs.lemmas.Option.{same_Some}
 use Rattle.sc_values.specs.Runs.{replay, IsOver, acts, acts_after, act_of, Ends}
 use Rattle.sc_values.proofs.Order.{Orderly, orderly_from_admissible}
+use Rattle.scl_graph_laws.proofs.Searching.{unlike}
 use Rattle.core_charts.specs.declared.region.Transition.{Transition}
 use Rattle.chart_machine.specs.declared.standing.Configuration.{Configuration}
 use Rattle.chart_machine.specs.declared.standing.Standing.{Standing}
@@ -25,7 +26,6 @@ use Rattle.preemption_laws.proofs.SoundCores.{core_still, not_guarded}
 use Rattle.preemption_laws.proofs.StillTurns.{turn_still}
 use Rattle.preemption_laws.proofs.StaysThere.{Sound}
 use Rattle.preemption_laws.proofs.StillConfigurations.{stands_still, waiting_same}
-use Rattle.abort_expansion_laws.proofs.Unchanged.{not_both}
 
 -- what holds of no item holds of none of a list
 none_any : {A : Type 0} (f : A → Bool) (xs : List A) → ((before after : List A) (y : A) → xs ≡ before ++ y ∷ after → f y ≡ false) → list_any f xs ≡ false
@@ -65,7 +65,7 @@ module _ (k : Table) (looks : ℕ → List Transition) (known : Looks k looks) (
     none_left : (q s : ℕ) (w : Transition) (tests : List Transition) → standing_of e q ≡ at.Trying s (w ∷ tests) → ⊥
     none_left q s w tests stands =
         let free = not_guarded k looks known g e there.sound.forms (around k q) in
-        let on : is_enabled k e q ≡ true = rw (stands, free) refl in not_both (is_enabled k e q) on (over q)
+        let on : is_enabled k e q ≡ true = rw (stands, free) refl in unlike (is_enabled k e q) on (over q)
 
     sees_none : (q s : ℕ) → standing_of e q ≡ at.Trying s [] → sees k looks (still k looks e) (standing_of (still k looks e) q) ≡ false
     sees_none q s stands =

@@ -13,6 +13,7 @@ use Rattle.chart_machine.specs.declared.table.Table.{Table}
 use Rattle.chart_machine.specs.Turns.{standing_of, is_enabled, ForkedApart}
 use Rattle.chart_machine.specs.Steps.{step, access_of}
 use Rattle.scl_graph_laws.specs.Alike.{EndsAlike}
+use Rattle.scl_graph_laws.proofs.Searching.{unlike}
 use Rattle.chart_lowering_laws.specs.Follows.{Answers, Follows}
 use Rattle.chart_lowering_laws.specs.Shown.{AreSilent, move, moves, moves_after, shown_acts}
 use Rattle.chart_lowering_laws.proofs.Following.{follows_ends}
@@ -26,7 +27,6 @@ use Rattle.preemption_laws.proofs.StaysThere.{Sound, is_within, stepping_there, 
 use Rattle.preemption_laws.proofs.StillConfigurations.{waiting_same}
 use Rattle.preemption_laws.proofs.QuietSteps.{quiet_machine}
 use Rattle.preemption_laws.proofs.StillTurns.{goes_there}
-use Rattle.abort_expansion_laws.proofs.Unchanged.{not_both}
 
 -- ---- machines that differ in whom they call enabled alone
 
@@ -104,8 +104,8 @@ module _ (k : Table) (looks : ℕ → List Transition) where
     stays_within c d t a sound (inl is) other steps = inl is
     stays_within c d t a sound (inr h) other steps =
         inr (ap is_within (stays_there k looks l g c sound d t steps a (record {
-          entered = λ e. not_both (is_within (standing_of c a)) h (ap is_within e);
-          not_ended = λ e. not_both (is_within (standing_of c a)) h (ap is_within e);
+          entered = λ e. unlike (is_within (standing_of c a)) h (ap is_within e);
+          not_ended = λ e. unlike (is_within (standing_of c a)) h (ap is_within e);
         }) (λ e. other (sym e))) ∙ h)
 
     -- ---- steps that are no looks are steps of the machine that waits, and a look is one that leaves, or none

@@ -10,6 +10,7 @@ use Rattle.sc_values.specs.Assignment.{reads, assignment_of, access_of_assignmen
 use Rattle.sc_values.specs.Runs.{Act}
 use Rattle.sc_values.proofs.Loading.{value_same}
 use Rattle.sc_values.proofs.Order.{Clear, EachIsOpen, clear_weaker}
+use Rattle.scl_graph_laws.proofs.Searching.{unlike}
 use Rattle.core_charts.specs.declared.region.Effect.{Effect}
 use Rattle.core_charts.specs.declared.region.Transition.{Transition}
 use Rattle.chart_machine.specs.declared.standing.Configuration.{Configuration}
@@ -22,7 +23,6 @@ use Rattle.chart_machine_laws.proofs.LyingIn.{apart_inside}
 use Rattle.tick_laws.proofs.Lists.{same_or_not, get_set_other, contains_none, contains_cons, contains_head}
 use Rattle.abort_expansion.specs.Transitions.{put, is_raised}
 use Rattle.abort_expansion_laws.proofs.FlagAccess.{put_access, raised_access}
-use Rattle.abort_expansion_laws.proofs.Unchanged.{not_both}
 use Rattle.preemption_laws.specs.Looks.{look, Looks}
 use Rattle.preemption_laws.proofs.CoreTries.{held, tails, writes, tries}
 use Rattle.preemption_laws.proofs.Ground.{Ground, enclosed_on}
@@ -112,7 +112,7 @@ module _ (k : Table) (looks : ℕ → List Transition) (known : Looks k looks) (
         t_out : ¬ LiesIn k t r
         t_out (itself same) = other (sym same)
         t_out (deeper v inner holds) =
-            not_both (is_within (standing_of c (holder k v))) (within_around k looks known g c sound t v t_here inner)
+            unlike (is_within (standing_of c (holder k v))) (within_around k looks known g c sound t v t_here inner)
             (ap (λ q. is_within (standing_of c q)) holds ∙ ap is_within stands)
 
         r_out : ¬ LiesIn k r t
@@ -138,7 +138,7 @@ module _ (k : Table) (looks : ℕ → List Transition) (known : Looks k looks) (
             by_holder one =
                 let inner : Contains (around k r) (known.superstate_of x) =
                 subst (λ q. Contains (around k q) (known.superstate_of x)) (held k looks known g c sound r s tests stands) (known.lies_inside s x seen) in
-                not_both (is_within (standing_of c (holder k (known.superstate_of x))))
+                unlike (is_within (standing_of c (holder k (known.superstate_of x))))
                 (within_around k looks known g c sound r (known.superstate_of x) going.entered inner)
                 (ap (λ q. is_within (standing_of c q)) (sym one) ∙ ap is_within at_it)
 

@@ -1,7 +1,6 @@
 -- The nodes of looks in the graph of a core chart: the join of the fork around a region is no higher than each of the region's looks.
-use Rattle.std.proofs.Common.{◌≡◌, ◌≢◌, ℕ, suc, ◌<◌, ◌≤◌, ⊎_elim, true, Some, List, [], ◌∷◌, map, length, slice_get, unwrap_or}
+use Rattle.std.proofs.Common.{◌≡◌, ℕ, suc, ◌<◌, ◌≤◌, ⊎_elim, true, Some, List, [], ◌∷◌, map, length, slice_get, unwrap_or}
 use Rattle.std.proofs.Common.{Contains, refl, sym, ap, subst, ◌∙◌, arith}
-use Rattle.sc_values.specs.Access.{Access, no_access}
 use Rattle.sc_values.specs.Expr.{postorder}
 use Rattle.sc_graph.specs.declared.control.Control.{Control}
 use Rattle.sc_graph.specs.declared.control.Status.TheVariants as status
@@ -38,7 +37,6 @@ use Rattle.scl_graph_laws.specs.Mirrors.{Mirrors, HasNode, HasNodes, HasFork, le
 use Rattle.scl_graph_laws.specs.Standing.{standing, IsOfText}
 use Rattle.scl_graph_laws.proofs.Texts.{program_mirrors}
 use Rattle.abort_expansion.specs.Transitions.{is_raised}
-use Rattle.abort_expansion_laws.proofs.FlagAccess.{raised_access}
 use Rattle.chart_lowering_laws.specs.Corresponds.{Live, HeldBy, Giving, Nothing, Ready, Turn, Past, given, first_standing, Fits}
 use Rattle.chart_lowering_laws.specs.Laws.{IsLowering}
 use Rattle.chart_lowering_laws.specs.Layout.{Layout, IsRegionOf, IsSimple, IsFinal, IsSuper, LiesIn, Takes, Tests, Tries, TriesOut, Lowers}
@@ -48,8 +46,10 @@ use Rattle.chart_lowering_laws.proofs.Lowered.{chart_is_lowered}
 use Rattle.compiled_charts_laws.proofs.AtJoins as at_joins
 use Rattle.compiled_charts_laws.proofs.Mirrored.{owned, stepped}
 use Rattle.compiled_charts_laws.proofs.TestNodes as nodes
-use Rattle.reaction_laws.proofs.CaughtThreads.{standing_in}
+use Rattle.compiled_charts_laws.proofs.Stands.{heads}
+use Rattle.compiled_charts_laws.proofs.StepsFollowed.{standing_in}
 use Rattle.reaction_laws.specs.StepNodes.{AtOwnNode, AtTheirNodes, Alike}
+use Rattle.reaction_laws.proofs.ChecksBeside.{reads_flag}
 use Rattle.preemption_laws.specs.Looks.{look}
 
 -- a node of this thread that looks at a flag, and is not below this one
@@ -77,15 +77,8 @@ ended_trying s ts e = absurd cc
 ended_within : (s : ℕ) (ts : List Transition) → at.Ended ≡ at.Within s ts → ⊥
 ended_within s ts e = absurd cc
 
-heads_same : (w v : ℕ) (ws vs : List ℕ) → w ∷ ws ≡ v ∷ vs → w ≡ v
-heads_same w v ws vs e = cc
-
 no_items : (v : ℕ) (vs : List ℕ) → v ∷ vs ≡ [] → ⊥
 no_items v vs e = absurd cc
-
-busy : (y : ℕ) → access_of_trigger (Some (is_raised y)) ≢ no_access
-busy y none =
-    absurd (no_items y [] (sym (ap (λ (a : Access). a.reads) (raised_access y)) ∙ ap (λ (a : Access). a.reads) none))
 
 module _ (c : Chart) (p : Scl) (q : Tables) (low : IsLowering c p) (valid : IsValid (program_of (numbered p)) q) where
   abbrev K : Table
@@ -123,7 +116,7 @@ module _ (c : Chart) (p : Scl) (q : Tables) (low : IsLowering c p) (valid : IsVa
 
       lies : (w : ℕ) × LiesIn K t w → IsSuper K P.root L v × LiesIn K t v
       lies (w, in_w) =
-          let same : w ≡ v = heads_same w v (region_at K (state_at K w).holder).around ss (sym in_w.around ∙ round) in
+          let same : w ≡ v = heads w v (region_at K (state_at K w).holder).around ss (sym in_w.around ∙ round) in
           let here : LiesIn K t v = subst (LiesIn K t) same in_w in (
             ⊎_elim (λ simple. absurd (simple.none_inside t inner)) (⊎_elim (λ final. absurd (final.none_inside t inner)) (λ super. super))
                 (lowers.states v here.there),
@@ -253,7 +246,7 @@ module _ (c : Chart) (p : Scl) (q : Tables) (low : IsLowering c p) (valid : IsVa
       at_node =
           subst (λ z. AtOwnNode G m t (access_of z)) stands
           (own_nodes t on
-          (λ none. busy y (sym (ap access_of stands) ∙ none)))
+          (λ none. reads_flag y (sym (ap access_of stands) ∙ none)))
 
       status_here : (z : Doing) → doing alike.state t ≡ z → status_of m t ≡ standing z
       status_here z is =

@@ -26,9 +26,9 @@ use Rattle.abort_expansion_laws.specs.CoreRows.{own, IsState, IsSuper, IsSimple,
 use Rattle.abort_expansion_laws.specs.CoreRows.{flags_around}
 use Rattle.abort_expansion_laws.proofs.RowsOfCharts as whole
 use Rattle.abort_expansion_laws.proofs.TicksOfCharts as ticks
-use Rattle.abort_expansion_laws.proofs.TickStarts.{kept_none}
 use Rattle.abort_expansion_laws.proofs.YetToLook.{in_reverse}
 use Rattle.abort_expansion_laws.proofs.ThreadsAround.{thread_within}
+use Rattle.abort_expansion_laws.proofs.JoinsFork.{no_chosen}
 use Rattle.preemption_laws.specs.Looks.{look, checks_of, monitor_checks, waits_itself, waits_behind}
 use Rattle.preemption_laws.proofs.TameLists.{joined_tame, strong_checks_tame, led_own, entry_tame, strong_answers, weak_answers, closing_tame}
 use Rattle.preemption_laws.proofs.TameLists.{resets_tame, looks_mild, own_sound}
@@ -237,7 +237,7 @@ module _ (c : Chart) (rules : IsChart features.Extended c) (core_rules : IsChart
           last =
               behind_own
               ∙ ap (λ ts. front ++ closing (flags_here home) (i.flags_of s) (i.places_of home) ts)
-              (kept_none (λ t. is_join t.kind) (own k s) none);
+              (no_chosen (λ t. is_join t.kind) (own k s) none);
           tame = front_tame;
           mild = looks_mild c rules core_rules (i.behind_of s) true at_left (flags_here home);
           bare = λ x h. ap (λ (z : StateRow). z.regions) split.behind;

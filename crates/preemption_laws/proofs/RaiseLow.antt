@@ -14,6 +14,7 @@ use Rattle.sc_graph.specs.Valid.{IsValid}
 use Rattle.tick_laws.proofs.EnabledPairs.{edge_falls}
 use Rattle.tick_laws.proofs.Kin.{below_self}
 use Rattle.tick_laws.proofs.Lists.{same_or_not, contains_head}
+use Rattle.scl_graph_laws.proofs.Searching.{unlike}
 use Rattle.core_charts.specs.declared.region.Effect.{Effect}
 use Rattle.core_charts.specs.declared.region.Transition.{Transition}
 use Rattle.core_charts.specs.Chart.{Chart}
@@ -30,7 +31,6 @@ use Rattle.scl_graph.specs.Graph.{program_of}
 use Rattle.abort_expansion.specs.Transitions.{put, is_raised}
 use Rattle.abort_expansion_laws.proofs.FlagAccess.{put_access}
 use Rattle.abort_expansion_laws.proofs.Supplying.{sets}
-use Rattle.abort_expansion_laws.proofs.Unchanged.{not_both}
 use Rattle.chart_lowering_laws.specs.Laws.{IsLowering}
 use Rattle.reaction_laws.specs.StepNodes.{AtOwnNode}
 use Rattle.reaction_laws.proofs.LinesAhead.{LowAhead}
@@ -81,7 +81,7 @@ module _ (e : Chart) (p : Scl) (q : Tables) (low : IsLowering e p) (valid : IsVa
       t_out (itself same) =
           trying_acting s w.state w.target ts (w.effect ∷ w.effects) (sym stands ∙ (ap (standing_of c) (sym same) ∙ w.stands))
       t_out (deeper o inner holds_it) =
-          not_both (is_within (standing_of c (holder K o))) (within_around K looks l g c all.sound.core t o t_here inner)
+          unlike (is_within (standing_of c (holder K o))) (within_around K looks l g c all.sound.core t o t_here inner)
           (ap (λ r. is_within (standing_of c r)) holds_it ∙ ap is_within stands)
 
       -- it raises the flag
@@ -122,7 +122,7 @@ module _ (e : Chart) (p : Scl) (q : Tables) (low : IsLowering e p) (valid : IsVa
       by_holder one =
           let inner : Contains (around K u) (l.superstate_of x) =
           subst (λ r. Contains (around K r) (l.superstate_of x)) (held K looks l g c all.sound.core u s ts stands) (l.lies_inside s x seen) in
-          not_both (is_within (standing_of c (holder K (l.superstate_of x))))
+          unlike (is_within (standing_of c (holder K (l.superstate_of x))))
           (within_around K looks l g c all.sound.core u (l.superstate_of x) u_here inner)
           (ap (λ r. is_within (standing_of c r)) (sym one) ∙ ap is_within w.stands)
 
@@ -131,7 +131,7 @@ module _ (e : Chart) (p : Scl) (q : Tables) (low : IsLowering e p) (valid : IsVa
     raise_low was is_now =
         ⊎_elim
         (λ same.
-        absurd (not_both (holds d (look (l.left s) x)) is_now
+        absurd (unlike (holds d (look (l.left s) x)) is_now
         (ap (λ vs. unwrap_or (verdict vs (Some (is_raised x))) false) same ∙ was)))
         (λ wrote. by_write wrote.0 wrote.1 wrote.2) (one_write K c t d steps)
       where
@@ -143,7 +143,7 @@ module _ (e : Chart) (p : Scl) (q : Tables) (low : IsLowering e p) (valid : IsVa
             ⊎_elim (λ raises. by_raising w raises.0 raises.1) (λ one. absurd (by_holder w one))
             (writes K looks l g c all.sound.core t w.state w.target w.effect w.effects w.stands s x seen same))
             (λ other.
-            absurd (not_both (holds d (look (l.left s) x)) is_now
+            absurd (unlike (holds d (look (l.left s) x)) is_now
             (ap (λ vs. unwrap_or (verdict vs (Some (is_raised x))) false) is
             ∙ (ap (λ o. unwrap_or o false) (raised_same x w.effect.variable y c.variables other) ∙ was))))
             (same_or_not w.effect.variable x)

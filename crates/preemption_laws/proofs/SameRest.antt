@@ -3,6 +3,7 @@ use Rattle.std.proofs.Common.{◌≡◌, ℕ, Bool, true, false, ◌||◌, List,
 use Rattle.std.proofs.Common.{◌∙◌, arith}
 use Rattle.std.proofs.lemmas.List.{length-map}
 use Rattle.sc_values.specs.Runs.{IsOver}
+use Rattle.scl_graph_laws.proofs.Searching.{unlike}
 use Rattle.core_charts.specs.declared.region.Transition.{Transition}
 use Rattle.chart_machine.specs.declared.standing.Configuration.{Configuration}
 use Rattle.chart_machine.specs.declared.standing.Standing.{Standing}
@@ -14,7 +15,6 @@ use Rattle.chart_machine_laws.specs.Tree.{around, holder}
 use Rattle.preemption_laws.specs.Waiting.{waiting_at, still}
 use Rattle.preemption_laws.proofs.StillConfigurations.{stands_still}
 use Rattle.reaction_laws.proofs.StepsSwap.{all_same}
-use Rattle.abort_expansion_laws.proofs.Unchanged.{not_both}
 
 abbrev is_trying : Standing → Bool
 is_trying (at.Trying s tests) = true
@@ -98,7 +98,7 @@ module _ (k : Table) (looks : ℕ → List Transition) where
     all_done : (e : Configuration) → IsOver (machine k) e → ((q : ℕ) → is_guarded k e (around k q) ≡ false) → (q : ℕ) → Done (standing_of e q)
     all_done e over free q s [] stands = refl
     all_done e over free q s (w ∷ tests) stands =
-        let on : is_enabled k e q ≡ true = rw (stands, free q) refl in absurd (not_both (is_enabled k e q) on (over q))
+        let on : is_enabled k e q ≡ true = rw (stands, free q) refl in absurd (unlike (is_enabled k e q) on (over q))
 
     pub same_rest : ((q : ℕ) → is_guarded k d (around k q) ≡ false) → IsOver (machine k) c → IsOver (machine k) d → c ≡ d
     same_rest free over over_too =

@@ -3,6 +3,7 @@
 use Rattle.std.proofs.Common.{◌≡◌, ◌≢◌, ℕ, zero, ◌⊎◌, inl, inr, Bool, true, false, not, ◌||◌, Some, List, [], ◌∷◌, Contains, refl, sym, ap, arith}
 use Rattle.std.proofs.Common.{subst, ◌∙◌}
 use Rattle.std.specs.List.{list_all}
+use Rattle.scl_graph_laws.proofs.Searching.{unlike}
 use Rattle.core_charts.specs.declared.region.Transition.{Transition}
 use Rattle.core_charts.specs.Tests.{is_join}
 use Rattle.chart_machine.specs.declared.standing.Standing.{Standing}
@@ -18,7 +19,6 @@ use Rattle.abort_expansion_laws.proofs.ChartSteps.{StepMade, step_made}
 use Rattle.abort_expansion_laws.proofs.KnownVariables.{Stepped, stepped}
 use Rattle.abort_expansion_laws.proofs.Leaving.{at_number}
 use Rattle.abort_expansion_laws.proofs.SettledInOrder.{ended_back}
-use Rattle.abort_expansion_laws.proofs.Unchanged.{not_both}
 use Rattle.reaction_laws.proofs.ApartTogether.{IsOpen, open_guarding, open_within, Through, through}
 use Rattle.reaction_laws.proofs.MovesInside.{moves_inside}
 use Rattle.preemption_laws.specs.Looks.{Looks}
@@ -140,8 +140,8 @@ module _ (k : Table) (looks : ℕ → List Transition) (l : Looks k looks) (g : 
           going : IsGoing c a
           going =
               record {
-                entered = λ e. not_both (is_within (standing_of c a)) within (ap is_within e);
-                not_ended = λ e. not_both (is_within (standing_of c a)) within (ap is_within e);
+                entered = λ e. unlike (is_within (standing_of c a)) within (ap is_within e);
+                not_ended = λ e. unlike (is_within (standing_of c a)) within (ap is_within e);
               }
 
           other : a ≢ t

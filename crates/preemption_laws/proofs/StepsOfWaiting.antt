@@ -17,9 +17,10 @@ use Rattle.chart_machine.specs.Steps.{to, moved, step}
 use Rattle.chart_machine.specs.Turns.{standing_of, is_enabled, LiesIn}
 use Rattle.tick_laws.proofs.Lists.{same_or_not}
 use Rattle.tick_laws.proofs.Views.{only_if_some}
+use Rattle.chart_lowering_laws.proofs.Entering.{moved_length}
 use Rattle.abort_expansion_laws.proofs.ChartSteps.{StepMade, step_made}
 use Rattle.abort_expansion_laws.proofs.FreshInside.{moved_alike}
-use Rattle.abort_expansion_laws.proofs.Leaving.{at_number, set_here, set_other, moved_size}
+use Rattle.abort_expansion_laws.proofs.Leaving.{at_number, set_here, set_other}
 use Rattle.abort_expansion_laws.proofs.NumberedRegions.{past_number}
 use Rattle.reaction_laws.proofs.ApartTogether.{not_in}
 use Rattle.reaction_laws.proofs.MovesInside.{moves_inside}
@@ -41,7 +42,7 @@ pub ends_before : (ms : List Move) (t : ℕ) (zs : List Standing) →
     slice_set (moved ms zs) t at.Ended ≡ moved ms (slice_set zs t at.Ended)
 ends_before ms t zs stays =
     all_same (slice_set (moved ms zs) t at.Ended) (moved ms (slice_set zs t at.Ended))
-    (length-set (moved ms zs) t at.Ended ∙ (moved_size ms zs ∙ (sym (length-set zs t at.Ended) ∙ sym (moved_size ms (slice_set zs t at.Ended)))))
+    (length-set (moved ms zs) t at.Ended ∙ (moved_length ms zs ∙ (sym (length-set zs t at.Ended) ∙ sym (moved_length ms (slice_set zs t at.Ended)))))
     (λ q. ⊎_elim (λ same. subst (λ p. at_number (slice_set (moved ms zs) t at.Ended) p ≡ at_number (moved ms (slice_set zs t at.Ended)) p) (sym same) here)
     (λ ne.
     set_other (moved ms zs) t q at.Ended ne
@@ -51,11 +52,11 @@ ends_before ms t zs stays =
     here =
         ⊎_elim
         (λ lt.
-        set_here (moved ms zs) t at.Ended (let size = moved_size ms zs in omega (size, lt, arith))
+        set_here (moved ms zs) t at.Ended (let size = moved_length ms zs in omega (size, lt, arith))
         ∙ sym (stays ∙ set_here zs t at.Ended lt))
         (λ past.
         past_number (slice_set (moved ms zs) t at.Ended) t
-        (let size = moved_size ms zs in let set_size = length-set (moved ms zs) t at.Ended in omega (size, set_size, past, arith))
+        (let size = moved_length ms zs in let set_size = length-set (moved ms zs) t at.Ended in omega (size, set_size, past, arith))
         ∙ sym (stays ∙ past_number (slice_set zs t at.Ended) t (let size = length-set zs t at.Ended in omega (size, past, arith))))
         (cases_lt t (length zs))
 

@@ -3,6 +3,7 @@ use Rattle.std.proofs.Common.{◌≡◌, ◌≢◌, ℕ, zero, suc, Bool, true, 
 use Rattle.std.proofs.Common.{refl, sym, ap, ap₂, subst, ◌∙◌}
 use Rattle.std.specs.List.{list_all}
 use Rattle.std.proofs.lemmas.List.{length-map}
+use Rattle.scl_graph_laws.proofs.Searching.{unlike}
 use Rattle.core_charts.specs.declared.region.Transition.{Transition}
 use Rattle.core_charts.specs.Tests.{is_join}
 use Rattle.chart_machine.specs.declared.standing.Configuration.{Configuration}
@@ -13,10 +14,10 @@ use Rattle.chart_machine.specs.Table.{state_at}
 use Rattle.chart_machine.specs.Turns.{standing_of, has_ended, has_work, is_guarded, inside, is_enabled, LiesIn, itself, deeper}
 use Rattle.chart_machine_laws.specs.Tree.{around, holder}
 use Rattle.tick_laws.proofs.Lists.{list_all_at}
+use Rattle.chart_lowering_laws.proofs.Finished.{each_all}
 use Rattle.abort_expansion_laws.specs.CoreRows.{own}
-use Rattle.abort_expansion_laws.proofs.InsideAround.{inside_around, all_from}
+use Rattle.abort_expansion_laws.proofs.InsideAround.{inside_around}
 use Rattle.abort_expansion_laws.proofs.Leaving.{at_number}
-use Rattle.abort_expansion_laws.proofs.Unchanged.{not_both}
 use Rattle.reaction_laws.proofs.ApartTogether.{Through, through, IsOpen, open_guarding, open_within}
 use Rattle.reaction_laws.proofs.MovesInside.{LeadIn}
 use Rattle.preemption_laws.specs.Looks.{Looks}
@@ -150,7 +151,7 @@ module _ (k : Table) (looks : ℕ → List Transition) where
             absurd
             (never_open y (standing_of c w.side)
             (subst (λ r. IsOpen y (standing_of c r)) held
-            ((enclosed_on k g c is.sits).around_open q y inner (λ out. not_both (has_work k c (standing_of c q)) e (ap (has_work k c) out)))) over)
+            ((enclosed_on k g c is.sits).around_open q y inner (λ out. unlike (has_work k c (standing_of c q)) e (ap (has_work k c) out)))) over)
 
         by : LiesIn k q w.side → has_work k c (standing_of c q) ≡ false
         by (itself same) = ap (λ r. has_work k c (standing_of c r)) same ∙ ended_works (standing_of c w.side) over
@@ -170,7 +171,7 @@ module _ (k : Table) (looks : ℕ → List Transition) where
         by false e = rw (stands, join, e) refl
         by true e =
             let done : list_all (λ q. not (has_work k c (standing_of c q))) (inside k s) ≡ true =
-            all_from (λ q. not (has_work k c (standing_of c q))) (inside k s) (λ q h. ap not (idle_inside c is s e q h)) in
+            each_all (λ q. not (has_work k c (standing_of c q))) (inside k s) (λ q h. ap not (idle_inside c is s e q h)) in
             rw (stands, join, e, free, done) refl
 
     ends_alike : (c : Configuration) (rs : List ℕ) →

@@ -10,9 +10,10 @@ use Rattle.sc_values.specs.declared.value.Value.{Value}
 use Rattle.sc_values.specs.declared.expression.Expr.{Expr}
 use Rattle.sc_values.specs.Access.{Reads}
 use Rattle.sc_values.specs.Assignment.{reads, assignment_of, access_of_assignment}
-use Rattle.sc_values.specs.Operator.{kind_of, initial_value}
+use Rattle.sc_values.specs.Operator.{initial_value}
 use Rattle.sc_values.proofs.WellKinded.{Gives, AreOf, value_gives}
 use Rattle.sc_graph.specs.declared.program.Variable.{Variable}
+use Rattle.sc_graph.proofs.AtRest.{kind_of-initial_value}
 use Rattle.sc_text.specs.Parts.{IsExpression}
 use Rattle.sc_text.proofs.EachItem.{Each}
 use Rattle.core_charts.specs.declared.features.Features.TheVariants as features
@@ -41,14 +42,10 @@ use Rattle.abort_expansion_laws.proofs.TicksOfCharts as ticks
 
 -- ---- what is declared has values, and what has a value reads what is declared
 
-kind_initially : (k : Kind) → kind_of (initial_value k) ≡ k
-kind_initially of_kind.Bool = refl
-kind_initially of_kind.Int = refl
-
 at_first : (ks : List Kind) (x : ℕ) (k : Kind) → slice_get ks x ≡ Some k → Gives (slice_get (map initial_value ks) x) k
 at_first [] x k is = absurd cc
 at_first (j ∷ ks) zero k is =
-    record { value = initial_value j; is = refl; kind = kind_initially j ∙ same_Some j k is }
+    record { value = initial_value j; is = refl; kind = kind_of-initial_value j ∙ same_Some j k is }
 at_first (j ∷ ks) (suc x) k is = at_first ks x k is
 
 first_are : (ks : List Kind) → AreOf ks (map initial_value ks)

@@ -27,6 +27,7 @@ use Rattle.scl.specs.Numbering.{numbered}
 use Rattle.scl_graph.specs.Graph.{program_of}
 use Rattle.abort_expansion_laws.proofs.Leaving.{set_here, set_other}
 use Rattle.chart_lowering_laws.specs.Laws.{IsLowering}
+use Rattle.chart_lowering_laws.proofs.Finished.{each_all}
 use Rattle.reaction_laws.specs.CappedRanks.{capped}
 use Rattle.reaction_laws.proofs.ApartTogether.{turn}
 use Rattle.reaction_laws.proofs.CappedSteps.{is_idle}
@@ -39,7 +40,7 @@ use Rattle.preemption_laws.proofs.LeaveSteps.{Leaver, leaver}
 use Rattle.preemption_laws.proofs.LookRuns.{LeaveRun, leave_run}
 use Rattle.preemption_laws.proofs.StaysThere.{is_within, all_ended}
 use Rattle.preemption_laws.proofs.StepsOfWaiting.{gone_sound}
-use Rattle.preemption_laws.proofs.WaitLow.{Low, Stands, join_at, all_have, on_still, on_ended, line_kept, join_kept, leave_kept}
+use Rattle.preemption_laws.proofs.WaitLow.{Low, Stands, join_at, on_still, on_ended, line_kept, join_kept, leave_kept}
 use Rattle.preemption_laws.proofs.WaitStepLow.{none_left}
 use Rattle.preemption_laws.proofs.LookNodes.{trying_outside}
 
@@ -143,7 +144,7 @@ module _ (e : Chart) (rules : IsChart features.Core e) (p : Scl) (q : Tables) (l
         others none =
             join_kept e p q low valid looks l g c m all cap next known ranks u v w ws
             (on_ended K looks l g c all.sound.core u v w ws stood
-            (all_have (λ r. has_ended (standing_of c r)) (state_at K v).regions
+            (each_all (λ r. has_ended (standing_of c r)) (state_at K v).regions
             (λ r child.
             ap has_ended (sym (still r (λ same. none (subst (Contains (state_at K v).regions) same child))))
             ∙ list_all_at (λ z. has_ended (standing_of d z)) (state_at K v).regions r

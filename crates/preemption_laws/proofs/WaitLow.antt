@@ -1,6 +1,6 @@
 -- What is known of a configuration of the machine that waits and of a graph that stands alike: whose lines and joins are no higher than a number; and
 -- what follows where no rank is greater than another number.
-use Rattle.std.proofs.Common.{◌≡◌, ◌≢◌, ℕ, ◌≤◌, ⊎_elim, Bool, true, false, not, ◌&&◌, ◌||◌, min, List, [], ◌∷◌, Contains}
+use Rattle.std.proofs.Common.{◌≡◌, ◌≢◌, ℕ, ◌≤◌, ⊎_elim, Bool, true, false, not, ◌||◌, min, List, [], ◌∷◌}
 use Rattle.std.proofs.Common.{refl, sym, ap, subst, ◌∙◌, arith}
 use Rattle.std.specs.List.{list_all}
 use Rattle.std.proofs.lemmas.Bool.{cases_Bool}
@@ -25,12 +25,12 @@ use Rattle.chart_machine.specs.Table.{table, state_at}
 use Rattle.chart_machine.specs.Turns.{standing_of, has_ended, has_work, inside, is_enabled}
 use Rattle.chart_machine_laws.specs.Progress.{IsReached}
 use Rattle.chart_machine_laws.specs.Tree.{around}
-use Rattle.chart_machine_laws.proofs.LyingIn.{head_in, tail_in}
 use Rattle.scl.specs.declared.program.Scl.{Scl}
 use Rattle.scl.specs.Numbering.{numbered}
 use Rattle.scl_graph.specs.Graph.{program_of}
 use Rattle.abort_expansion_laws.proofs.InsideAround.{inside_around}
 use Rattle.chart_lowering_laws.specs.Laws.{IsLowering}
+use Rattle.chart_lowering_laws.proofs.Finished.{each_all}
 use Rattle.reaction_laws.specs.CappedRanks.{capped}
 use Rattle.reaction_laws.specs.StepNodes.{AtOwnNode, AtTheirNodes, Alike}
 use Rattle.reaction_laws.proofs.ApartTogether.{turn}
@@ -58,16 +58,6 @@ idle_outside k c (at.Entering s tests) none = absurd (none (λ e. absurd cc) (λ
 idle_outside k c (at.Guarding s tests) none = absurd (none (λ e. absurd cc) (λ e. absurd cc))
 idle_outside k c (at.Within s tests) none = absurd (none (λ e. absurd cc) (λ e. absurd cc))
 idle_outside k c (at.Acting s effects p) none = absurd (none (λ e. absurd cc) (λ e. absurd cc))
-
-pub all_have : (p : ℕ → Bool) (xs : List ℕ) → ((x : ℕ) → Contains xs x → p x ≡ true) → list_all p xs ≡ true
-all_have p [] each = refl
-all_have p (x ∷ xs) each =
-    both (p x) (list_all p xs) (each x (head_in x xs))
-    (all_have p xs (λ y h. each y (tail_in x y xs h)))
-  where
-    both : (a b : Bool) → a ≡ true → b ≡ true → (a && b) ≡ true
-    both true b e h = h
-    both false b e h = absurd cc
 
 -- ---- of a core chart's table
 
@@ -99,7 +89,7 @@ module _ (k : Table) (looks : ℕ → List Transition) (l : Looks k looks) (g : 
       let free = not_guarded k looks l g c sound.forms (around k u) in
       let may : (not (is_join w.kind) || list_all (λ r. has_ended (standing_of c r)) (state_at k v).regions) ≡ true = either (is_join w.kind)
       (list_all (λ r. has_ended (standing_of c r)) (state_at k v).regions) ended in
-      let idle : list_all (λ r. not (has_work k c (standing_of c r))) (inside k v) ≡ true = all_have (λ r. not (has_work k c (standing_of c r))) (inside k v)
+      let idle : list_all (λ r. not (has_work k c (standing_of c r))) (inside k v) ≡ true = each_all (λ r. not (has_work k c (standing_of c r))) (inside k v)
       (λ r h. ap not (idle_outside k c (standing_of c r)
       (λ entered lasts. none_going k looks l g c sound v ended r (record { entered = entered; not_ended = lasts }) (inside_around k v r h)))) in
       rw (is, may, free, idle) refl

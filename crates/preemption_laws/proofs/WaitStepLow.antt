@@ -15,6 +15,7 @@ use Rattle.sc_graph.specs.Valid.{IsValid}
 use Rattle.tick_laws.proofs.Kin.{below_self}
 use Rattle.tick_laws.proofs.Lists.{contains_head, list_all_at}
 use Rattle.tick_laws.proofs.Views.{stands as stands_at, enabled_from}
+use Rattle.scl_graph_laws.proofs.Searching.{unlike}
 use Rattle.core_charts.specs.declared.features.Features.TheVariants as features
 use Rattle.core_charts.specs.declared.region.Transition.{Transition}
 use Rattle.core_charts.specs.Chart.{Chart}
@@ -35,6 +36,7 @@ use Rattle.scl.specs.declared.program.Scl.{Scl}
 use Rattle.scl.specs.Numbering.{numbered}
 use Rattle.scl_graph.specs.Graph.{program_of}
 use Rattle.chart_lowering_laws.specs.Laws.{IsLowering}
+use Rattle.chart_lowering_laws.proofs.Finished.{each_all}
 use Rattle.reaction_laws.specs.CappedRanks.{capped}
 use Rattle.reaction_laws.proofs.ApartTogether.{turn, one_way, lies_or_not}
 use Rattle.reaction_laws.proofs.CappedSteps.{is_idle}
@@ -50,8 +52,7 @@ use Rattle.preemption_laws.proofs.LookNodes as nodes
 use Rattle.preemption_laws.proofs.RaiseLow.{raise_low}
 use Rattle.preemption_laws.proofs.SoundCores.{sound_still}
 use Rattle.preemption_laws.proofs.StaysThere.{is_within, all_ended, stays_elsewhere}
-use Rattle.preemption_laws.proofs.WaitLow.{Low, Stands, join_at, all_have, on_trying, on_still, on_ended, line_kept, join_kept, leave_kept}
-use Rattle.abort_expansion_laws.proofs.Unchanged.{not_both}
+use Rattle.preemption_laws.proofs.WaitLow.{Low, Stands, join_at, on_trying, on_still, on_ended, line_kept, join_kept, leave_kept}
 
 -- a standing in a superstate, taken apart
 pub record InSuperstate (x : Standing) : Type 0 where
@@ -216,7 +217,7 @@ module _ (e : Chart) (rules : IsChart features.Core e) (p : Scl) (q : Tables) (l
 
         ended : list_all (λ r. has_ended (standing_of c r)) (state_at K v).regions ≡ true
         ended =
-            all_have (λ r. has_ended (standing_of c r)) (state_at K v).regions
+            each_all (λ r. has_ended (standing_of c r)) (state_at K v).regions
             (λ r child.
             ap has_ended (sym (still r (region_out r child)))
             ∙ list_all_at (λ z. has_ended (standing_of d z)) (state_at K v).regions r over child)
@@ -262,7 +263,7 @@ module _ (e : Chart) (rules : IsChart features.Core e) (p : Scl) (q : Tables) (l
                 let any : list_any (holds c) (looks h.state) ≡ true =
                 subst (λ ts. list_any (holds c) ts ≡ true) (sym (l.are_looks h.state))
                 (any_holds c (l.left h.state) h.flag (l.seen h.state) h.seen up_then) in
-                absurd (not_both (sees K looks c (standing_of c u)) (ap (sees K looks c) stood ∙ any) none)) (λ down. down)
+                absurd (unlike (sees K looks c (standing_of c u)) (ap (sees K looks c) stood ∙ any) none)) (λ down. down)
                 (cases_Bool (holds c (look (l.left h.state) h.flag)))
 
             by : (sees K looks c (standing_of c u) ≡ true) ⊎ (sees K looks c (standing_of c u) ≡ false) → priority q (join v) ≤ next

@@ -3,6 +3,7 @@
 use Rattle.std.proofs.Common.{◌≡◌, ◌≢◌, ℕ, ◌⊎◌, inl, inr, ⊎_elim, true, false, not, ◌&&◌, List, [], ◌∷◌, Contains, refl, sym}
 use Rattle.std.proofs.Common.{ap, subst, ◌∙◌, arith}
 use Rattle.std.proofs.lemmas.Bool.{and_parts, not-true}
+use Rattle.scl_graph_laws.proofs.Searching.{unlike}
 use Rattle.core_charts.specs.declared.region.Transition.{Transition}
 use Rattle.chart_machine.specs.declared.standing.Configuration.{Configuration}
 use Rattle.chart_machine.specs.declared.standing.Standing.{Standing}
@@ -15,7 +16,6 @@ use Rattle.chart_machine_laws.proofs.LyingIn.{none_in, head_in, tail_in, head_or
 use Rattle.tick_laws.proofs.Lists.{same_or_not, list_all_at}
 use Rattle.abort_expansion_laws.proofs.InsideAround.{one_in_other}
 use Rattle.abort_expansion_laws.proofs.StageReached.{any_in, inside_in}
-use Rattle.abort_expansion_laws.proofs.Unchanged.{not_both}
 
 -- the region is in the superstate, and so are regions of that
 pub data IsOpen (s : ℕ) : Standing → Type 0 where
@@ -112,7 +112,7 @@ module _ (k : Table) (tree : IsTree k) (holder_there : (q s : ℕ) → Contains 
 
   -- who has work is there
   pub present : (c : Configuration) (x : Standing) → has_work k c x ≡ true → x ≢ at.Outside
-  present c x works e = not_both (has_work k c at.Outside) (ap (has_work k c) (sym e) ∙ works) refl
+  present c x works e = unlike (has_work k c at.Outside) (ap (has_work k c) (sym e) ∙ works) refl
 
   module _ (c : Configuration) (enclosed : Enclosed c) where
     -- who has its turn lies in nobody else who has its own
@@ -130,7 +130,7 @@ module _ (k : Table) (tree : IsTree k) (holder_there : (q s : ℕ) → Contains 
 
         guarded_too : (tests : List Transition) → standing_of c t ≡ at.Guarding s tests → ⊥
         guarded_too tests e =
-            not_both (is_guarded k c (around k u))
+            unlike (is_guarded k c (around k u))
             (any_in (λ z. guards (standing_of c (holder k z))) (around k u) s inner (ap (λ z. guards (standing_of c z)) held ∙ ap guards e)) of_u.free
 
         done_too : (tests : List Transition) → standing_of c t ≡ at.Within s tests → ⊥
@@ -138,7 +138,7 @@ module _ (k : Table) (tree : IsTree k) (holder_there : (q s : ℕ) → Contains 
             let idle : not (has_work k c (standing_of c u)) ≡ true =
             list_all_at (λ q. not (has_work k c (standing_of c q))) (inside k s) u
             (sym (ap (inside_is_done k c) e) ∙ of_t.done) (inside_in k s u (holder_there u s inner).0 inner) in
-            not_both (has_work k c (standing_of c u)) of_u.works (not-true (has_work k c (standing_of c u)) idle)
+            unlike (has_work k c (standing_of c u)) of_u.works (not-true (has_work k c (standing_of c u)) idle)
 
         by_open : (x : Standing) → standing_of c t ≡ x → IsOpen s x → ⊥
         by_open _ e (open_guarding tests) = guarded_too tests e
@@ -227,7 +227,7 @@ module _ (k : Table) (tree : IsTree k) (holder_there : (q s : ℕ) → Contains 
       where
         by_under : LiesUnder k t a → ⊥
         by_under (inr none) =
-            not_both (has_work k c at.Outside)
+            unlike (has_work k c at.Outside)
             (sym (ap (has_work k c) (ap (standing_of c) (sym same ∙ none) ∙ enclosed.chart_out)) ∙ (turn c u on_too).works) refl
         by_under (inl (s, inner, held)) =
             ⊎_elim (λ e. let up = tree.deeper t s inner in omega (up, held, same, e, arith))

@@ -1,5 +1,5 @@
 -- Two assignments that may stand in either order give the same in either order.
-use Rattle.std.proofs.Common.{◌≡◌, ◌≢◌, ℕ, ◌<◌, ◌⊎◌, inl, inr, ⊎_elim, Bool, true, false, not, ◌&&◌, Option, Some, None, List, [], ◌∷◌, ◌++◌}
+use Rattle.std.proofs.Common.{◌≡◌, ◌≢◌, ℕ, ◌<◌, ◌⊎◌, inl, inr, ⊎_elim, Bool, true, false, not, ◌&&◌, Option, Some, None, List, []}
 use Rattle.std.proofs.Common.{length, nat_eq, option_and_then, unwrap_or, slice_get, slice_set, Contains, if◌then◌else◌, refl, sym, ap}
 use Rattle.std.proofs.Common.{subst, ◌∙◌, neg_ℤ, set-set}
 use Rattle.std.specs.Int.{w32}
@@ -33,7 +33,8 @@ use Rattle.sc_values.proofs.Literals.{literal_from_same, literal_value}
 use Rattle.sc_values.proofs.Loading.{value_same, loads-load, loads-unary, loads-binary}
 use Rattle.sc_values.proofs.Merge.{combined_kind, combined_turn, one_combination}
 use Rattle.sc_graph.specs.Steps.{takes_kind}
-use Rattle.tick_laws.proofs.Lists.{same_or_not, and_then_some, contains_none, contains_cons, contains_head, contains_tail, get_set_other, get_set_same}
+use Rattle.tick_laws.proofs.Lists.{same_or_not, and_then_some, contains_none, contains_cons, get_set_other, get_set_same}
+use Rattle.abort_expansion_laws.proofs.KnownVariables.{in_either}
 
 -- ---- what an assignment does
 
@@ -46,12 +47,6 @@ pub record CombinesBy (x : ℕ) (e : Expr) (f : Combination) (b : Expr) : Type 0
 pub data Assigns (x : ℕ) (e : Expr) : Assignment → Type 0 where
   assigns_value : Assigns x e (Inits e)
   assigns_by : (f : Combination) (b : Expr) → CombinesBy x e f b → Assigns x e (Combines f b)
-
-in_either : (xs ys : List ℕ) (y : ℕ) → Contains (xs ++ ys) y → Contains xs y ⊎ Contains ys y
-in_either [] ys y h = inr h
-in_either (z ∷ xs) ys y h =
-    ⊎_elim (λ same. inl (subst (Contains (z ∷ xs)) same (contains_head z xs)))
-    (λ tail. ⊎_elim (λ first. inl (contains_tail z y xs first)) (λ second. inr second) (in_either xs ys y tail)) (contains_cons z y (xs ++ ys) h)
 
 -- an expression that is nothing but the variable
 record IsVariable (x : ℕ) (a : Expr) : Type 0 where

@@ -7,9 +7,9 @@ use Rattle.sc_values.specs.Access.{Access, Writing, Nothing, Init, Update, no_ac
 use Rattle.sc_values.specs.Access.{Clash, two_inits, two_updates}
 use Rattle.sc_values.specs.Access.{MayPrecede}
 use Rattle.sc_graph.specs.Tick.{Inputs}
+use Rattle.chart_lowering_laws.proofs.Ordering.{nothing_second}
 use Rattle.reaction_laws.proofs.Greatest.{Leads, leader}
 use Rattle.abort_expansion_laws.specs.Ticks.{Reactive}
-use Rattle.abort_expansion_laws.proofs.QuietBegins.{none_before}
 use Rattle.abort_expansion_laws.proofs.Commuting.{plain_second}
 use Rattle.reaction_laws.specs.ChartRanks.{HasRanks}
 use Rattle.reaction_laws.specs.CappedRanks.{capped, HasCappedRanks}
@@ -29,7 +29,7 @@ both_write a b (two_updates x f g u v differ) = (λ e. absurd cc, λ e. absurd c
 pub idle_first : (a b : Access) → a ≡ no_access → MayPrecede a b
 idle_first a b idle =
     record {
-      no_order = λ before. none_before b (subst (Precedes b) idle before);
+      no_order = λ before. nothing_second b (subst (Precedes b) idle before);
       no_clash = λ clash. (both_write a b clash).0 (ap (λ z. z.writes) idle);
     }
 

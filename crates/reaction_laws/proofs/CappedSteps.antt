@@ -1,7 +1,5 @@
 -- What is to be known of a chart, its core chart and its graph, so that the priorities of its steps, capped, are ranks; and what follows at once.
 use Rattle.std.proofs.Common.{◌≡◌, ◌≢◌, ℕ, ◌≤◌, Bool, true, false, ◌&&◌, ◌⊎◌, inl, inr, ⊎_elim, min, List, [], ◌∷◌, refl, sym, ap, subst, ◌∙◌}
-use Rattle.sc_values.specs.declared.expression.Expr.{Expr}
-use Rattle.std.proofs.Common.{Option, Some, None}
 use Rattle.std.proofs.lemmas.Bool.{and_parts}
 use Rattle.sc_values.specs.Access.{Access, Writing, Nothing, Init, Update, no_access}
 use Rattle.sc_graph.specs.declared.control.Control.{Control}
@@ -21,12 +19,13 @@ use Rattle.chart_machine.specs.declared.standing.Configuration.{Configuration}
 use Rattle.chart_machine.specs.declared.table.Table.{Table}
 use Rattle.chart_machine.specs.Table.{table}
 use Rattle.chart_machine.specs.Turns.{standing_of, is_enabled}
-use Rattle.chart_machine.specs.Steps.{access_of, access_of_trigger}
+use Rattle.chart_machine.specs.Steps.{access_of}
 use Rattle.scl.specs.declared.program.Scl.{Scl}
 use Rattle.scl.specs.Numbering.{numbered}
 use Rattle.scl_graph.specs.Graph.{program_of}
 use Rattle.abort_expansion.specs.Expansion.{expanded}
 use Rattle.chart_lowering_laws.specs.Laws.{IsLowering}
+use Rattle.compiled_charts_laws.proofs.Stands.{trigger_writes}
 use Rattle.abort_expansion_laws.specs.CoreRows.{Images}
 use Rattle.abort_expansion_laws.proofs.TicksOfCharts as ticks
 use Rattle.reaction_laws.specs.CappedRanks.{capped}
@@ -70,10 +69,6 @@ busy_is a busy none = let wrong : true ≡ false = sym (ap is_idle none) ∙ bus
 abbrev pub IsGuarding : Standing → Type 0
 IsGuarding (at.Guarding s tests) = Unit {0}
 IsGuarding other = ⊥
-
-trigger_writes : (o : Option Expr) → (access_of_trigger o).writes ≡ Nothing
-trigger_writes None = refl
-trigger_writes (Some e) = refl
 
 module _ (c : Chart) (rules : IsChart features.Extended c) (core_rules : IsChart features.Core (expanded c)) (p : Scl) (q : Tables)
     (low : IsLowering (expanded c) p) (valid : IsValid (program_of (numbered p)) q) where

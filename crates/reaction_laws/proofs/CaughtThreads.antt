@@ -1,5 +1,5 @@
 -- Threads of a graph that have caught up with a core chart: who goes on, who waits at a join, and who comes to an effect.
-use Rattle.std.proofs.Common.{◌≡◌, ◌≢◌, ℕ, zero, suc, ◌<◌, true, Some, List, [], ◌∷◌, length, slice_get, unwrap_or, map}
+use Rattle.std.proofs.Common.{◌≡◌, ◌≢◌, ℕ, suc, ◌<◌, true, Some, List, [], ◌∷◌, length, slice_get, unwrap_or}
 use Rattle.std.proofs.Common.{refl, sym, ap}
 use Rattle.std.proofs.Common.{subst, ◌∙◌}
 use Rattle.sc_values.specs.declared.expression.Expr.{Expr}
@@ -33,15 +33,11 @@ use Rattle.chart_lowering_laws.proofs.Catching.{caught, Caught, has_turn}
 use Rattle.chart_lowering_laws.proofs.Lowered.{chart_is_lowered}
 use Rattle.chart_lowering_laws.proofs.Showing.{region_of}
 use Rattle.compiled_charts_laws.proofs.AtJoins as at_joins
+use Rattle.compiled_charts_laws.proofs.StepsFollowed.{standing_in}
 use Rattle.reaction_laws.specs.LowLines.{IsGoing}
 use Rattle.reaction_laws.proofs.RaiseNodes.{LeadsToEffect, leads_to_effect}
 
 -- ---- where a thread stands
-
-pub standing_in : (ds : List Doing) (t : ℕ) → unwrap_or (slice_get (map standing ds) t) status.Absent ≡ standing (unwrap_or (slice_get ds t) Away)
-standing_in [] t = refl
-standing_in (d ∷ ds) zero = refl
-standing_in (d ∷ ds) (suc t) = standing_in ds t
 
 -- whoever is there and has not ended goes on in the graph
 abbrev pub GoOn : Configuration → Control → Type 0

@@ -12,10 +12,11 @@ use Rattle.chart_machine.specs.declared.table.Table.{Table}
 use Rattle.chart_machine.specs.Machine.{machine, initial, start}
 use Rattle.chart_machine.specs.Steps.{state_in}
 use Rattle.chart_machine.specs.Table.{table, state_at, region_at}
+use Rattle.chart_machine.proofs.Outside.{within_or_past}
 use Rattle.abort_expansion.specs.Expansion.{expanded}
 use Rattle.chart_machine_laws.specs.Tree.{IsThere, around, holder}
 use Rattle.chart_machine_laws.proofs.LyingIn.{none_in, head_in}
-use Rattle.chart_machine_laws.proofs.ChartTables.{around_there, no_regions_past, within_or_past}
+use Rattle.chart_machine_laws.proofs.ChartTables.{around_there, no_regions_past}
 use Rattle.abort_expansion_laws.specs.CoreRows.{own, IsState, IsSuper, Images}
 use Rattle.abort_expansion_laws.specs.Preemption.{chart_machine}
 use Rattle.abort_expansion_laws.specs.Ticks.{Reaction, AllOf}

@@ -52,7 +52,7 @@ use Rattle.reaction_laws.proofs.ChartOrder.{AllAt}
 use Rattle.reaction_laws.proofs.TestsThere.{IsTest, tests_there}
 
 -- it reads the flag
-reads_flag : (x : ℕ) → access_of_trigger (Some (is_raised x)) ≢ no_access
+pub reads_flag : (x : ℕ) → access_of_trigger (Some (is_raised x)) ≢ no_access
 reads_flag x none = let wrong : x ∷ [] ≡ [] = ap (λ a. a.reads) (sym (raised_access x) ∙ none) in absurd cc
 
 module _ (c : Chart) (rules : IsChart features.Extended c) (core_rules : IsChart features.Core (expanded c)) (p : Scl)

@@ -15,12 +15,13 @@ use Rattle.chart_machine.specs.Turns.{inside, LiesIn, itself, deeper}
 use Rattle.chart_machine_laws.specs.Tree.{IsThere, IsTree, around, holder}
 use Rattle.chart_machine_laws.proofs.LyingIn.{none_in, head_in, head_or_tail, lies_in_outer}
 use Rattle.tick_laws.proofs.Lists.{same_or_not, contains_map, map_contains}
+use Rattle.chart_lowering_laws.proofs.Entering.{moved_length}
 use Rattle.abort_expansion_laws.specs.CoreRows.{own, IsState}
 use Rattle.abort_expansion_laws.proofs.ChartSteps.{Makes, takes_trying, takes_entering, takes_guarding, takes_within, tries_on, enters_on, guards_on}
 use Rattle.abort_expansion_laws.proofs.ChartSteps.{waits_on, acts_on}
 use Rattle.abort_expansion_laws.proofs.FreshInside.{moved_alike, all_entered, Fresh, Begins, begun_closed, begun_open, Begun}
 use Rattle.abort_expansion_laws.proofs.FreshInside.{one_state, one_begins, fresh_begins}
-use Rattle.abort_expansion_laws.proofs.Leaving.{at_number, set_here, set_other, drops_in, stay_out, moved_append, moved_size}
+use Rattle.abort_expansion_laws.proofs.Leaving.{at_number, set_here, set_other, drops_in, stay_out, moved_append}
 use Rattle.abort_expansion_laws.proofs.StageReached.{inside_in}
 use Rattle.abort_expansion_laws.proofs.StartingRegions.{Once}
 use Rattle.abort_expansion_laws.proofs.StateEntry.{Entry}
@@ -252,7 +253,7 @@ module _ (k : Table) (tree : IsTree k) (holder_there : (q s : ℕ) → Contains 
       acts_inner [] p lt =
           let target = state_there r p there_r lt in
           let ys : List Standing = moved (dropped k s) zs in
-          let ys_size : length ys ≡ n = moved_size (dropped k s) zs ∙ size in
+          let ys_size : length ys ≡ n = moved_length (dropped k s) zs ∙ size in
           begins_inner (at_number (moved (state_at k (state_in k r p)).entered ys)) (state_in k r p) r target.1
           (subst (λ m. Begins k m (at_number (moved (state_at k (state_in k r p)).entered ys)) (state_in k r p)) ys_size
           (one_begins k tree entries elsewhere (state_in k r p) ys target.0 (subst (λ h. h < length ys) (sym target.1) (in_table ys ys_size))

@@ -33,7 +33,7 @@ use Rattle.chart_lowering_laws.specs.Layout.{Layout, IsRegionOf}
 use Rattle.chart_lowering_laws.specs.Marks.{layout}
 use Rattle.chart_lowering_laws.proofs.Catching.{caught, Caught}
 use Rattle.compiled_charts_laws.proofs.Mirrored.{stepped}
-use Rattle.reaction_laws.proofs.CaughtThreads.{standing_in}
+use Rattle.compiled_charts_laws.proofs.StepsFollowed.{standing_in}
 
 other_step : (s : Step) (o : Option Step) (n : ℕ) → o ≡ Some s → o ≡ Some (node_step.Depth n) → s ≡ node_step.Depth n
 other_step s o n h k = cc

@@ -1,5 +1,5 @@
 -- What is beside a monitor with a delayed test to make stays low, while the core chart takes steps and the threads of its graph catch up.
-use Rattle.std.proofs.Common.{◌≡◌, ◌≢◌, ℕ, true, false, not, Some, List, [], ◌∷◌, Contains, ⊎_elim, refl, sym, ap, subst, ◌∙◌}
+use Rattle.std.proofs.Common.{◌≡◌, ◌≢◌, ℕ, true, false, not, Some, List, Contains, ⊎_elim, sym, ap, subst, ◌∙◌}
 use Rattle.std.proofs.lemmas.Bool.{not-true}
 use Rattle.sc_values.specs.Runs.{replay}
 use Rattle.sc_graph.specs.declared.control.Control.{Control}
@@ -15,7 +15,6 @@ use Rattle.core_charts.specs.declared.features.Features.TheVariants as features
 use Rattle.core_charts.specs.Aborts.{has_aborts}
 use Rattle.core_charts.specs.Chart.{Chart}
 use Rattle.core_charts.specs.Rules.{IsChart}
-use Rattle.chart_machine.specs.declared.standing.Standing.{Standing}
 use Rattle.chart_machine.specs.declared.standing.Standing.TheVariants as at
 use Rattle.chart_machine.specs.declared.standing.Configuration.{Configuration}
 use Rattle.chart_machine.specs.declared.table.Table.{Table}
@@ -33,7 +32,7 @@ use Rattle.compiled_charts_laws.proofs.LateTests.{is_late}
 use Rattle.abort_expansion_laws.specs.CoreRows.{own, IsState, Images, CoreRows}
 use Rattle.abort_expansion_laws.proofs.ChecksUpTo.{strong_around}
 use Rattle.abort_expansion_laws.proofs.KnownVariables.{stepped}
-use Rattle.abort_expansion_laws.proofs.QuietBegins.{LoweredTests, Beside}
+use Rattle.abort_expansion_laws.proofs.QuietBegins.{LoweredTests, Beside, late_works}
 use Rattle.abort_expansion_laws.proofs.RowsOfCharts as whole
 use Rattle.abort_expansion_laws.proofs.StageReached.{inside_in}
 use Rattle.abort_expansion_laws.proofs.StrongTestsQuiet.{along}
@@ -42,16 +41,6 @@ use Rattle.reaction_laws.specs.StepNodes.{Alike}
 use Rattle.reaction_laws.proofs.GraphRuns.{KeptByFollowing}
 use Rattle.reaction_laws.proofs.MonitorsLow.{lowered, Stays, MonitorsQuiet}
 use Rattle.reaction_laws.proofs.StepNodes.{AllCome}
-
-late_works : (k : Table) (d : Configuration) (x : Standing) → is_late x ≡ true → has_work k d x ≡ true
-late_works k d (at.Trying s (t ∷ tests)) late = refl
-late_works k d (at.Trying s []) late = absurd cc
-late_works k d at.Outside late = absurd cc
-late_works k d at.Ended late = absurd cc
-late_works k d (at.Acting s effects place) late = absurd cc
-late_works k d (at.Entering s tests) late = absurd cc
-late_works k d (at.Guarding s tests) late = absurd cc
-late_works k d (at.Within s tests) late = absurd cc
 
 module _ (c : Chart) (rules : IsChart features.Extended c) (core_rules : IsChart features.Core (expanded c)) (p : Scl) (q : Tables)
     (low : IsLowering (expanded c) p) (valid : IsValid (program_of (numbered p)) q)

@@ -19,9 +19,10 @@ use Rattle.chart_machine.specs.Table.{state_at, region_at}
 use Rattle.chart_machine.specs.Turns.{standing_of, LiesIn, itself, deeper}
 use Rattle.chart_machine_laws.specs.Tree.{IsThere, IsTree, around, holder}
 use Rattle.chart_machine_laws.proofs.LyingIn.{none_in, head_in, tail_in, head_or_tail}
+use Rattle.chart_lowering_laws.proofs.Entering.{moved_length}
 use Rattle.abort_expansion_laws.specs.CoreRows.{own, IsState}
 use Rattle.abort_expansion_laws.proofs.FreshInside.{Begins, all_entered, all_apart, look, nobody_there, nobody_size}
-use Rattle.abort_expansion_laws.proofs.Leaving.{at_number, moved_size}
+use Rattle.abort_expansion_laws.proofs.Leaving.{at_number}
 use Rattle.abort_expansion_laws.proofs.StartingRegions.{Once}
 use Rattle.abort_expansion_laws.proofs.StateEntry.{Entry}
 use Rattle.reaction_laws.proofs.ApartTogether.{IsOpen, open_guarding, open_within, lies_or_not}
@@ -176,7 +177,7 @@ module _ (k : Table) (tree : IsTree k) (holder_there : (q s : ℕ) → Contains 
       first : Sitting (now true)
       first =
           record {
-            size = moved_size k.opened c.regions ∙ sits.size;
+            size = moved_length k.opened c.regions ∙ sits.size;
             chart_out =
                 ap (λ ms. at_number (moved ms c.regions) 0) tops.opens
                 ∙ (all_apart k tree entries elsewhere tops.firsts 0 c.regions (λ x h. (tops.states x h).0) (λ x h. not_zero x h) ∙ sits.chart_out);

@@ -11,9 +11,10 @@ use Rattle.chart_machine.specs.Table.{state_at, region_at}
 use Rattle.chart_machine.specs.Turns.{standing_of, is_enabled, LiesIn, itself, deeper}
 use Rattle.chart_machine_laws.specs.Tree.{IsThere, IsTree, around, holder}
 use Rattle.chart_machine_laws.proofs.LyingIn.{none_in, swapped}
+use Rattle.chart_lowering_laws.proofs.Entering.{moved_length}
 use Rattle.abort_expansion_laws.specs.CoreRows.{own, IsState}
 use Rattle.abort_expansion_laws.proofs.ChartSteps.{StepMade, step_made}
-use Rattle.abort_expansion_laws.proofs.Leaving.{at_number, moved_size}
+use Rattle.abort_expansion_laws.proofs.Leaving.{at_number}
 use Rattle.abort_expansion_laws.proofs.StartingRegions.{Once}
 use Rattle.abort_expansion_laws.proofs.StateEntry.{Entry}
 use Rattle.abort_expansion_laws.proofs.NumberedRegions.{is_region}
@@ -84,7 +85,7 @@ module _ (k : Table) (tree : IsTree k) (holder_there : (q s : ℕ) → Contains 
       now : Sits (after made.change c)
       now =
           record {
-            size = moved_size made.change.moves c.regions ∙ sits.size;
+            size = moved_length made.change.moves c.regions ∙ sits.size;
             chart_out =
                 moves_inside k tree entries elsewhere state_there t 0 is_there out (standing_of c t) made.change.moves made.makes (sits.stands t) c.regions
                 ∙ sits.chart_out;

@@ -61,14 +61,15 @@ use Rattle.chart_lowering_laws.proofs.Catching.{caught, Caught, CaughtUp, NoJoin
 use Rattle.chart_lowering_laws.proofs.LeadAlike.{is_there}
 use Rattle.chart_lowering_laws.proofs.Lowered.{chart_is_lowered}
 use Rattle.chart_lowering_laws.proofs.Showing.{region_of}
+use Rattle.chart_lowering_laws.proofs.Ordering.{nothing_second}
 use Rattle.compiled_charts_laws.proofs.Mirrored.{owned, node_access, access_of_assigns}
 use Rattle.compiled_charts_laws.proofs.Stands.{stand_alike}
+use Rattle.compiled_charts_laws.proofs.StepsFollowed.{standing_in}
 use Rattle.abort_expansion_laws.proofs.StrongTestsQuiet.{precedes_writes}
-use Rattle.abort_expansion_laws.proofs.QuietBegins.{none_before}
 use Rattle.reaction_laws.proofs.CappedRanks.{both_write}
 use Rattle.reaction_laws.proofs.StillAtJoins.{none_waiting}
 use Rattle.reaction_laws.proofs.NoResumes.{NoneResumes, no_resumes}
-use Rattle.reaction_laws.proofs.CaughtThreads.{standing_in, GoOn, WaitsAtJoins, AtFirstEffects, goes_at, waits_at, first_effects}
+use Rattle.reaction_laws.proofs.CaughtThreads.{GoOn, WaitsAtJoins, AtFirstEffects, goes_at, waits_at, first_effects}
 use Rattle.reaction_laws.specs.StepNodes.{AtOwnNode, AtTheirNodes, Alike, ComesToNodes, StepsComeToNodes, PrioritiesOrderSteps}
 
 -- ---- who neither reads nor writes stands in no order
@@ -264,7 +265,7 @@ module _ (c : Chart) (p : Scl) (low : IsLowering c p) where
 
       not_before : ¬ Precedes second first
       not_before earlier =
-          let v : AtOwnNode G m t first = at_d t on (λ none. none_before second (subst (Precedes second) none earlier)) in
+          let v : AtOwnNode G m t first = at_d t on (λ none. nothing_second second (subst (Precedes second) none earlier)) in
           let w : AtOwnNode G n u second = at_e u on_too (does_some second (precedes_writes second first earlier)) in
           let less : priority q v.node < priority q w.node =
           edge_falls G q valid w.node v.node u t a w.owned v.owned (apart_turned G t u a in_graph_apart) (subst₂ Precedes (sym w.does) (sym v.does) earlier) in

@@ -18,11 +18,12 @@ use Rattle.chart_machine.specs.Turns.{standing_of, guards, has_ended, has_work, 
 use Rattle.chart_machine_laws.specs.Tree.{IsThere, IsTree, around, holder}
 use Rattle.chart_machine_laws.proofs.LyingIn.{head_in, tail_in, lies_in_outer}
 use Rattle.tick_laws.proofs.Views.{only_if_some}
+use Rattle.chart_lowering_laws.proofs.Entering.{moved_length}
 use Rattle.abort_expansion_laws.proofs.ChartSteps.{Makes, StepMade, step_made}
 use Rattle.abort_expansion_laws.proofs.FreshInside.{moved_alike}
 use Rattle.abort_expansion_laws.proofs.InsideAround.{inside_around}
 use Rattle.abort_expansion_laws.proofs.KnownVariables.{Stepped, stepped}
-use Rattle.abort_expansion_laws.proofs.Leaving.{at_number, moved_size}
+use Rattle.abort_expansion_laws.proofs.Leaving.{at_number}
 use Rattle.abort_expansion_laws.proofs.DropsOut.{all_alike}
 use Rattle.reaction_laws.proofs.ApartTogether.{Enclosed, turn, present, not_in, one_way, lies_or_not}
 use Rattle.reaction_laws.proofs.WritesSwap.{Changes, changes, OtherChanges, changes_swap}
@@ -214,15 +215,15 @@ module _ (k : Table) (tree : IsTree k) (holder_there : (q s : ℕ) → Contains 
     then_t q out = stays f last t t_there (subst (Owns t) (sym at_t) (sound.owns t)) to_last q out
 
     d_size : length d.regions ≡ length c.regions
-    d_size = ap (λ (z : Configuration). length z.regions) (sym one.is) ∙ moved_size one.change.moves c.regions
+    d_size = ap (λ (z : Configuration). length z.regions) (sym one.is) ∙ moved_length one.change.moves c.regions
 
     f_size : length f.regions ≡ length c.regions
-    f_size = moved_size u_first.0.moves c.regions
+    f_size = moved_length u_first.0.moves c.regions
 
     size : length last.regions ≡ length e.regions
     size =
-        moved_size t_then.0.moves f.regions
-        ∙ (f_size ∙ (sym d_size ∙ sym (ap (λ (z : Configuration). length z.regions) (sym two.is) ∙ moved_size two.change.moves d.regions)))
+        moved_length t_then.0.moves f.regions
+        ∙ (f_size ∙ (sym d_size ∙ sym (ap (λ (z : Configuration). length z.regions) (sym two.is) ∙ moved_length two.change.moves d.regions)))
 
     -- what lies in u is moved by u's step, from where it stood
     in_u : (q : ℕ) → ¬ LiesIn k q t → standing_of f q ≡ standing_of e q

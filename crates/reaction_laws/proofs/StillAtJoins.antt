@@ -13,7 +13,7 @@ use Rattle.sc_graph.specs.Steps as nodes
 use Rattle.sc_graph.specs.Tick.{IsConfiguration}
 use Rattle.sc_graph.specs.Valid.{IsFormed, IsValid}
 use Rattle.scl.specs.declared.program.Scl.{Scl}
-use Rattle.scl.specs.Meaning.{State, Doing, Away, Todo, Forked, Resting, Resuming, Finished, doing}
+use Rattle.scl.specs.Meaning.{State, doing}
 use Rattle.scl.specs.Meaning as text
 use Rattle.scl.specs.Numbering.{Numbered, numbered}
 use Rattle.scl_graph.specs.Graph.{program_of}
@@ -31,8 +31,8 @@ use Rattle.tick_laws.proofs.WithinTick.{laws_within_tick}
 use Rattle.chart_lowering_laws.specs.Follows.{EachMay, HoldsAfter}
 use Rattle.chart_lowering_laws.specs.Keeps.{IsForked}
 use Rattle.chart_machine_laws.proofs.LyingIn.{head_or_tail, none_in}
+use Rattle.compiled_charts_laws.proofs.StepsFollowed.{waits_forked, standing_in}
 use Rattle.reaction_laws.proofs.ByRank.{Begins, begins}
-use Rattle.reaction_laws.proofs.CaughtThreads.{standing_in}
 
 -- ---- who waits is moved by nobody else
 
@@ -55,14 +55,6 @@ module _ (p : Program) (formed : IsFormed p) (h j : ℕ) where
   has_stepped run m n ok leads waits gone = ⊎_elim (λ has. has) (λ out. absurd (gone (still_waits run m n ok leads out waits))) (contained run h)
 
 -- ---- a run of a text by threads that wait at no join, in the graph
-
-forked_there : (d : Doing) (j : ℕ) → standing d ≡ status.Waiting j → IsForked d
-forked_there (Forked n branches rest) j h = tt
-forked_there Away j h = absurd cc
-forked_there (Todo todo) j h = absurd cc
-forked_there (Resting n rest) j h = absurd cc
-forked_there (Resuming n rest) j h = absurd cc
-forked_there Finished j h = absurd cc
 
 module _ (p : Scl) (q : Tables) (valid : IsValid (program_of (numbered p)) q) (kept : Keeps (numbered p) (program_of (numbered p))) where
   abbrev P : Numbered
@@ -88,7 +80,7 @@ module _ (p : Scl) (q : Tables) (valid : IsValid (program_of (numbered p)) q) (k
       (tail (λ e f y kept_too goes may later. none_waiting run e last f y kept_too goes may u j later)) (head_or_tail v u run inside)
     where
       now : u ≡ v → ⊥
-      now same = each.0 (subst (λ z. IsForked (doing s z)) same (forked_there (doing s u) j (sym stands ∙ waits)))
+      now same = each.0 (subst (λ z. IsForked (doing s z)) same (waits_forked (doing s u) j (sym stands ∙ waits)))
         where
           stands : status_of m u ≡ standing (doing s u)
           stands = ap (λ z. unwrap_or (slice_get z u) status.Absent) x.statuses ∙ standing_in s.threads u

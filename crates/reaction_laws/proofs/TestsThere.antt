@@ -30,8 +30,8 @@ use Rattle.chart_lowering_laws.specs.Laws.{IsLowering}
 use Rattle.chart_lowering_laws.specs.Layout.{Layout, IsRegionOf}
 use Rattle.chart_lowering_laws.specs.Marks.{layout}
 use Rattle.compiled_charts_laws.proofs.Mirrored.{stepped}
+use Rattle.compiled_charts_laws.proofs.StepsFollowed.{standing_in}
 use Rattle.reaction_laws.specs.StepNodes.{Alike}
-use Rattle.reaction_laws.proofs.CaughtThreads.{standing_in}
 use Rattle.reaction_laws.proofs.NoResumes.{one_node}
 
 -- a test

@@ -24,13 +24,12 @@ use Rattle.sc_graph.specs.Program.{Program}
 use Rattle.sc_graph.specs.Tick.{Inputs, AreAccepted}
 use Rattle.trace_lines.specs.Line.{IsObjectOf, given, input_of, inputs_of, int32_of, is_input, is_int32, value_of}
 use Rattle.trace_lines.specs.Lines.{line_limit}
+use Rattle.trace_lines.proofs.Standing.{both_of}
+use Rattle.trace_lines.proofs.InOrder.{turned}
 use Rattle.trace_player.specs.Trace.{GivesInputs, GivesNoInputs}
 
 abbrev order : List ℕ → List ℕ → Ordering
 order = slice_cmp nat_cmp
-
-turned : (a b : List ℕ) (o : Ordering) → order a b ≡ o → order b a ≡ ordering_reverse o
-turned a b o e = nat_list_cmp_total.antisymm b a ∙ ap ordering_reverse e
 
 own : (o : Ordering) → o ≡ ordering_reverse o → o ≢ Less
 own Less e is = absurd cc
@@ -181,12 +180,6 @@ gives_one variables name d g e =
     }
 
 -- ---- what all give
-
-both_of : {A : Type 0} (o : Option A) (r : Option (List A)) (gs : List A) → option_and_then (λ h. option_map (λ hs. h ∷ hs) r) o ≡ Some gs
-    → (h : A) × (hs : List A) × (o ≡ Some h) × (r ≡ Some hs) × (h ∷ hs ≡ gs)
-both_of None r gs e = absurd (none-some gs e)
-both_of (Some h) None gs e = absurd (none-some gs e)
-both_of (Some h) (Some hs) gs e = (h, hs, refl, refl, same_Some (h ∷ hs) gs e)
 
 -- each of these is a value for an input
 abbrev AreGiven : List Variable → Inputs → Type 0

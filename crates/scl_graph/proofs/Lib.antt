@@ -11,7 +11,7 @@ mod Placed
 pub mod Fronts
 mod LeastGoto
 mod Leading
-mod Resolved
+pub mod Resolved
 mod Example
 mod AbroRows
 mod LoopRows

@@ -35,7 +35,7 @@ use Rattle.scl_graph.proofs.Circling.{table_at}
 use Rattle.scl_graph.proofs.Fronts.{all_labels, stands, thread_stands}
 use Rattle.scl_graph.proofs.Leading.{StandsAt, first_loop, no_loop, node_reached, place_stands}
 
-pieces_map : (statements : List Statement) → pieces_of statements ≡ map piece_of statements
+pub pieces_map : (statements : List Statement) → pieces_of statements ≡ map piece_of statements
 pieces_map [] = refl
 pieces_map (s ∷ statements) = ap (λ r. piece_of s ∷ r) (pieces_map statements)
 

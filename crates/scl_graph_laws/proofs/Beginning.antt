@@ -13,6 +13,7 @@ use Rattle.sc_graph.specs.declared.control.Status.TheVariants as status
 use Rattle.sc_graph.specs.Program.{Program, entry_of}
 use Rattle.sc_graph.specs.Tick.{Inputs, given, value_at_start, values_at_start, statuses_at_start}
 use Rattle.sc_graph.specs.Tick.{woken as woken_status, root_started as root_status, start as start_of_nodes, initial as initial_of_nodes}
+use Rattle.sc_graph.proofs.AtRest.{kind_of-initial_value}
 use Rattle.scl.specs.Block.{Block}
 use Rattle.scl.specs.Labels.{settled}
 use Rattle.scl.specs.Places.{whole}
@@ -39,13 +40,9 @@ is_away (suc n) (suc t) = is_away n t
 away_within : (root : Block) (n : ℕ) → AreOfText root (replicate n Away)
 away_within root n t = subst (λ d. IsOfText root t d) (is_away n t) tt
 
-kind_initial : (k : Kind) → kind_of (initial_value k) ≡ k
-kind_initial kind.Bool = refl
-kind_initial kind.Int = refl
-
 kinds_initial : (variables : List Variable) → map kind_of (map (λ x. initial_value x.kind) variables) ≡ map (λ x. x.kind) variables
 kinds_initial [] = refl
-kinds_initial (x ∷ variables) = ap (λ k. k ∷ map kind_of (map (λ x. initial_value x.kind) variables)) (kind_initial x.kind)
+kinds_initial (x ∷ variables) = ap (λ k. k ∷ map kind_of (map (λ x. initial_value x.kind) variables)) (kind_of-initial_value x.kind)
     ∙ ap (λ r. x.kind ∷ r) (kinds_initial variables)
 
 pub begins : (p : Numbered) (q : Program) → Mirrors p q → Corresponds p (initial p) (initial_of_nodes q)
@@ -128,7 +125,7 @@ module _ (p : Numbered) (to : Settled p.root 0 p.root) where
 
 value_fits : (inputs : Inputs) (x : Variable) (o : Option Value) → given inputs x.name ≡ o → ((v : Value) → given inputs x.name ≡ Some v → kind_of v ≡ x.kind)
     → kind_of (unwrap_or o (initial_value x.kind)) ≡ x.kind
-value_fits inputs x None is fit = kind_initial x.kind
+value_fits inputs x None is fit = kind_of-initial_value x.kind
 value_fits inputs x (Some v) is fit = fit v is
 
 kind_at_start : (inputs : Inputs) (x : Variable) (r : Role) (w : Value) → ((v : Value) → given inputs x.name ≡ Some v → kind_of v ≡ x.kind) → kind_of w ≡ x.kind

@@ -214,7 +214,7 @@ GatherRows (q ∷ parts) (p ∷ pieces) = Gathers (parts_in_row q) (in_row p) ×
 GatherRows [] (p ∷ pieces) = ⊥
 GatherRows (q ∷ parts) [] = ⊥
 
-no_labels : (parts : List (List Part)) → (side_by_side parts).labels ≡ []
+pub no_labels : (parts : List (List Part)) → (side_by_side parts).labels ≡ []
 no_labels [] = refl
 no_labels (q ∷ parts) = no_labels parts
 

@@ -2,7 +2,7 @@ pub mod Alike
 mod Moving
 mod Agreeing
 mod Assigning
-mod Targets
+pub mod Targets
 mod Forking
 mod Stepping
 mod StepsAlike

@@ -227,7 +227,7 @@ among_lower (b ∷ branches) h at =
       among_lower branches h.1 (beyond at (branch_counts c)),
     )
 
-no_nodes : (branches : List (List Piece)) → (all_branch_counts branches).nodes ≡ 0
+pub no_nodes : (branches : List (List Piece)) → (all_branch_counts branches).nodes ≡ 0
 no_nodes [] = refl
 no_nodes (b ∷ branches) = omega (arith, no_nodes branches)
 

@@ -15,7 +15,7 @@ use Rattle.scl_graph_laws.specs.Settling.{Settled, Settling}
 use Rattle.scl_graph_laws.specs.Mirrors.{leads, HasNode, HasFirst, Mirrors}
 use Rattle.scl_graph_laws.proofs.Agreeing.{GoesTo}
 
-same_number : (t : ℕ) → nat_eq t t ≡ true
+pub same_number : (t : ℕ) → nat_eq t t ≡ true
 same_number t = eq-eqb t t refl
 
 has_step : (q : Program) (n t : ℕ) (s : Step) → HasNode q n t s → step_at q n ≡ Some s

@@ -3,5 +3,5 @@ mod ShownTrees
 mod OpenTrees
 mod Opening
 mod Shown
-mod Nested
+pub mod Nested
 mod Rows

@@ -18,7 +18,7 @@ later_branches level count b branches h = record { own = omega (arith, h.own); l
 
 -- ---- within a program
 
-parts_are : (statements : List Statement) → parts_of statements ≡ map part_of statements
+pub parts_are : (statements : List Statement) → parts_of statements ≡ map part_of statements
 parts_are [] = refl
 parts_are (s ∷ statements) = ap (λ ps. part_of s ∷ ps) (parts_are statements)
 

@@ -32,11 +32,13 @@ use Rattle.drafts.specs.declared.parts.Declaration.{Declaration}
 use Rattle.drafts.specs.Flaws.{variable_names, variable_flaws}
 use Rattle.drafts.specs.Resolved.{variable_of, variables_of}
 use Rattle.drafts.proofs.Distinct.{AreFirst, count, distinct_once, once_distinct}
+use Rattle.drafts.proofs.Declared.{names_same}
 use Rattle.scl.specs.declared.program.Scl.{Scl}
 use Rattle.scl.specs.declared.statement.Statement.{Statement}
 use Rattle.scl.specs.Rules as rules
 use Rattle.scl.specs.Rules.{part_of, parts_of, KeepsBody, KeepsRules, fork_limit, if_limit}
 use Rattle.scl_printer.specs.Layout.{line, in_row, statement_text, statements_text, declarations_text, text_of}
+use Rattle.scl_printer.proofs.Nested.{parts_are}
 use Rattle.scl_drafts.specs.declared.draft.Draft.{Draft}
 use Rattle.scl_drafts.specs.declared.statement.TextStatement.{TextStatement}
 use Rattle.scl_drafts.specs.Flaws as flaws
@@ -45,15 +47,14 @@ use Rattle.scl_drafts.specs.Program.{Grows, Text, name, declaration, program, th
 use Rattle.scl_drafts.specs.Within.{inner_forks, inner_ifs, within}
 use Rattle.scl_drafts.specs.Draft.{declared, draft_of, IsDraft}
 use Rattle.scl_reader.specs.Read.{IsRead}
-use Rattle.scl_reader.proofs.Pieces.{every_of}
+use Rattle.scl_reader.proofs.Pieces.{every_of, both_empty}
 use Rattle.scl_printer_laws.specs.Reading.{names_of}
 use Rattle.scl_printer_laws.specs.Programs.{HasNumbers, CanWriteProgram}
 use Rattle.scl_printer_laws.proofs.Cuts.{Cuts, cuts_both, signed_at, worded_at}
 use Rattle.scl_printer_laws.proofs.Lines.{CanName, named_at, begins_at, cuts_line, cuts_name, cuts_word_space}
 use Rattle.scl_printer_laws.proofs.LineParts.{cuts_open, cuts_close}
 use Rattle.scl_printer_laws.proofs.Spelling.{after_of, before_of}
-use Rattle.scl_printer_laws.proofs.SoundValues.{both_empty}
-use Rattle.scl_printer_laws.proofs.SoundNames.{distinct_first, from_first, none_repeated, none_declared, names_same}
+use Rattle.scl_printer_laws.proofs.SoundNames.{distinct_first, from_first, none_repeated, none_declared}
 use Rattle.scl_printer_laws.proofs.ThreadParts.{CanAssign, CanTest, Can, can_thread, Like, like_thread}
 use Rattle.scl_printer_laws.proofs.StatementTexts.{text_of_row}
 use Rattle.scl_printer_laws.proofs.StatementReads.{texts_of, RowReads, row_reads}
@@ -84,10 +85,6 @@ program_is s n a b c d ds ts variables all h i =
 scl_is : (ts : List Token) (x : Text) → spells (program (within fork_limit if_limit)) ts x → spells (scl 0) ts x
 unfolding scl thread within inner_forks inner_ifs
 scl_is ts x s = s
-
-parts_are : (statements : List Statement) → parts_of statements ≡ map part_of statements
-parts_are [] = refl
-parts_are (s ∷ statements) = ap (λ ps. part_of s ∷ ps) (parts_are statements)
 
 -- ---- a program over declared variables
 

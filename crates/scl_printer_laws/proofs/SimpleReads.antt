@@ -20,6 +20,7 @@ use Rattle.drafts.specs.Flaws.{flaw_if, is_input, place_among, variable_names, v
 use Rattle.drafts.specs.Resolved.{expression_of, variable_of, variables_of}
 use Rattle.drafts.proofs.Kinded.{kinds_of}
 use Rattle.drafts.proofs.Distinct.{AreFirst}
+use Rattle.drafts.proofs.Declared.{names_same}
 use Rattle.scl.specs.declared.statement.Statement.{Statement}
 use Rattle.scl.specs.declared.statement.Statement.TheOpen as open_statement
 use Rattle.scl.specs.declared.statement.Statement.TheVariants as statement
@@ -37,6 +38,7 @@ use Rattle.scl_drafts.specs.declared.statement.TextStatement.TheFolds.{fold-roll
 use Rattle.scl_drafts.specs.Flaws as flaws
 use Rattle.scl_drafts.specs.Within.{within}
 use Rattle.scl_reader.specs.Resolved.{resolved, statement_of}
+use Rattle.scl_reader.proofs.Pieces.{both_empty}
 use Rattle.scl_printer_laws.specs.Reading.{CanWrite}
 use Rattle.scl_printer_laws.proofs.Longest.{Closes}
 use Rattle.scl_printer_laws.proofs.Cuts.{cuts_both, signed_at, worded_at}
@@ -44,8 +46,8 @@ use Rattle.scl_printer_laws.proofs.Lines.{CanName, named_at, begins_at, cuts_lin
 use Rattle.scl_printer_laws.proofs.LineParts.{cuts_semicolon, cuts_colon, cuts_becomes, cuts_ending}
 use Rattle.scl_printer_laws.proofs.Values.{Valued, valued}
 use Rattle.scl_printer_laws.proofs.Spelling.{assign_is, label_is, goto_is, pause_is, within_simple}
-use Rattle.scl_printer_laws.proofs.SoundValues.{both_empty, flaw_none, expression_sound, expression_meant}
-use Rattle.scl_printer_laws.proofs.SoundNames.{names_same, not_input}
+use Rattle.scl_printer_laws.proofs.SoundValues.{flaw_none, expression_sound, expression_meant}
+use Rattle.scl_printer_laws.proofs.SoundNames.{not_input}
 use Rattle.scl_printer_laws.proofs.ThreadParts.{CanAssign, Can}
 use Rattle.scl_printer_laws.proofs.StatementTexts.{text_of_assign, text_of_label, text_of_goto, text_of_pause}
 use Rattle.scl_printer_laws.proofs.StatementReads.{Reads, reads_as}

@@ -1,9 +1,8 @@
 -- Nothing is wrong with the names of a draft whose variables and labels are distinct, and whose gotos name labels of their own
 -- thread.
-use Rattle.std.proofs.Common.{◌≡◌, ◌≢◌, ℕ, zero, suc, ◌+◌, ◌≤◌, Bool, true, false, cond, Option, Some, None, List, [], ◌∷◌, ◌++◌, map, length}
+use Rattle.std.proofs.Common.{◌≡◌, ◌≢◌, ℕ, zero, suc, ◌+◌, ◌≤◌, Bool, true, false, cond, Some, List, [], ◌∷◌, ◌++◌, length}
 use Rattle.std.proofs.Common.{slice_get, refl, ◌∙◌, ap, subst, arith, if◌then◌else◌}
 use Rattle.std.specs.Prelude.{not, ◌&&◌, ◌||◌, count_by, option_map}
-use Rattle.std.specs.Option.{is_some}
 use Rattle.std.specs.List.{filter, list_any}
 use Rattle.std.specs.Str.{bytes_eq}
 use Rattle.std.proofs.lemmas.Slice.Eq.{bytes_eq-Decides}
@@ -26,7 +25,8 @@ use Rattle.drafts.specs.Resolved.{variable_of, variables_of}
 use Rattle.drafts.proofs.Distinct.{AreFirst, AreFirstBehind, itself}
 use Rattle.scl.specs.Rules.{is_in}
 use Rattle.scl_drafts.specs.Flaws.{names, lost, repeated}
-use Rattle.scl_printer_laws.proofs.SoundValues.{both_empty, flaw_none}
+use Rattle.scl_reader.proofs.Pieces.{among_in, both_empty}
+use Rattle.scl_printer_laws.proofs.SoundValues.{flaw_none}
 
 -- ---- distinct names are each the first of its kind
 
@@ -82,15 +82,6 @@ none_repeated labels at (l ∷ ls) are =
     both_empty (flaw_if (is_repeated labels at l.name) broken.Repeated l.at) (repeated labels (at + 1) ls)
     (flaw_none (is_repeated labels at l.name) broken.Repeated l.at (not_repeated labels at l.name parts.0))
     (none_repeated labels (at + 1) ls parts.1)
-
-among_is : (b : Bool) (later : Option ℕ) (c : Bool) → is_some later ≡ c → is_some (first_or b later) ≡ (b || c)
-among_is true later c e = refl
-among_is false None c e = e
-among_is false (Some k) c e = e
-
-among_in : (labels : List (List ℕ)) (name : List ℕ) → is_among labels name ≡ is_in labels name
-among_in [] name = refl
-among_in (l ∷ labels) name = among_is (bytes_eq l name) (place_among labels name) (is_in labels name) (among_in labels name)
 
 abbrev pub is_lost : List (List ℕ) → List ℕ → Bool
 is_lost labels name = not (is_in labels name)
@@ -158,10 +149,6 @@ none_declared names at outputs (x ∷ V) are few fewer =
     (both_empty c d
     (flaw_none (is_output x.role && is_full output_limit outputs) broken.Limit x.named.at (output_room (is_output x.role) outputs rest room))
     (none_declared names (at + 1) (one_more_if (is_output x.role) outputs) V parts.1 (omega (arith, few)) (outputs_left (is_output x.role) outputs rest room))))
-
-pub names_same : (V : List Declaration) → map (λ (v : Variable). v.name) (variables_of V) ≡ variable_names V
-names_same [] = refl
-names_same (x ∷ V) = ap (λ names. x.named.name ∷ names) (names_same V)
 
 pub not_input : (r : Role) → r ≢ role.Input → is_input r ≡ false
 not_input role.Input h = absurd (h refl)

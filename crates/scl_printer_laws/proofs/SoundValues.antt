@@ -37,13 +37,11 @@ use Rattle.drafts.specs.Flaws.{flaw_if, place_among, is_among, variable_names, u
 use Rattle.drafts.specs.Flaws.{is_alone, is_of_kind, is_of_other_kind, is_load, height_behind, greatest_height, passes_limits, expression_flaws}
 use Rattle.drafts.specs.Resolved.{operation_of, code_of, expression_of, variable_of, variables_of}
 use Rattle.drafts.proofs.Kinded.{kinds_of}
-use Rattle.drafts.proofs.Within.{load_count}
+use Rattle.drafts.proofs.Within.{load_count, height_grown}
+use Rattle.scl_reader.proofs.Pieces.{both_empty}
 use Rattle.scl_printer_laws.proofs.Operands.{AreKnown}
 
 -- ---- lists of flaws that are empty
-
-pub both_empty : {A : Type 0} (xs ys : List A) → xs ≡ [] → ys ≡ [] → xs ++ ys ≡ []
-both_empty xs ys e f = ap (λ zs. zs ++ ys) e ∙ f
 
 pub flaw_none : (b : Bool) (k : FaultKind) (at : ℕ) → b ≡ false → flaw_if b k at ≡ []
 flaw_none b k at e = ap (λ c. flaw_if c k at) e
@@ -178,16 +176,6 @@ cons_long t ts after e =
     let long = ap length same in
     omega (arith, long)
 
-length_grown : (names : List (List ℕ)) (o : TextOperation) (ts after : List Expr) → grown (operation_of names o) ts ≡ Some after
-    → length after ≡ height_behind o (length ts)
-length_grown names (text.Literal v) ts after e = let long = cons_long _ ts after e in omega (arith, long)
-length_grown names (text.Load name at) ts after e = let long = cons_long _ ts after e in omega (arith, long)
-length_grown names (text.Unary f) [] after e = absurd (cc)
-length_grown names (text.Unary f) (t ∷ ts) after e = let long = cons_long _ ts after e in omega (arith, long)
-length_grown names (text.Binary f) [] after e = absurd (cc)
-length_grown names (text.Binary f) (t ∷ []) after e = absurd (cc)
-length_grown names (text.Binary f) (t ∷ s ∷ ts) after e = let long = cons_long _ ts after e in omega (arith, long)
-
 abbrev Bounded : (limit : ℕ) (names : List (List ℕ)) (p : Phrase) (ts : List Expr) → Type 0
 Bounded limit names p ts = (n : ℕ) (stack : List Expr) → trees (take n (code_of names p)) ts ≡ Some stack → length stack ≤ limit
 
@@ -205,7 +193,7 @@ low_height limit names (o ∷ p) ts last e low = go (grown (operation_of names o
         let later : greatest_height (length middle) p ≤ limit =
         more middle all (λ n stack is. low (suc n) stack (ap (option_and_then (trees (take n (code_of names p)))) was ∙ is)) in
         let same : greatest_height (height_behind o (length ts)) p ≤ limit =
-        subst (λ h. greatest_height h p ≤ limit) (length_grown names o ts middle was) later in
+        subst (λ h. greatest_height h p ≤ limit) (height_grown names o ts middle was) later in
         omega (arith, here, same)
 
 or_none : (a b c : Bool) → a ≡ false → b ≡ false → c ≡ false → (a || (b || c)) ≡ false

@@ -1,5 +1,5 @@
 -- What the rules of SCL give a piece of a thread's text, and that a piece of a draft is like it: it has the same names, and no flaw.
-use Rattle.std.proofs.Common.{◌≡◌, ℕ, suc, ◌+◌, ◌≤◌, List, [], ◌∷◌, ◌++◌, refl, ◌∙◌, ap, arith}
+use Rattle.std.proofs.Common.{◌≡◌, ℕ, suc, ◌+◌, ◌≤◌, List, [], refl, ◌∙◌, ap, arith}
 use Rattle.std.specs.List.{filter}
 use Rattle.grammar.proofs.Each.{Every, every_front, every_behind}
 use Rattle.sc_values.specs.declared.expression.Expr.{Expr}
@@ -7,7 +7,6 @@ use Rattle.sc_values.specs.declared.value.Kind.TheVariants as kind_is
 use Rattle.sc_graph.specs.Limits.{child_limit}
 use Rattle.sc_text.specs.Parts.{IsExpression}
 use Rattle.drafts.specs.declared.flaw.Flaw.{Flaw}
-use Rattle.drafts.specs.declared.parts.Named.{Named}
 use Rattle.drafts.specs.declared.parts.Declaration.{Declaration}
 use Rattle.drafts.specs.Resolved.{variables_of}
 use Rattle.drafts.proofs.Kinded.{kinds_of}
@@ -17,9 +16,9 @@ use Rattle.scl.specs.Rules as rules
 use Rattle.scl.specs.Rules.{IsAssignment}
 use Rattle.scl_drafts.specs.Flaws as flaws
 use Rattle.scl_drafts.specs.Flaws.{names, lost}
+use Rattle.scl_reader.proofs.Pieces.{names_both, two_lists, both_empty}
 use Rattle.scl_printer_laws.specs.Reading.{CanWrite}
 use Rattle.scl_printer_laws.proofs.Lines.{CanName}
-use Rattle.scl_printer_laws.proofs.SoundValues.{both_empty}
 use Rattle.scl_printer_laws.proofs.SoundNames.{is_lost, none_lost, every_found}
 
 -- ---- what is known of a piece
@@ -133,13 +132,6 @@ pub record Like (q : flaws.Part) (p : rules.Part) : Type 0 where
 
 pub like_nothing : Like flaws.nothing rules.nothing
 like_nothing = record { labels = refl; gotos = refl; counted = λ n. refl; flawless = refl }
-
-names_both : (xs ys : List Named) → names (xs ++ ys) ≡ names xs ++ names ys
-names_both [] ys = refl
-names_both (x ∷ xs) ys = ap (λ zs. x.name ∷ zs) (names_both xs ys)
-
-two_lists : {A : Type 0} (xs ys us vs : List A) → xs ≡ us → ys ≡ vs → xs ++ ys ≡ us ++ vs
-two_lists xs ys us vs e f = ap (λ zs. zs ++ ys) e ∙ ap (λ zs. us ++ zs) f
 
 pub like_both : (q r : flaws.Part) (p s : rules.Part) → Like q p → Like r s → Like (flaws.both q r) (rules.both p s)
 like_both q r p s a b = record {

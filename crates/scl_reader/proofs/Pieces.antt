@@ -71,24 +71,24 @@ module _ (q r : flaws.Part) (h i : shapes.Shape) (both : Sound (flaws.both q r) 
     branches = every_behind (λ n. 1 ≤ n) h.forks i.forks both.branches;
   }
 
-no_more : {A : Type 0} (xs ys : List A) → xs ≡ [] → ys ≡ [] → xs ++ ys ≡ []
-no_more xs ys e f = ap (λ zs. zs ++ ys) e ∙ f
+pub both_empty : {A : Type 0} (xs ys : List A) → xs ≡ [] → ys ≡ [] → xs ++ ys ≡ []
+both_empty xs ys e f = ap (λ zs. zs ++ ys) e ∙ f
 
 ruled_both : (V : List Declaration) (p s : rules.Part) → Ruled V p → Ruled V s → Ruled V (rules.both p s)
 ruled_both V p s a b = record {
-  lost = no_more p.lost s.lost a.lost b.lost;
+  lost = both_empty p.lost s.lost a.lost b.lost;
   assigned = every_joined (λ a. IsAssignment (variables_of V) a.0 a.1) p.assigned s.assigned a.assigned b.assigned;
   tests = every_joined (IsExpression (kinds_of V) kind_is.Bool) p.tests s.tests a.tests b.tests;
   forks = every_joined (λ n. (1 ≤ n) × (n ≤ child_limit)) p.forks s.forks a.forks b.forks;
 }
 
-two_lists : {A : Type 0} (xs ys us vs : List A) → xs ≡ us → ys ≡ vs → xs ++ ys ≡ us ++ vs
+pub two_lists : {A : Type 0} (xs ys us vs : List A) → xs ≡ us → ys ≡ vs → xs ++ ys ≡ us ++ vs
 two_lists xs ys us vs e f = ap (λ zs. zs ++ ys) e ∙ ap (λ zs. us ++ zs) f
 
 two_max : (a b c d : ℕ) → a ≡ c → b ≡ d → max a b ≡ max c d
 two_max a b c d e f = ap (λ n. max n b) e ∙ ap (max c) f
 
-names_both : (xs ys : List Named) → names (xs ++ ys) ≡ names xs ++ names ys
+pub names_both : (xs ys : List Named) → names (xs ++ ys) ≡ names xs ++ names ys
 names_both [] ys = refl
 names_both (x ∷ xs) ys = ap (λ zs. x.name ∷ zs) (names_both xs ys)
 
@@ -148,12 +148,12 @@ keeps_flaws V fs q h p a = record {
 
 -- ---- a thread
 
-among_is : (b : Bool) (later : Option ℕ) (c : Bool) → is_some later ≡ c → is_some (first_or b later) ≡ (b || c)
+pub among_is : (b : Bool) (later : Option ℕ) (c : Bool) → is_some later ≡ c → is_some (first_or b later) ≡ (b || c)
 among_is true later c e = refl
 among_is false None c e = e
 among_is false (Some k) c e = e
 
-among_in : (labels : List (List ℕ)) (name : List ℕ) → is_among labels name ≡ is_in labels name
+pub among_in : (labels : List (List ℕ)) (name : List ℕ) → is_among labels name ≡ is_in labels name
 among_in [] name = refl
 among_in (l ∷ labels) name = among_is (bytes_eq l name) (place_among labels name) (is_in labels name) (among_in labels name)
 
@@ -185,7 +185,7 @@ module _ (V : List Declaration) (q : flaws.Part) (h : shapes.Shape) (p : rules.P
       let same : filter (is_lost p.labels) p.gotos ≡ [] = ap (λ ls. filter (is_lost ls) p.gotos) a.labels ∙ ap (filter (is_lost (names q.labels))) a.gotos
       ∙ found in
       record {
-        lost = no_more (filter (is_lost p.labels) p.gotos) p.lost same r.lost;
+        lost = both_empty (filter (is_lost p.labels) p.gotos) p.lost same r.lost;
         assigned = r.assigned;
         tests = r.tests;
         forks = r.forks;

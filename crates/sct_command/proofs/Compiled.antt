@@ -11,7 +11,7 @@ use Rattle.command_files.specs.Files.{Contents, HasBytes, Stores}
 use Rattle.command_files.specs.Sources.{BytesLackImage, FileLacksCompiled, SpellsImage}
 use Rattle.command_files.specs.Standing.{BytesLackSource, HasSource}
 use Rattle.command_files.specs.Storing.{IsNotStored}
-use Rattle.sct_command.proofs.Told.{quiet_bytes}
+use Rattle.image_charts.proofs.TextImages.{quiet}
 use Rattle.sct_command.specs.declared.fault.Fault.{Fault}
 use Rattle.sct_command.specs.declared.fault.Fault.TheVariants as fault
 use Rattle.sct_command.specs.Beside.{AreWarnings, AreWarningsOf, IsReported, SaysOfFault}
@@ -30,7 +30,7 @@ quiet_image bytes (load.Image g) none = refl
 quiet_image bytes (load.Rule g) none = refl
 quiet_image bytes (load.Text g) none = refl
 quiet_image bytes (load.Program g) none = refl
-quiet_image bytes (load.File g) none = quiet_bytes bytes (load.File g) none
+quiet_image bytes (load.File g) none = quiet bytes (load.File g) none
 quiet_image bytes (load.Source g) none = refl
 
 file_lacks : (files : Option Contents) (name bytes : List ℕ) (f : LoadFault) → HasSource files name bytes → BytesLackImage bytes f

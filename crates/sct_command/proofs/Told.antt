@@ -1,5 +1,5 @@
 -- From what was found in the bytes of a file, and what was told of it, to what an explanation leaves.
-use Rattle.std.proofs.Common.{◌≡◌, ℕ, List, Option, Result, Ok, Err, OnOk, IfErr, ◌⊎◌, inl, inr, refl, sym, subst}
+use Rattle.std.proofs.Common.{◌≡◌, ℕ, List, Option, Result, Ok, Err, OnOk, IfErr, ◌⊎◌, inl, inr, sym, subst}
 use Rattle.bytecode.specs.Image.{Image}
 use Rattle.command_files.proofs.Held.{compiled, no_compiled}
 use Rattle.command_files.proofs.Sourced.{no_source_in}
@@ -7,7 +7,6 @@ use Rattle.command_files.specs.declared.fault.LoadFault.{LoadFault}
 use Rattle.command_files.specs.declared.fault.LoadFault.TheVariants as load
 use Rattle.compiler.specs.declared.fault.CompileFault.{CompileFault}
 use Rattle.sc_text.specs.declared.read_fault.ReadFault.{ReadFault}
-use Rattle.command_files.specs.Counting.{files_failed}
 use Rattle.sct_command.specs.declared.fault.Fault.{Fault}
 use Rattle.sct_command.specs.declared.fault.Fault.TheVariants as fault
 use Rattle.command_files.specs.Files.{Contents, HasBytes}
@@ -83,17 +82,6 @@ told_source files name bytes old new f (fault.Files (load.Source g)) image sourc
 told_source files name bytes old new f (fault.Play g cause) image source is = absurd is
 told_source files name bytes old new f fault.Tests image source is = absurd is
 told_source files name bytes old new f (fault.Place shown) image source is = absurd is
-
--- bytes that spell no image
-pub quiet_bytes : (bytes : List ℕ) (f : LoadFault) → BytesLackCompiled bytes f → files_failed f ≡ 0
-quiet_bytes bytes (load.File g) (inl why) = absurd why
-quiet_bytes bytes (load.File g) (inr why) = absurd why
-quiet_bytes bytes load.Memory why = refl
-quiet_bytes bytes (load.Image g) why = refl
-quiet_bytes bytes (load.Rule g) why = refl
-quiet_bytes bytes (load.Text g) why = refl
-quiet_bytes bytes (load.Program g) why = refl
-quiet_bytes bytes (load.Source g) why = refl
 
 pub told_bytes : (files : Option Contents) (name bytes : List ℕ) (old new : Option (List ℕ)) (f : LoadFault) (r : Fault) → HasSource files name bytes
     → BytesLackCompiled bytes f → IsTold name bytes f old new r → RefusesExplaining files name old new r

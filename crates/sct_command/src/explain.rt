@@ -102,7 +102,7 @@ fn tell_found<W: Sink>(
 
 // Compiles the source that these bytes are, and tells of its image, or of why it has none: in the text of its author,
 // where they are that of the chart to which an extended chart is reduced, which is written in the file.
-#[tactic(auto, using(crate::proofs::Told::quiet_bytes))]
+#[tactic(auto, using(image_charts::proofs::TextImages::quiet))]
 fn explain_source<W: Sink>(
     alloc: Global,
     name: &str,

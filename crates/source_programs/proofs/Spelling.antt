@@ -1,8 +1,6 @@
 -- From what was read of a source text to the SCL program that it spells, or to why it spells none.
-use Rattle.std.proofs.Common.{◌≡◌, ℕ, List, sym, ap, subst, ◌∙◌}
-use Rattle.core_charts.specs.declared.features.Features.TheVariants as features
+use Rattle.std.proofs.Common.{◌≡◌, ℕ, List, sym, subst}
 use Rattle.core_charts.specs.Chart.{Chart}
-use Rattle.core_charts.specs.Rules.{IsChart}
 use Rattle.sc_text.specs.declared.language.Language.{Language}
 use Rattle.sc_text.specs.declared.language.Language.TheVariants as language
 use Rattle.sc_text.specs.declared.read_fault.ReadFault.{ReadFault}
@@ -14,10 +12,7 @@ use Rattle.chart_drafts.specs.declared.draft.DraftChart.{DraftChart}
 use Rattle.chart_drafts.specs.Checked as charts
 use Rattle.chart_reader.specs.Resolved.{chart_of}
 use Rattle.abort_expansion.specs.Answers.{LacksCore}
-use Rattle.abort_expansion.specs.Expansion.{IsExpandable, expanded}
 use Rattle.abort_expansion.specs.declared.fault.ExpandFault.{ExpandFault}
-use Rattle.chart_lowering.specs.Lowering.{lowered}
-use Rattle.compiler.specs.Charts.{IsSclOf}
 use Rattle.source_programs.specs.declared.fault.SourceFault.{SourceFault}
 use Rattle.source_programs.specs.declared.fault.SourceFault.TheVariants as fault
 use Rattle.source_programs.specs.declared.reading.Reading.{Reading}
@@ -26,18 +21,6 @@ use Rattle.source_programs.specs.Kept.{Keeps}
 use Rattle.source_programs.specs.Programs.{IsFaultIn, LacksProgram, SpellsProgram}
 
 -- ---- what it spells
-
--- the lowering of the expansion is the program of the chart
-pub lowering_of : (chart core : Chart) (scl : Scl) → IsExpandable chart → core ≡ expanded chart → IsChart features.Core core → scl.name ≡ core.name →
-    scl.variables ≡ core.variables → scl.body ≡ lowered core → IsSclOf chart scl
-lowering_of chart core scl expandable same rules named declared body = record {
-  expandable = expandable;
-  core = subst (IsChart features.Core) same rules;
-  rules = scl.kept;
-  named = named ∙ ap (λ (c : Chart). c.name) same;
-  declared = declared ∙ ap (λ (c : Chart). c.variables) same;
-  body = body ∙ ap lowered same;
-}
 
 -- what is kept of a text says which program it spells
 pub spells : (text : List ℕ) (scl : Scl) (r : Reading) → Keeps text scl r → SpellsProgram text scl

@@ -37,7 +37,7 @@ pub enum Reading {
 }
 
 // The core chart of a chart, and its SCL program. Err: it has none; or memory was refused.
-#[tactic(auto, using(crate::proofs::Spelling::lowering_of))]
+#[tactic(auto, using(compiler::proofs::Charts::lowering_of))]
 fn lowered(alloc: Global, chart: &Chart) -> Result<(CoreChart, Scl), ExpandFault>
     ensures made { IfOk result (λ made. (made.0 ≡ expanded chart.now) × IsSclOf chart.now made.1) }
     ensures none { IfErr result (LacksCore chart.now) }

@@ -52,7 +52,7 @@ name-given variables name d g e = name_by (input_of variables name) name d g (na
 
 -- ---- what members give, with one more put among them
 
-both_of : {A : Type 0} (o : Option A) (r : Option (List A)) (gs : List A) → option_and_then (λ h. option_map (λ hs. h ∷ hs) r) o ≡ Some gs
+pub both_of : {A : Type 0} (o : Option A) (r : Option (List A)) (gs : List A) → option_and_then (λ h. option_map (λ hs. h ∷ hs) r) o ≡ Some gs
     → (h : A) × (hs : List A) × (o ≡ Some h) × (r ≡ Some hs) × (h ∷ hs ≡ gs)
 both_of None r gs e = absurd cc
 both_of (Some h) None gs e = absurd cc
