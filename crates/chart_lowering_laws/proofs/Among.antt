@@ -21,8 +21,7 @@ use Rattle.chart_machine.specs.Table.{inside_region, region_subtree, state_subtr
 use Rattle.chart_machine.proofs.Outside.{within_or_past}
 use Rattle.scl.specs.declared.statement.Statement.{Statement}
 use Rattle.scl.specs.Block.{Block, End, Label}
-use Rattle.scl.specs.Numbering.{Piece as TextPiece}
-use Rattle.scl.specs.Numbering.{Numbers, pieces_of, in_row}
+use Rattle.scl.specs.Numbering.{Piece as TextPiece, Numbers, pieces_of, in_row}
 use Rattle.scl_graph_laws.proofs.Segments.{StandAt, stand_from, stand_first, stand_second}
 use Rattle.scl_graph_laws.proofs.Members.{contains_head, contains_tail}
 use Rattle.scl_graph_laws.proofs.Searching.{own_labels}
@@ -30,9 +29,8 @@ use Rattle.scl_graph_laws.proofs.Scopes.{KeepsScopes, Distinct, distinct_first}
 use Rattle.chart_lowering_laws.proofs.Labels.{text_labels, own_made, label_first}
 use Rattle.chart_lowering_laws.proofs.OwnNames.{region_apart, numbers_long}
 use Rattle.chart_lowering.specs.declared.targets.Targets.{Targets}
-use Rattle.chart_lowering.specs.Lowering.{RegionPiece, StatePiece, label, label_name, texts, numbers, targets, labels_in_initial, labels_in_states}
-use Rattle.chart_lowering.specs.Lowering.{region_piece as low_region, state_piece as low_state, piece_of_region as low_of_region}
-use Rattle.chart_lowering.specs.Lowering.{piece_of_state as low_of_state}
+use Rattle.chart_lowering.specs.Lowering.{RegionPiece, StatePiece, label, label_name, texts, numbers, targets, labels_in_initial, state_piece as low_state}
+use Rattle.chart_lowering.specs.Lowering.{labels_in_states, region_piece as low_region, piece_of_region as low_of_region, piece_of_state as low_of_state}
 use Rattle.chart_lowering_laws.proofs.Texts.{made, label_piece}
 use Rattle.chart_lowering_laws.proofs.Counting.{threads_in, CountsState, state_counts, regions_count}
 use Rattle.chart_lowering_laws.proofs.Finding.{MainPlace, label_found}
