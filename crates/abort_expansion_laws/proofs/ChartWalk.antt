@@ -1,9 +1,8 @@
 -- The regions of a chart that keeps its rules, walked over at every depth; and that each region of a table has a state.
-use Rattle.std.proofs.Common.{◌≡◌, ℕ, zero, suc, ◌+◌, ◌<◌, ◌≤◌, inl, inr, Bool, true, false, cond, Some, List, [], ◌∷◌, ◌++◌, map, length}
-use Rattle.std.proofs.Common.{count_by, slice_get, refl, sym, ap, subst, ◌∙◌, arith}
+use Rattle.std.proofs.Common.{◌≡◌, ℕ, zero, suc, ◌+◌, ◌<◌, inl, inr, Bool, true, false, cond, Some, List, [], ◌∷◌, ◌++◌, map, length}
+use Rattle.std.proofs.Common.{count_by, slice_get, refl, sym, subst, ◌∙◌, arith}
 use Rattle.std.specs.Prelude.{IsTrue}
 use Rattle.std.specs.List.{list_any}
-use Rattle.std.proofs.lemmas.List.Recursion.{is_count_by}
 use Rattle.sc_graph.specs.declared.program.Variable.{Variable}
 use Rattle.sc_text.proofs.EachItem.{Each, each_of, each_append, each_map}
 use Rattle.core_charts.specs.declared.features.Features.{Features}
@@ -20,7 +19,8 @@ use Rattle.chart_machine.specs.declared.table.RegionRow.{RegionRow}
 use Rattle.chart_machine.specs.declared.table.TablePosition.{TablePosition}
 use Rattle.chart_machine.specs.Table.{Subtree, side_by_side, behind, in_region, rows_of_state_at, with_region, next_behind, past_states, within, inside_region}
 use Rattle.chart_machine.specs.Table.{regions_in_initial, state_numbers, region_subtree, state_subtree, subtree_of_region, subtree_of_state}
-use Rattle.chart_machine_laws.proofs.TableTrees.{NoneInitial, OnceInitial}
+use Rattle.chart_machine_laws.proofs.TableTrees.{OnceInitial}
+use Rattle.chart_machine_laws.proofs.ChartTables.{is_first, count, count_is, first_is, once_initial}
 use Rattle.abort_expansion.specs.Flags.{has_join}
 use Rattle.core_charts.specs.Aborts.{has_strong, has_weak, has_aborts}
 use Rattle.abort_expansion.specs.Expansion.{piece_of_region as expanded_region}
@@ -32,36 +32,6 @@ use Rattle.abort_expansion_laws.proofs.WalkRegion.{walk_region}
 use Rattle.abort_expansion_laws.proofs.InitialStates.{HasInitial}
 
 -- ---- one state of a region is initial
-
-abbrev is_first : State → Bool
-is_first s = (out-State s).is_initial
-
-abbrev count : List State → ℕ
-count [] = 0
-count (s ∷ states) = cond (is_first s) (1 + count states) (count states)
-
-count_is : (states : List State) → count states ≡ count_by is_first states
-count_is states = is_count_by count is_first refl (λ x ys. refl) states
-
-first_is : (s : State) → (subtree_of_state s).is_initial ≡ is_first s
-first_is s = ap (λ p. p.is_initial) (fold_out-State Subtree Subtree region_subtree state_subtree s)
-
-none_if : (b : Bool) (n : ℕ) → cond b (1 + n) n ≡ 0 → (b ≡ false) × (n ≡ 0)
-none_if true n e = absurd (omega (e, arith))
-none_if false n e = (refl, e)
-
-once_if : (b : Bool) (n : ℕ) → cond b (1 + n) n ≤ 1 → (b ≡ true → n ≡ 0) × (n ≤ 1)
-once_if true n e = (λ same. omega (e, arith), omega (e, arith))
-once_if false n e = (λ same. absurd cc, e)
-
-none_initial : (states : List State) → count states ≡ 0 → NoneInitial (pieces_of states)
-none_initial [] e = tt
-none_initial (s ∷ states) e = let both = none_if (is_first s) (count states) e in (first_is s ∙ both.0, none_initial states both.1)
-
-once_initial : (states : List State) → count states ≤ 1 → OnceInitial (pieces_of states)
-once_initial [] e = tt
-once_initial (s ∷ states) e =
-    let both = once_if (is_first s) (count states) e in (λ first. none_initial states (both.0 (sym (first_is s) ∙ first)), once_initial states both.1)
 
 has_initial : (states : List State) → count states ≡ 1 → HasInitial (pieces_of states)
 has_initial [] e = absurd (omega (e, arith))

@@ -27,17 +27,17 @@ use Rattle.chart_machine_laws.proofs.TableTrees.{state_held, state_climbs, regio
 
 -- ---- one initial state
 
-abbrev is_first : State → Bool
+abbrev pub is_first : State → Bool
 is_first s = (out-State s).is_initial
 
-abbrev count : List State → ℕ
+abbrev pub count : List State → ℕ
 count [] = 0
 count (s ∷ states) = cond (is_first s) (1 + count states) (count states)
 
-count_is : (states : List State) → count states ≡ count_by is_first states
+pub count_is : (states : List State) → count states ≡ count_by is_first states
 count_is states = is_count_by count is_first refl (λ x ys. refl) states
 
-first_is : (s : State) → (subtree_of_state s).is_initial ≡ is_first s
+pub first_is : (s : State) → (subtree_of_state s).is_initial ≡ is_first s
 first_is s = ap (λ p. p.is_initial) (fold_out-State Subtree Subtree region_subtree state_subtree s)
 
 none_if : (b : Bool) (n : ℕ) → cond b (1 + n) n ≡ 0 → (b ≡ false) × (n ≡ 0)
@@ -52,7 +52,7 @@ none_initial : (states : List State) → count states ≡ 0 → NoneInitial (map
 none_initial [] e = tt
 none_initial (s ∷ states) e = let both = none_if (is_first s) (count states) e in (first_is s ∙ both.0, none_initial states both.1)
 
-once_initial : (states : List State) → count states ≤ 1 → OnceInitial (map subtree_of_state states)
+pub once_initial : (states : List State) → count states ≤ 1 → OnceInitial (map subtree_of_state states)
 once_initial [] e = tt
 once_initial (s ∷ states) e =
     let both = once_if (is_first s) (count states) e in (λ first. none_initial states (both.0 (sym (first_is s) ∙ first)), once_initial states both.1)
