@@ -3,7 +3,6 @@ use Rattle.std.proofs.Common.{◌≡◌, ℕ, zero, suc, Option, Some, None, Lis
 use Rattle.std.proofs.lemmas.List.{length-replicate}
 use Rattle.sc_values.specs.declared.value.Value.{Value}
 use Rattle.sc_values.specs.declared.value.Kind.{Kind}
-use Rattle.sc_values.specs.declared.value.Kind.TheVariants as kind
 use Rattle.sc_values.specs.Operator.{kind_of, initial_value}
 use Rattle.sc_graph.specs.declared.program.Variable.{Variable}
 use Rattle.sc_graph.specs.declared.program.Role.{Role}
