@@ -189,7 +189,7 @@ module _ (k core : Table) (i : Images) (rows : CoreRows k core i) (lone : AloneR
     where
       state_of : (s : ℕ) → IsSuper k s → IsState k s
       state_of s super = ⊎_elim (λ lt. lt) (λ past. absurd (super (Rattle.chart_machine_laws.proofs.ChartTables.no_regions_past k s past)))
-          (Rattle.chart_machine_laws.proofs.ChartTables.within_or_past s (length k.states))
+          (Rattle.chart_machine.proofs.Outside.within_or_past s (length k.states))
 
       closing_led : (places : Rattle.abort_expansion.specs.declared.places.RegionPlaces.RegionPlaces) (ts : List Transition) →
           closing_tests (map (led places) ts) ≡ map (led places) (closing_tests ts)
@@ -202,7 +202,7 @@ module _ (k core : Table) (i : Images) (rows : CoreRows k core i) (lone : AloneR
     where
       here : IsState k s
       here = ⊎_elim (λ lt. lt) (λ past. absurd (super (Rattle.chart_machine_laws.proofs.ChartTables.no_regions_past k s past)))
-          (Rattle.chart_machine_laws.proofs.ChartTables.within_or_past s (length k.states))
+          (Rattle.chart_machine.proofs.Outside.within_or_past s (length k.states))
 
       split : Rattle.abort_expansion_laws.specs.CoreRows.SplitImage k core i s
       split = rows.split s here super (subst (λ q. stays (flags_around k core i q) (own k s) ≡ false) (sym held) apart)
@@ -253,7 +253,7 @@ module _ (k core : Table) (i : Images) (rows : CoreRows k core i) (lone : AloneR
     where
       state_of : (s : ℕ) → IsSuper k s → IsState k s
       state_of s super = ⊎_elim (λ lt. lt) (λ past. absurd (super (Rattle.chart_machine_laws.proofs.ChartTables.no_regions_past k s past)))
-          (Rattle.chart_machine_laws.proofs.ChartTables.within_or_past s (length k.states))
+          (Rattle.chart_machine.proofs.Outside.within_or_past s (length k.states))
 
       after_none : (zs : List Transition) (a b : Option ℕ) (places : Rattle.abort_expansion.specs.declared.places.RegionPlaces.RegionPlaces) →
           zs ++ Rattle.abort_expansion.specs.Transitions.answers places a 1 [] ++ Rattle.abort_expansion.specs.Transitions.answers places b 1 [] ≡ zs
