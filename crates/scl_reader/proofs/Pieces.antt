@@ -148,7 +148,7 @@ keeps_flaws V fs q h p a = record {
 
 -- ---- a thread
 
-pub among_is : (b : Bool) (later : Option ℕ) (c : Bool) → is_some later ≡ c → is_some (first_or b later) ≡ (b || c)
+among_is : (b : Bool) (later : Option ℕ) (c : Bool) → is_some later ≡ c → is_some (first_or b later) ≡ (b || c)
 among_is true later c e = refl
 among_is false None c e = e
 among_is false (Some k) c e = e
