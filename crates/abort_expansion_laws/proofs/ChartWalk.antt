@@ -158,7 +158,7 @@ regions_have f variables zero regions rules = subst (λ rs. Each AllHave (map su
 regions_have f variables (suc levels) regions rules =
     each_map AllHave subtree_of_region regions
     (each_of (λ r. AllHave (subtree_of_region r)) regions
-        (λ i r at. one r (rules.each i r at) (λ rs inner. regions_have f variables levels rs inner)))
+    (λ i r at. one r (rules.each i r at) (λ rs inner. regions_have f variables levels rs inner)))
   where
     one : (r : Region) → IsRegion f variables (AreRegions f variables levels) r →
         ((rs : List Region) → AreRegions f variables levels rs → Each AllHave (map subtree_of_region rs)) → AllHave (subtree_of_region r)
@@ -167,8 +167,8 @@ regions_have f variables (suc levels) regions rules =
         let some = some_state states (count_is states ∙ rules.one_initial) in
         region_has r some.0 some.1.0 some.1.1
         (each_map AllHave subtree_of_state states
-            (each_of (λ s. AllHave (subtree_of_state s)) states
-                (λ j s is. state_has s (inner (out-State s).regions (rules.states j s is).regions))))
+        (each_of (λ s. AllHave (subtree_of_state s)) states
+        (λ j s is. state_has s (inner (out-State s).regions (rules.states j s is).regions))))
 
 pub rows_have : (f : Features) (variables : List Variable) (levels : ℕ) (regions : List Region) → AreRegions f variables levels regions → (at : TablePosition) →
     Each HasState (side_by_side (map subtree_of_region regions) at).regions
