@@ -9,7 +9,7 @@ use sc_graph::VariableId;
 use std::alloc::AllocError;
 
 /// The variables of a superstate: the flags of its strong and of its weak aborts, and its termination counter.
-#[derive(Clone, Copy, Debug)]
+#[derive(Clone, Copy)]
 pub struct Flags {
     pub strong: Option<VariableId>,
     pub weak: Option<VariableId>,

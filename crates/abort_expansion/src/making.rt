@@ -1,6 +1,6 @@
 //! The expressions, effects and transitions that expansion makes.
 
-ghost use Rattle.std.specs.Prelude.{◌≡◌, ◌∷◌, [], IfOk};
+ghost use Rattle.std.specs.Prelude.{◌≡◌, ◌∷◌, ◌++◌, [], IfOk, OnOk};
 ghost use Rattle.abort_expansion.specs.Transitions.{number, is_number, is_raised, put, count_down, go, check, on};
 
 use core_charts::{Effect, Transition, TransitionKind};
@@ -54,19 +54,17 @@ pub(crate) fn count_down(alloc: Global, variable: VariableId) -> Result<Effect, 
     })
 }
 
-/// The effects that count down, where there is a counter.
-pub(crate) fn counting_down(
+/// Puts the effect that counts down behind others, where there is a counter.
+pub(crate) fn put_counting_down(
     alloc: Global,
     counter: Option<VariableId>,
-) -> Result<Items<Effect>, AllocError>
-    ensures { IfOk result (λ made. made ≡ on counter count_down) }
+    made: &mut Items<Effect>,
+) -> Result<(), AllocError>
+    ensures { OnOk result (made.new ≡ made.old ++ on counter count_down) }
 {
     match counter {
-        Some(variable) => {
-            let effect = count_down(alloc, variable)?;
-            alone(alloc, effect)
-        }
-        None => Ok(Items::new(alloc)),
+        Some(variable) => made.push(count_down(alloc, variable)?),
+        None => Ok(()),
     }
 }
 
@@ -88,21 +86,22 @@ pub(crate) fn go(
     }
 }
 
-/// The check of a flag, where there is one.
-pub(crate) fn check(
+/// Puts the check of a flag behind others, where there is one.
+pub(crate) fn put_check(
     alloc: Global,
     immediate: bool,
     left: u32,
     flag: Option<VariableId>,
-) -> Result<Items<Transition>, AllocError>
-    ensures { IfOk result (λ made. made ≡ check immediate left flag) }
+    made: &mut Items<Transition>,
+) -> Result<(), AllocError>
+    ensures { OnOk result (made.new ≡ made.old ++ check immediate left flag) }
 {
     match flag {
         Some(variable) => {
             let raised = is_raised(alloc, variable)?;
-            alone(alloc, go(immediate, Some(raised), Items::new(alloc), left))
+            made.push(go(immediate, Some(raised), Items::new(alloc), left))
         }
-        None => Ok(Items::new(alloc)),
+        None => Ok(()),
     }
 }
 

@@ -1,15 +1,14 @@
 //! What expansion makes of the pieces of a chart, and the numbers that come next.
 
-ghost use Rattle.std.specs.Prelude.{◌≡◌, OnOk};
-ghost use Rattle.abort_expansion.specs.Pieces.{beside, together};
+ghost use Rattle.std.specs.Prelude.{◌≡◌, []};
 
 use core_charts::{Region, State};
 use sc_graph::Variable;
 use sqlite_items::Items;
-use std::alloc::AllocError;
+use std::alloc::Global;
 
 /// StatePieces that stand side by side in a region.
-#[derive(Debug, Drop)]
+#[derive(Drop)]
 pub struct StatePieces {
     pub states: Items<State>,
     /// The variables that they need.
@@ -19,7 +18,7 @@ pub struct StatePieces {
 }
 
 /// Regions of one superstate.
-#[derive(Debug, Drop)]
+#[derive(Drop)]
 pub struct Regions {
     pub regions: Items<Region>,
     /// The variables that they need.
@@ -29,7 +28,7 @@ pub struct Regions {
 }
 
 /// The numbers that come next: of a superstate, of a variable, of a state of the text.
-#[derive(Clone, Copy, Debug)]
+#[derive(Clone, Copy)]
 pub struct NextNumbers {
     pub superstate: u32,
     pub variable: u32,
@@ -37,23 +36,27 @@ pub struct NextNumbers {
 }
 
 impl StatePieces {
-    /// Puts others behind these.
-    pub(crate) fn put(&mut self, more: StatePieces) -> Result<(), AllocError>
-        ensures { OnOk result (self.new ≡ beside self.old more) }
+    /// No states.
+    pub(crate) fn none(alloc: Global) -> StatePieces
+        ensures { result ≡ record { states = []; variables = []; stands_for = [] } }
     {
-        self.states.append(more.states)?;
-        self.variables.append(more.variables)?;
-        self.stands_for.append(more.stands_for)
+        StatePieces {
+            states: Items::new(alloc),
+            variables: Items::new(alloc),
+            stands_for: Items::new(alloc),
+        }
     }
 }
 
 impl Regions {
-    /// Puts others behind these.
-    pub(crate) fn put(&mut self, more: Regions) -> Result<(), AllocError>
-        ensures { OnOk result (self.new ≡ together self.old more) }
+    /// No regions.
+    pub(crate) fn none(alloc: Global) -> Regions
+        ensures { result ≡ record { regions = []; variables = []; stands_for = [] } }
     {
-        self.regions.append(more.regions)?;
-        self.variables.append(more.variables)?;
-        self.stands_for.append(more.stands_for)
+        Regions {
+            regions: Items::new(alloc),
+            variables: Items::new(alloc),
+            stands_for: Items::new(alloc),
+        }
     }
 }

@@ -1,9 +1,9 @@
 //! Where the states of a region are behind expansion, and transitions to them.
 
-ghost use Rattle.std.specs.Prelude.{◌≡◌, IfOk, false, slice_get, unwrap_or, map};
+ghost use Rattle.std.specs.Prelude.{◌≡◌, [], ◌∷◌, ◌++◌, IfOk, OnOk, false, slice_get, unwrap_or, map};
 ghost use Rattle.abort_expansion.specs.Transitions.{place_of, counting, led, led_by};
 
-use crate::making::{counting_down, go};
+use crate::making::{go, put_counting_down};
 use core_charts::{Effect, Transition, copied_effects, copied_trigger};
 use sc_graph::VariableId;
 use sc_values::Expr;
@@ -11,7 +11,7 @@ use sqlite_items::Items;
 use std::alloc::{AllocError, Global};
 
 /// Where the states of a region are, behind expansion.
-#[derive(Debug, Drop)]
+#[derive(Drop)]
 pub struct RegionPlaces {
     /// Of each state of the text its place.
     pub states: Items<u32>,
@@ -53,7 +53,7 @@ impl RegionPlaces {
     {
         let mut all = copied_effects(alloc, effects)?;
         if self.is_final(target) {
-            all.append(counting_down(alloc, self.counter)?)?;
+            put_counting_down(alloc, self.counter, &mut all)?;
         }
         Ok(all)
     }
@@ -71,31 +71,32 @@ impl RegionPlaces {
         })
     }
 
-    /// Its effects and target, tested at once by this trigger.
-    pub(crate) fn led_by(
+    /// Puts its effects and target behind others, tested at once by this trigger.
+    pub(crate) fn put_led_by(
         &self,
         alloc: Global,
         trigger: Option<Expr>,
         transition: &Transition,
-    ) -> Result<Transition, AllocError>
-        ensures { IfOk result (λ made. made ≡ led_by self.now trigger transition.now) }
+        made: &mut Items<Transition>,
+    ) -> Result<(), AllocError>
+        ensures { OnOk result (made.new ≡ made.old ++ led_by self.now trigger transition.now ∷ []) }
     {
         let effects = self.counting(alloc, transition.target, transition.effects.as_slice())?;
-        Ok(go(true, trigger, effects, self.place_of(transition.target)))
+        made.push(go(true, trigger, effects, self.place_of(transition.target)))
     }
 
-    /// Transitions as they stand, to where their targets are.
-    pub(crate) fn all_led(
+    /// Puts transitions behind others as they stand, to where their targets are.
+    pub(crate) fn put_all_led(
         &self,
         alloc: Global,
         all: &[Transition],
-    ) -> Result<Items<Transition>, AllocError>
-        ensures { IfOk result (λ made. made ≡ map (led self.now) all.now) }
+        made: &mut Items<Transition>,
+    ) -> Result<(), AllocError>
+        ensures { OnOk result (made.new ≡ made.old ++ map (led self.now) all.now) }
     {
-        let mut made = Items::new(alloc);
         for transition in all {
             made.push(self.led(alloc, transition)?)?;
         }
-        Ok(made)
+        Ok(())
     }
 }

@@ -7,7 +7,7 @@ use sqlite_items::Items;
 
 /// For which state of a chart each state of its core chart stands. The states of both are numbered from 0 in
 /// the order of their texts.
-#[derive(Debug, Drop)]
+#[derive(Drop)]
 pub struct StateMap {
     /// For each core state that of the chart, if there is one.
     pub states: Items<Option<u32>>,

@@ -1,12 +1,17 @@
 //! The states that expansion makes of a state, and abort monitors, without what is inside them.
 
-ghost use Rattle.std.specs.Prelude.{◌≡◌, ◌∷◌, [], IfOk};
+ghost use Rattle.std.specs.Prelude.{◌≡◌, ◌∷◌, ◌++◌, [], OnOk};
 ghost use Rattle.core_charts.specs.Tests.{terminations};
 ghost use Rattle.abort_expansion.specs.Superstates.{simple, simple_transitions, resets, preparation, abandoned};
 ghost use Rattle.abort_expansion.specs.Superstates.{monitor, monitor_transitions, continuation, closing};
 ghost use Rattle.abort_expansion.specs.Superstates.{joined_or_left, all_ended, fork};
+ghost use Rattle.abort_expansion.specs.Transitions.{on, put};
+ghost use Rattle.abort_expansion.specs.Inside.Parts.{preparing, watching, continuing};
 
-use crate::checks::{AbortSort, answers, entry_aborts, raising, strong_checks, weak_checks};
+use crate::checks::{
+    AbortSort, put_answer, put_answers, put_entry_aborts, put_raising, put_strong_checks,
+    put_weak_checks,
+};
 use crate::flags::{Flags, weak_around};
 use crate::making::{alone, go, is_number, put};
 use crate::names::{
@@ -19,8 +24,8 @@ use sc_values::Name;
 use sqlite_items::Items;
 use std::alloc::{AllocError, Global};
 
-/// A simple state of this name and these transitions.
-pub(crate) fn simple(
+/// Puts a simple state of this name and these transitions behind others.
+pub(crate) fn put_simple(
     alloc: Global,
     is_final: bool,
     name: Name,
@@ -28,39 +33,46 @@ pub(crate) fn simple(
     around: &[Flags],
     at: &RegionPlaces,
     begins: bool,
-) -> Result<State, AllocError>
-    ensures { IfOk result (λ made. made ≡ simple is_final name own.now around.now at.now begins) }
+    made: &mut Items<State>,
+) -> Result<(), AllocError>
+    ensures { OnOk result (made.new ≡ made.old ++ simple is_final name own.now around.now at.now begins ∷ []) }
 {
-    let transitions = if is_final {
-        Items::new(alloc)
-    } else {
-        simple_transitions(alloc, own, around, at)?
-    };
-    Ok(State {
+    if is_final {
+        return made.push(State {
+            name,
+            is_initial: begins,
+            is_final: true,
+            regions: Items::new(alloc),
+            transitions: Items::new(alloc),
+        });
+    }
+    let mut transitions = Items::new(alloc);
+    put_simple_transitions(alloc, own, around, at, &mut transitions)?;
+    made.push(State {
         name,
         is_initial: begins,
-        is_final,
+        is_final: false,
         regions: Items::new(alloc),
         transitions,
     })
 }
 
-fn simple_transitions(
+fn put_simple_transitions(
     alloc: Global,
     own: &[Transition],
     around: &[Flags],
     at: &RegionPlaces,
-) -> Result<Items<Transition>, AllocError>
-    ensures { IfOk result (λ made. made ≡ simple_transitions around.now at.now own.now) }
+    made: &mut Items<Transition>,
+) -> Result<(), AllocError>
+    ensures { OnOk result (made.new ≡ made.old ++ simple_transitions around.now at.now own.now) }
 {
-    let mut made = strong_checks(alloc, false, at.left, around)?;
-    made.append(at.all_led(alloc, own)?)?;
-    made.append(weak_checks(alloc, true, at.left, around)?)?;
-    Ok(made)
+    put_strong_checks(alloc, false, at.left, around, made)?;
+    at.put_all_led(alloc, own, made)?;
+    put_weak_checks(alloc, true, at.left, around, made)
 }
 
-/// The preparation state of a superstate with so many regions, whose fork has this place.
-pub(crate) fn preparation(
+/// Puts the preparation state of a superstate with so many regions, whose fork has this place, behind others.
+pub(crate) fn put_preparation(
     alloc: Global,
     superstate: u32,
     flags: Flags,
@@ -69,13 +81,14 @@ pub(crate) fn preparation(
     at: &RegionPlaces,
     fork: u32,
     begins: bool,
-) -> Result<State, AllocError>
-    ensures { IfOk result (λ made. made ≡ preparation superstate flags regions own.now at.now fork begins) }
+    made: &mut Items<State>,
+) -> Result<(), AllocError>
+    ensures { OnOk result (made.new
+        ≡ made.old ++ preparation superstate flags regions own.now at.now fork begins ∷ []) }
 {
-    let mut transitions = entry_aborts(alloc, at, own)?;
-    let effects = resets(alloc, flags, regions)?;
-    transitions.push(go(true, None, effects, fork))?;
-    Ok(State {
+    let mut transitions = Items::new(alloc);
+    put_preparing(alloc, flags, regions, own, at, fork, &mut transitions)?;
+    made.push(State {
         name: preparation_name(superstate),
         is_initial: begins,
         is_final: false,
@@ -84,21 +97,45 @@ pub(crate) fn preparation(
     })
 }
 
-// The flags and the counter as they are where a superstate with so many regions is entered.
-fn resets(alloc: Global, flags: Flags, regions: u16) -> Result<Items<Effect>, AllocError>
-    ensures { IfOk result (λ made. made ≡ resets flags regions) }
+// Puts what the preparation state does behind others.
+fn put_preparing(
+    alloc: Global,
+    flags: Flags,
+    regions: u16,
+    own: &[Transition],
+    at: &RegionPlaces,
+    fork: u32,
+    made: &mut Items<Transition>,
+) -> Result<(), AllocError>
+    ensures { OnOk result (made.new ≡ made.old ++ preparing flags regions own.now at.now fork) }
 {
+    put_entry_aborts(alloc, at, own, made)?;
     let mut effects = Items::new(alloc);
-    if let Some(variable) = flags.strong {
-        effects.push(put(variable, 0))?;
+    put_resets(flags, regions, &mut effects)?;
+    made.push(go(true, None, effects, fork))
+}
+
+// Puts the flags and the counter as they are where a superstate with so many regions is entered behind others.
+fn put_resets(flags: Flags, regions: u16, made: &mut Items<Effect>) -> Result<(), AllocError>
+    ensures { OnOk result (made.new ≡ made.old ++ resets flags regions) }
+{
+    put_value(flags.strong, 0, made)?;
+    put_value(flags.weak, 0, made)?;
+    put_value(flags.counter, regions, made)
+}
+
+// Puts behind others that the variable becomes this number, where it is there.
+fn put_value(
+    variable: Option<VariableId>,
+    number: u16,
+    made: &mut Items<Effect>,
+) -> Result<(), AllocError>
+    ensures { OnOk result (made.new ≡ made.old ++ on variable (λ x. put x number)) }
+{
+    match variable {
+        Some(variable) => made.push(put(variable, number)),
+        None => Ok(()),
     }
-    if let Some(variable) = flags.weak {
-        effects.push(put(variable, 0))?;
-    }
-    if let Some(variable) = flags.counter {
-        effects.push(put(variable, regions))?;
-    }
-    Ok(effects)
 }
 
 /// The abandoned state.
@@ -114,128 +151,145 @@ pub(crate) fn abandoned(alloc: Global) -> State
     }
 }
 
-fn all_ended(alloc: Global, counter: Option<VariableId>) -> Result<Items<Transition>, AllocError>
-    ensures { IfOk result (λ made. made ≡ all_ended counter) }
+fn put_all_ended(
+    alloc: Global,
+    counter: Option<VariableId>,
+    made: &mut Items<Transition>,
+) -> Result<(), AllocError>
+    ensures { OnOk result (made.new ≡ made.old ++ all_ended counter) }
 {
     match counter {
         Some(variable) => {
             let trigger = is_number(alloc, variable, 0)?;
-            alone(alloc, go(true, Some(trigger), Items::new(alloc), 1))
+            made.push(go(true, Some(trigger), Items::new(alloc), 1))
         }
-        None => Ok(Items::new(alloc)),
+        None => Ok(()),
     }
 }
 
-fn monitor_transitions(
+fn put_monitor_transitions(
     alloc: Global,
     around: &[Flags],
     flags: Flags,
     own: &[Transition],
-) -> Result<Items<Transition>, AllocError>
-    ensures { IfOk result (λ made. made ≡ monitor_transitions around.now flags own.now) }
+    made: &mut Items<Transition>,
+) -> Result<(), AllocError>
+    ensures { OnOk result (made.new ≡ made.old ++ monitor_transitions around.now flags own.now) }
 {
-    let mut made = strong_checks(alloc, false, 1, around)?;
-    made.append(raising(alloc, AbortSort::Strong, 1, flags.strong, own)?)?;
-    made.append(raising(alloc, AbortSort::Weak, 1, flags.weak, own)?)?;
-    made.append(all_ended(alloc, flags.counter)?)?;
-    made.append(weak_checks(alloc, true, 1, around)?)?;
-    Ok(made)
+    put_strong_checks(alloc, false, 1, around, made)?;
+    put_raising(alloc, AbortSort::Strong, 1, flags.strong, own, made)?;
+    put_raising(alloc, AbortSort::Weak, 1, flags.weak, own, made)?;
+    put_all_ended(alloc, flags.counter, made)?;
+    put_weak_checks(alloc, true, 1, around, made)
 }
 
-/// The abort monitor of a superstate.
-pub(crate) fn monitor(
+// Puts the first state of an abort monitor behind others.
+fn put_watching(
     alloc: Global,
-    superstate: u32,
     around: &[Flags],
     flags: Flags,
     own: &[Transition],
-) -> Result<Region, AllocError>
-    ensures { IfOk result (λ made. made ≡ monitor superstate around.now flags own.now) }
+    made: &mut Items<State>,
+) -> Result<(), AllocError>
+    ensures { OnOk result (made.new ≡ made.old ++ watching around.now flags own.now ∷ []) }
 {
-    let transitions = monitor_transitions(alloc, around, flags, own)?;
-    let mut states = Items::new(alloc);
-    states.push(State {
+    let mut transitions = Items::new(alloc);
+    put_monitor_transitions(alloc, around, flags, own, &mut transitions)?;
+    made.push(State {
         name: watching_name(),
         is_initial: true,
         is_final: false,
         regions: Items::new(alloc),
         transitions,
-    })?;
+    })
+}
+
+/// Puts the abort monitor of a superstate behind other regions.
+pub(crate) fn put_monitor(
+    alloc: Global,
+    superstate: u32,
+    around: &[Flags],
+    flags: Flags,
+    own: &[Transition],
+    made: &mut Items<Region>,
+) -> Result<(), AllocError>
+    ensures { OnOk result (made.new ≡ made.old ++ monitor superstate around.now flags own.now ∷ []) }
+{
+    let mut states = Items::new(alloc);
+    put_watching(alloc, around, flags, own, &mut states)?;
     states.push(abandoned(alloc))?;
-    Ok(Region {
+    made.push(Region {
         name: monitor_name(superstate),
         states,
     })
 }
 
-fn joined_or_left(
+fn put_joined_or_left(
     alloc: Global,
     at: &RegionPlaces,
     counter: Option<VariableId>,
     join: &Transition,
-) -> Result<Items<Transition>, AllocError>
-    ensures { IfOk result (λ made. made ≡ joined_or_left at.now counter join.now) }
+    made: &mut Items<Transition>,
+) -> Result<(), AllocError>
+    ensures { OnOk result (made.new ≡ made.old ++ joined_or_left at.now counter join.now) }
 {
-    let mut made = Items::new(alloc);
     if let Some(variable) = counter {
-        let trigger = is_number(alloc, variable, 0)?;
-        made.push(at.led_by(alloc, Some(trigger), join)?)?;
+        put_answer(alloc, at, variable, 0, join, made)?;
     }
-    made.push(go(true, None, Items::new(alloc), at.left))?;
-    Ok(made)
+    made.push(go(true, None, Items::new(alloc), at.left))
 }
 
-fn closing(
+fn put_closing(
     alloc: Global,
     around: &[Flags],
     flags: Flags,
     at: &RegionPlaces,
     own: &[Transition],
-) -> Result<Items<Transition>, AllocError>
-    ensures { IfOk result (λ made. made ≡ closing around.now flags at.now (terminations own.now)) }
+    made: &mut Items<Transition>,
+) -> Result<(), AllocError>
+    ensures { OnOk result (made.new ≡ made.old ++ closing around.now flags at.now (terminations own.now)) }
 {
     for transition in own {
         if transition.kind.is_join() {
-            return ending(alloc, around, flags, at, transition);
+            return put_ending(alloc, around, flags, at, transition, made);
         }
     }
-    weak_checks(alloc, true, at.left, around)
+    put_weak_checks(alloc, true, at.left, around, made)
 }
 
-// What the continuation state does by this termination.
-fn ending(
+// Puts what the continuation state does by this termination behind others.
+fn put_ending(
     alloc: Global,
     around: &[Flags],
     flags: Flags,
     at: &RegionPlaces,
     join: &Transition,
-) -> Result<Items<Transition>, AllocError>
-    ensures { IfOk result (λ made. made ≡ closing around.now flags at.now (join.now ∷ [])) }
+    made: &mut Items<Transition>,
+) -> Result<(), AllocError>
+    ensures { OnOk result (made.new ≡ made.old ++ closing around.now flags at.now (join.now ∷ [])) }
 {
     if weak_around(around) {
-        joined_or_left(alloc, at, flags.counter, join)
+        put_joined_or_left(alloc, at, flags.counter, join, made)
     } else {
-        let taken = at.led_by(alloc, None, join)?;
-        alone(alloc, taken)
+        at.put_led_by(alloc, None, join, made)
     }
 }
 
-/// The continuation state of a superstate.
-pub(crate) fn continuation(
+/// Puts the continuation state of a superstate behind others.
+pub(crate) fn put_continuation(
     alloc: Global,
     superstate: u32,
     around: &[Flags],
     flags: Flags,
     at: &RegionPlaces,
     own: &[Transition],
-) -> Result<State, AllocError>
-    ensures { IfOk result (λ made. made ≡ continuation superstate around.now flags at.now own.now) }
+    made: &mut Items<State>,
+) -> Result<(), AllocError>
+    ensures { OnOk result (made.new ≡ made.old ++ continuation superstate around.now flags at.now own.now ∷ []) }
 {
-    let mut transitions = strong_checks(alloc, true, at.left, around)?;
-    transitions.append(answers(alloc, AbortSort::Strong, at, flags.strong, own)?)?;
-    transitions.append(answers(alloc, AbortSort::Weak, at, flags.weak, own)?)?;
-    transitions.append(closing(alloc, around, flags, at, own)?)?;
-    Ok(State {
+    let mut transitions = Items::new(alloc);
+    put_continuing(alloc, around, flags, at, own, &mut transitions)?;
+    made.push(State {
         name: continuation_name(superstate),
         is_initial: false,
         is_final: false,
@@ -244,15 +298,33 @@ pub(crate) fn continuation(
     })
 }
 
-/// The fork of a superstate, whose continuation state has this place.
-pub(crate) fn fork(
+// Puts what the continuation state does behind others.
+fn put_continuing(
+    alloc: Global,
+    around: &[Flags],
+    flags: Flags,
+    at: &RegionPlaces,
+    own: &[Transition],
+    made: &mut Items<Transition>,
+) -> Result<(), AllocError>
+    ensures { OnOk result (made.new ≡ made.old ++ continuing around.now flags at.now own.now) }
+{
+    put_strong_checks(alloc, true, at.left, around, made)?;
+    put_answers(alloc, AbortSort::Strong, at, flags.strong, own, made)?;
+    put_answers(alloc, AbortSort::Weak, at, flags.weak, own, made)?;
+    put_closing(alloc, around, flags, at, own, made)
+}
+
+/// Puts the fork of a superstate, whose continuation state has this place, behind others.
+pub(crate) fn put_fork(
     alloc: Global,
     name: Name,
     begins: bool,
     regions: Items<Region>,
     continuation: u32,
-) -> Result<State, AllocError>
-    ensures { IfOk result (λ made. made ≡ fork name begins regions continuation) }
+    made: &mut Items<State>,
+) -> Result<(), AllocError>
+    ensures { OnOk result (made.new ≡ made.old ++ fork name begins regions continuation ∷ []) }
 {
     let transitions = alone(
         alloc,
@@ -264,7 +336,7 @@ pub(crate) fn fork(
             target: continuation,
         },
     )?;
-    Ok(State {
+    made.push(State {
         name,
         is_initial: begins,
         is_final: false,

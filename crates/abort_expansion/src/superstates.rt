@@ -1,19 +1,20 @@
 //! The states that expansion makes of a superstate, over what is inside it.
 
-ghost use Rattle.std.specs.Prelude.{◌≡◌, ◌+◌, ◌∷◌, [], Some, None, IfOk, if◌then◌else◌};
+ghost use Rattle.std.specs.Prelude.{◌≡◌, ◌+◌, ◌∷◌, ◌++◌, [], Some, IfOk, OnOk};
 ghost use Rattle.core_charts.specs.Aborts.{has_aborts};
-ghost use Rattle.abort_expansion.specs.Flags.{declarations, local};
+ghost use Rattle.abort_expansion.specs.Flags.{declarations, declared, local};
+ghost use Rattle.abort_expansion.specs.Pieces.{beside};
+ghost use Rattle.abort_expansion.specs.Inside.Parts.{fork_stands_for, forked_states, kept, monitor_stands_for};
 ghost use Rattle.abort_expansion.specs.Superstates.{stays, is_prepared, as_it_is, prepared, forked, split};
-ghost use Rattle.abort_expansion.specs.Superstates.{superstate_over, watched, monitor, continuation, fork};
+ghost use Rattle.abort_expansion.specs.Superstates.{superstate_over, watched, monitor};
 
 use crate::flags::{Flags, aborts_around, counts, weak_around};
-use crate::making::alone;
 use crate::names::{counter_name, strong_flag_name, weak_flag_name};
 use crate::pieces::{NextNumbers, Regions, StatePieces};
 use crate::places::RegionPlaces;
-use crate::states::{continuation, fork, monitor, preparation};
+use crate::states::{put_continuation, put_fork, put_monitor, put_preparation};
 use core_charts::{Region, State, Transition, has_aborts};
-use sc_graph::{Role, Variable};
+use sc_graph::{Role, Variable, VariableId};
 use sc_values::{Kind, Name};
 use sqlite_items::Items;
 use std::alloc::{AllocError, Global};
@@ -56,75 +57,94 @@ fn local(name: Name) -> Variable
     }
 }
 
-fn declarations(alloc: Global, superstate: u32, flags: Flags) -> Result<Items<Variable>, AllocError>
-    ensures { IfOk result (λ made. made ≡ declarations superstate flags) }
+// Puts the declaration of a variable behind others, where it is there.
+fn put_declared(
+    variable: Option<VariableId>,
+    name: Name,
+    made: &mut Items<Variable>,
+) -> Result<(), AllocError>
+    ensures { OnOk result (made.new ≡ made.old ++ declared variable name) }
 {
-    let mut made = Items::new(alloc);
-    if flags.strong.is_some() {
-        made.push(local(strong_flag_name(superstate)))?;
+    match variable {
+        Some(_) => made.push(local(name)),
+        None => Ok(()),
     }
-    if flags.weak.is_some() {
-        made.push(local(weak_flag_name(superstate)))?;
-    }
-    if flags.counter.is_some() {
-        made.push(local(counter_name(superstate)))?;
-    }
-    Ok(made)
 }
 
-// The state of the chart for which this state stands, and those for which what is inside stands.
-fn standing(
-    alloc: Global,
+fn put_declarations(
+    superstate: u32,
+    flags: Flags,
+    made: &mut Items<Variable>,
+) -> Result<(), AllocError>
+    ensures { OnOk result (made.new ≡ made.old ++ declarations superstate flags) }
+{
+    put_declared(flags.strong, strong_flag_name(superstate), made)?;
+    put_declared(flags.weak, weak_flag_name(superstate), made)?;
+    put_declared(flags.counter, counter_name(superstate), made)
+}
+
+// Puts the state of the chart for which this state stands behind others, and those for which what is inside stands.
+fn put_standing(
     state: u32,
     inside: Items<Option<u32>>,
-) -> Result<Items<Option<u32>>, AllocError>
-    ensures { IfOk result (λ made. made ≡ Some state ∷ inside) }
+    made: &mut Items<Option<u32>>,
+) -> Result<(), AllocError>
+    ensures { OnOk result (made.new ≡ made.old ++ Some state ∷ inside) }
 {
-    let mut stands_for = alone(alloc, Some(state))?;
-    stands_for.append(inside)?;
-    Ok(stands_for)
+    made.push(Some(state))?;
+    made.append(inside)
+}
+
+// Puts the state as it is, over these regions, behind others.
+fn put_kept(
+    alloc: Global,
+    it: &Superstate<'_>,
+    regions: Items<Region>,
+    to: &RegionPlaces,
+    made: &mut Items<State>,
+) -> Result<(), AllocError>
+    ensures { OnOk result (made.new
+        ≡ made.old ++ kept it.now.name it.now.own.now regions to.now it.now.begins ∷ []) }
+{
+    let mut transitions = Items::new(alloc);
+    to.put_all_led(alloc, it.own, &mut transitions)?;
+    made.push(State {
+        name: it.name,
+        is_initial: it.begins,
+        is_final: false,
+        regions,
+        transitions,
+    })
 }
 
 // It stays as it is.
-fn as_it_is(
+fn put_as_it_is(
     alloc: Global,
     it: &Superstate<'_>,
     inside: Regions,
     to: &RegionPlaces,
-) -> Result<StatePieces, AllocError>
-    ensures { IfOk result (λ made. made
-        ≡ as_it_is it.now.name it.now.own.now inside to.now it.now.begins it.now.at) }
+    made: &mut StatePieces,
+) -> Result<(), AllocError>
+    ensures { OnOk result (made.new ≡ beside made.old
+        (as_it_is it.now.name it.now.own.now inside to.now it.now.begins it.now.at)) }
 {
-    let transitions = to.all_led(alloc, it.own)?;
-    let states = alone(
-        alloc,
-        State {
-            name: it.name,
-            is_initial: it.begins,
-            is_final: false,
-            regions: inside.regions,
-            transitions,
-        },
-    )?;
-    Ok(StatePieces {
-        states,
-        variables: inside.variables,
-        stands_for: standing(alloc, it.at.state, inside.stands_for)?,
-    })
+    made.variables.append(inside.variables)?;
+    put_standing(it.at.state, inside.stands_for, &mut made.stands_for)?;
+    put_kept(alloc, it, inside.regions, to, &mut made.states)
 }
 
-// The state that prepares it.
-fn prepared(
+// Puts the state that prepares it behind others.
+fn put_prepared(
     alloc: Global,
     it: &Superstate<'_>,
     to: &RegionPlaces,
-) -> Result<StatePieces, AllocError>
-    ensures { IfOk result (λ made. made
-        ≡ prepared it.now.regions it.now.own.now it.now.flags to.now
-        it.now.place it.now.begins it.now.at) }
+    made: &mut StatePieces,
+) -> Result<(), AllocError>
+    ensures { OnOk result (made.new ≡ beside made.old
+        (prepared it.now.regions it.now.own.now it.now.flags to.now it.now.place it.now.begins it.now.at)) }
 {
     let fork = next(it.place)?;
-    let state = preparation(
+    put_preparation(
         alloc,
         it.at.superstate,
         it.flags,
@@ -133,12 +153,9 @@ fn prepared(
         to,
         fork,
         it.begins,
+        &mut made.states,
     )?;
-    Ok(StatePieces {
-        states: alone(alloc, state)?,
-        variables: Items::new(alloc),
-        stands_for: alone(alloc, Some(it.at.state))?,
-    })
+    made.stands_for.push(Some(it.at.state))
 }
 
 // The place behind this one. Err: no memory holds so many states.
@@ -151,80 +168,108 @@ fn next(place: u32) -> Result<u32, AllocError>
     }
 }
 
-// The abort monitor, where the superstate has aborts.
-fn watched(
+// Puts the abort monitor behind other regions, where the superstate has aborts.
+fn put_watched(
     alloc: Global,
     superstate: u32,
     around: &[Flags],
     flags: Flags,
     own: &[Transition],
-) -> Result<Items<Region>, AllocError>
-    ensures { IfOk result (λ made. made ≡ watched (has_aborts own.now) (monitor superstate around.now flags own.now)) }
+    made: &mut Items<Region>,
+) -> Result<(), AllocError>
+    ensures { OnOk result (made.new
+        ≡ made.old ++ watched (has_aborts own.now) (monitor superstate around.now flags own.now)) }
 {
     if has_aborts(own) {
-        let region = monitor(alloc, superstate, around, flags, own)?;
-        alone(alloc, region)
+        put_monitor(alloc, superstate, around, flags, own, made)
     } else {
-        Ok(Items::new(alloc))
+        Ok(())
     }
 }
 
 // The two states of the abort monitor stand for none.
-fn monitor_stands_for(alloc: Global, own: &[Transition]) -> Result<Items<Option<u32>>, AllocError>
-    ensures { IfOk result (λ made. made ≡ (if has_aborts own.now then None ∷ None ∷ [] else [])) }
+fn put_monitor_stands_for(
+    own: &[Transition],
+    made: &mut Items<Option<u32>>,
+) -> Result<(), AllocError>
+    ensures { OnOk result (made.new ≡ made.old ++ monitor_stands_for (has_aborts own.now)) }
 {
-    let mut made = Items::new(alloc);
-    if has_aborts(own) {
-        made.push(None)?;
-        made.push(None)?;
+    if !has_aborts(own) {
+        return Ok(());
     }
-    Ok(made)
+    made.push(None)?;
+    made.push(None)
 }
 
-// The fork with what is inside it, and the continuation state.
-fn forked(
+// Puts for which states the fork stands behind others, what is inside it, and the continuation state.
+fn put_fork_stands_for(
+    it: &Superstate<'_>,
+    inside: Items<Option<u32>>,
+    made: &mut Items<Option<u32>>,
+) -> Result<(), AllocError>
+    ensures { OnOk result (made.new
+        ≡ made.old ++ fork_stands_for (has_aborts it.now.own.now) it.now.at.state inside) }
+{
+    put_standing(it.at.state, inside, made)?;
+    put_monitor_stands_for(it.own, made)?;
+    made.push(Some(it.at.state))
+}
+
+// Puts the fork over these regions and the monitor, and the continuation state, behind others.
+fn put_forked_states(
     alloc: Global,
     it: &Superstate<'_>,
-    inside: Regions,
+    inside: Items<Region>,
     to: &RegionPlaces,
-) -> Result<StatePieces, AllocError>
-    ensures { IfOk result (λ made. made
-        ≡ forked it.now.name it.now.own.now it.now.around.now it.now.flags inside to.now
+    made: &mut Items<State>,
+) -> Result<(), AllocError>
+    ensures { OnOk result (made.new ≡ made.old ++ forked_states
+        it.now.name it.now.own.now it.now.around.now it.now.flags inside to.now
         it.now.place it.now.begins it.now.at) }
 {
     let number = it.at.superstate;
-    let mut regions = inside.regions;
-    let mut stands_for = standing(alloc, it.at.state, inside.stands_for)?;
-    regions.append(watched(alloc, number, it.around, it.flags, it.own)?)?;
-    stands_for.append(monitor_stands_for(alloc, it.own)?)?;
-    stands_for.push(Some(it.at.state))?;
     let behind = next(it.place)?;
-    let mut states = alone(alloc, fork(alloc, it.name, it.begins, regions, behind)?)?;
-    states.push(continuation(alloc, number, it.around, it.flags, to, it.own)?)?;
-    let mut variables = declarations(alloc, number, it.flags)?;
-    variables.append(inside.variables)?;
-    Ok(StatePieces {
-        states,
-        variables,
-        stands_for,
-    })
+    let mut regions = inside;
+    put_watched(alloc, number, it.around, it.flags, it.own, &mut regions)?;
+    put_fork(alloc, it.name, it.begins, regions, behind, made)?;
+    put_continuation(alloc, number, it.around, it.flags, to, it.own, made)
 }
 
-// The fork and the continuation state, behind the state that prepares it where it is prepared.
-fn split(
+// Puts the fork with what is inside it, and the continuation state, behind others.
+fn put_forked(
     alloc: Global,
     it: &Superstate<'_>,
     inside: Regions,
     to: &RegionPlaces,
-) -> Result<StatePieces, AllocError>
-    ensures { IfOk result (λ made. made
-        ≡ split it.now.name it.now.regions it.now.own.now it.now.around.now it.now.flags inside to.now
-        it.now.place it.now.begins it.now.at) }
+    made: &mut StatePieces,
+) -> Result<(), AllocError>
+    ensures { OnOk result (made.new ≡ beside made.old (forked
+        it.now.name it.now.own.now it.now.around.now it.now.flags inside to.now
+        it.now.place it.now.begins it.now.at)) }
+{
+    put_declarations(it.at.superstate, it.flags, &mut made.variables)?;
+    made.variables.append(inside.variables)?;
+    put_fork_stands_for(it, inside.stands_for, &mut made.stands_for)?;
+    put_forked_states(alloc, it, inside.regions, to, &mut made.states)
+}
+
+// Puts the fork and the continuation state behind others, and before them the state that prepares it where it is
+// prepared.
+fn put_split(
+    alloc: Global,
+    it: &Superstate<'_>,
+    inside: Regions,
+    to: &RegionPlaces,
+    made: &mut StatePieces,
+) -> Result<(), AllocError>
+    ensures { OnOk result (made.new ≡ beside made.old (split
+        it.now.name it.now.regions it.now.own.now it.now.around.now it.now.flags inside to.now
+        it.now.place it.now.begins it.now.at)) }
 {
     if !is_prepared(it.around, it.own) {
-        return forked(alloc, it, inside, to);
+        return put_forked(alloc, it, inside, to, made);
     }
-    let mut made = prepared(alloc, it, to)?;
+    put_prepared(alloc, it, to, made)?;
     let behind = Superstate {
         name: it.name,
         regions: it.regions,
@@ -235,24 +280,24 @@ fn split(
         begins: false,
         at: it.at,
     };
-    made.put(forked(alloc, &behind, inside, to)?)?;
-    Ok(made)
+    put_forked(alloc, &behind, inside, to, made)
 }
 
-/// The states of a superstate, over what is inside it.
-pub(crate) fn superstate_over(
+/// Puts the states of a superstate behind others, over what is inside it.
+pub(crate) fn put_superstate(
     alloc: Global,
     it: &Superstate<'_>,
     inside: Regions,
     to: &RegionPlaces,
-) -> Result<StatePieces, AllocError>
-    ensures { IfOk result (λ made. made ≡ superstate_over
+    made: &mut StatePieces,
+) -> Result<(), AllocError>
+    ensures { OnOk result (made.new ≡ beside made.old (superstate_over
         it.now.name it.now.regions it.now.own.now it.now.around.now it.now.flags inside to.now
-        it.now.place it.now.begins it.now.at) }
+        it.now.place it.now.begins it.now.at)) }
 {
     if stays(it.around, it.own) {
-        as_it_is(alloc, it, inside, to)
+        put_as_it_is(alloc, it, inside, to, made)
     } else {
-        split(alloc, it, inside, to)
+        put_split(alloc, it, inside, to, made)
     }
 }

@@ -1,7 +1,0 @@
-use Rattle.std.proofs.Common.{◌≡◌, ◌++◌, drop}
-use Rattle.abort_expansion.specs.Transitions.{weak_checks}
-use Rattle.abort_expansion.proofs.checks.weak_checks.Given as goal
-
-abbrev pub invariant-loop-flags : goal.invariant-loop-flags
-invariant-loop-flags l =
-    l.made ++ weak_checks l.immediate l.left (drop l.flags-index l.around) ≡ weak_checks l.immediate l.left l.around
