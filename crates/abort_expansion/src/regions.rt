@@ -173,16 +173,9 @@ fn put_state(
     let own = state.transitions.as_slice();
     if !state.is_superstate() {
         made.stands_for.push(Some(at.state))?;
-        return put_simple(
-            alloc,
-            state.is_final,
-            state.name,
-            own,
-            around,
-            to,
-            begins,
-            &mut made.states,
-        );
+        let name = state.name;
+        let states = &mut made.states;
+        return put_simple(alloc, state.is_final, name, own, around, to, begins, states);
     }
     let flags = flags_of(weak_around(around), own, at.variable)?;
     let superstate = Superstate {
