@@ -13,7 +13,7 @@ use verifier::Verified;
 
 /// What is made once of a verified image: for each join the fork to which it belongs, so that no
 /// node is searched for it. Contracts see a row with a place for each node.
-#[derive(Debug, Drop)]
+#[derive(Drop)]
 pub(crate) struct Joins {
     forks: Vec<Option<NodeId>>,
 }

@@ -38,7 +38,6 @@ use buckets::Rows;
 use bytecode::Image;
 pub(crate) use ending::present_value;
 pub(crate) use first_rows::kinds_of;
-use first_rows::no_claims;
 use listing::begin_listed;
 pub use parking::ParkedSpace;
 use sc_graph::{Control, Program, ThreadId};
@@ -216,34 +215,20 @@ fn refused(program: &Program, inputs: &[(Name, Value)]) -> BeginFault
 
 impl<'a> TickSpace<'a> {
     /// TickSpace for the ticks of a verified image.
-    #[tactic(auto, using(crate::proofs::ListedCopied::spare_listed))]
     pub fn of(alloc: Global, verified: &'a Verified) -> Result<TickSpace<'a>, AllocError>
         ensures { IfOk result (λ r. r ≡ verified.now) }
     {
-        let program = verified.image().program();
         let joins = Joins::of(alloc, verified)?;
+        let given = Given::of(alloc, verified.image().program())?;
         let rows = rows_of(alloc, verified)?;
-        let variable_kinds = kinds_of(alloc, program)?;
-        let history = Vec::with_capacity(alloc, verified.image().tables().budget as usize)?;
-        let claims = no_claims(alloc, program)?;
-        let living = vec![in alloc; 0; program.threads().len()]?;
-        let given = Given::of(alloc, program)?;
-        let listed = Vec::with_capacity(alloc, program.threads().len())?;
-        let places = vec![in alloc; 0; program.threads().len()]?;
-        let spare = Control::initial(alloc, program)?;
-        let room = ParkedSpace {
-            joins,
-            rows,
-            variable_kinds,
-            history,
-            claims,
-            living,
-            given,
-            spare,
-            listed,
-            places,
-        };
-        Ok(TickSpace { verified, room })
+        let mut room = ParkedSpace::bare(alloc, joins, rows, given);
+        match room.fill(alloc, verified) {
+            Ok(()) => Ok(TickSpace { verified, room }),
+            Err(refused) => {
+                drop(room);
+                Err(refused)
+            }
+        }
     }
 
     /// Begins a tick of the image as the function `begin` does, in the room that an earlier one left.
@@ -260,7 +245,11 @@ impl<'a> TickSpace<'a> {
     {
         match copied(alloc, control) {
             Ok(control) => self.go_on(control, inputs),
-            Err(_) => Err(refused(self.verified.image().program(), inputs.as_slice())),
+            Err(_) => {
+                let fault = refused(self.verified.image().program(), inputs.as_slice());
+                drop(self);
+                Err(fault)
+            }
         }
     }
 
@@ -276,6 +265,8 @@ impl<'a> TickSpace<'a> {
         let TickSpace { verified, mut room } = self;
         let program = verified.image().program();
         if !room.given.take(program, inputs.as_slice()) {
+            drop(room);
+            drop(control);
             return Err(BeginFault::Input);
         }
         let mut begun = control;

@@ -9,7 +9,7 @@ pub trait StepHook {
 }
 
 /// It does nothing.
-#[derive(Clone, Copy, Debug)]
+#[derive(Clone, Copy)]
 pub(crate) struct NoHook;
 
 impl StepHook for NoHook {

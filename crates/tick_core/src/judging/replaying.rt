@@ -20,7 +20,7 @@ use verifier::Verified;
 
 /// A step of a run: the thread that took it, and the node at which it stood or the join at which it
 /// waited.
-#[derive(Clone, Copy, Debug)]
+#[derive(Clone, Copy)]
 pub(crate) struct Taken {
     pub thread: ThreadId,
     pub node: NodeId,
