@@ -1,6 +1,6 @@
 //! Images: a program with its certificate.
 
-ghost use Rattle.std.specs.Prelude.{◌≡◌, ◌↔◌, IsSome, IfSome};
+ghost use Rattle.std.specs.Prelude.{◌≡◌, ◌↔◌, IsTrue, IsSome, IfSome};
 ghost use Rattle.sc_graph.specs.Tables.{HasLengths};
 
 use sc_graph::{Program, Tables};
@@ -31,15 +31,11 @@ impl Image {
         ensures fits { IsSome result ↔ (HasLengths program tables) }
         ensures parts { IfSome result (λ i. (i.program ≡ program) × (i.tables ≡ tables)) }
     {
-        let nodes = program.nodes().len();
-        let threads = program.threads().len();
-        let fits = tables.priorities.len() == nodes
-            && tables.weights.len() == nodes
-            && tables.end_bits.len() == nodes
-            && tables.bounds.len() == threads;
-        if fits {
+        if has_lengths(&program, &tables) {
             Some(Image { program, tables })
         } else {
+            drop(program);
+            drop(tables);
             None
         }
     }
@@ -58,4 +54,16 @@ impl Image {
     {
         &self.tables
     }
+}
+
+// Whether tables have an entry for each node and each thread of a program.
+fn has_lengths(program: &Program, tables: &Tables) -> bool
+    ensures { IsTrue result ↔ (HasLengths program.now tables.now) }
+{
+    let nodes = program.nodes().len();
+    let threads = program.threads().len();
+    tables.priorities.len() == nodes
+        && tables.weights.len() == nodes
+        && tables.end_bits.len() == nodes
+        && tables.bounds.len() == threads
 }

@@ -3,14 +3,14 @@
 use sc_graph::{Node, Thread};
 
 /// A thread and its bound.
-#[derive(Debug, Drop)]
+#[derive(Drop)]
 pub struct ThreadRow {
     pub thread: Thread,
     pub bound: u32,
 }
 
 /// A node, its priority, its weight and its end bit.
-#[derive(Debug, Drop)]
+#[derive(Drop)]
 pub struct NodeRow {
     pub node: Node,
     pub priority: u16,

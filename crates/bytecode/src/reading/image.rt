@@ -1,6 +1,6 @@
 //! Whole images from bytes.
 
-ghost use Rattle.std.specs.Prelude.{◌≡◌, ◌<◌, ℕ, length, IfOk, Ok, Err};
+ghost use Rattle.std.specs.Prelude.{◌≡◌, ◌<◌, ℕ, [], length, IfOk, OnOk, Ok, Err};
 ghost use Rattle.std.specs.Result.{IsErrOf};
 ghost use Rattle.sc_graph.specs.Layout.{FitsLayout};
 ghost use Rattle.bytecode.specs.Layout.{thread_rows, node_rows, HasHeader};
@@ -39,6 +39,33 @@ struct Nodes {
     end_bits: Items<bool>,
 }
 
+impl Threads {
+    // No threads.
+    fn bare(alloc: Global) -> Threads
+        ensures { (result.threads ≡ []) × (result.bounds ≡ []) }
+    {
+        Threads {
+            threads: Items::new(alloc),
+            bounds: Items::new(alloc),
+        }
+    }
+}
+
+impl Nodes {
+    // No nodes.
+    fn bare(alloc: Global) -> Nodes
+        ensures none { (result.nodes ≡ []) × (result.priorities ≡ []) }
+        ensures tables { (result.weights ≡ []) × (result.end_bits ≡ []) }
+    {
+        Nodes {
+            nodes: Items::new(alloc),
+            priorities: Items::new(alloc),
+            weights: Items::new(alloc),
+            end_bits: Items::new(alloc),
+        }
+    }
+}
+
 #[tactic(auto, unfolding(crate::specs::Reading::Image::header_at))]
 fn header(version: u8, bytes: &[u8]) -> Result<&[u8], DecodeFault>
     ensures { GivesExactly (λ x. x.now) result (header_at version bytes.now) }
@@ -75,53 +102,52 @@ fn variable_list(
     Ok((variables, rest))
 }
 
-fn thread_columns(alloc: Global, count: u16, bytes: &[u8]) -> Result<(Threads, &[u8]), DecodeFault>
-    ensures gives { Gives (λ x. (thread_rows x.0.threads x.0.bounds, x.1.now)) result
+// Threads and their bounds, in place of those that were there.
+fn thread_columns<'b>(
+    alloc: Global,
+    count: u16,
+    bytes: &'b [u8],
+    columns: &mut Threads,
+) -> Result<&'b [u8], DecodeFault>
+    ensures gives { Gives (λ x. (thread_rows columns.new.threads columns.new.bounds, x.now)) result
         (each_at thread_at count bytes.now) }
-    ensures lengths { IfOk result (λ x. AreThreads x.0.threads x.0.bounds count) }
+    ensures lengths { OnOk result (AreThreads columns.new.threads columns.new.bounds count) }
 {
-    let mut threads = Items::new(alloc);
-    let mut bounds = Items::new(alloc);
+    *columns = Threads::bare(alloc);
     let mut rest = bytes;
     for _ in 0..count {
         let (row, after) = thread(rest)?;
-        threads.push(row.thread)?;
-        bounds.push(row.bound)?;
+        columns.threads.push(row.thread)?;
+        columns.bounds.push(row.bound)?;
         rest = after;
     }
-    Ok((Threads { threads, bounds }, rest))
+    Ok(rest)
 }
 
-fn node_columns(
+// Nodes and their entries in the tables, in place of those that were there.
+fn node_columns<'b>(
     alloc: Global,
     version: u8,
     count: u16,
-    bytes: &[u8],
-) -> Result<(Nodes, &[u8]), DecodeFault>
-    ensures gives { Gives (λ x. (node_rows x.0.nodes x.0.priorities x.0.weights x.0.end_bits, x.1.now)) result
-        (each_at (node_at version) count bytes.now) }
-    ensures lengths { IfOk result (λ x. AreNodes x.0.nodes x.0.priorities x.0.weights x.0.end_bits count) }
+    bytes: &'b [u8],
+    columns: &mut Nodes,
+) -> Result<&'b [u8], DecodeFault>
+    ensures gives { Gives (λ x. (node_rows columns.new.nodes columns.new.priorities columns.new.weights
+        columns.new.end_bits, x.now)) result (each_at (node_at version) count bytes.now) }
+    ensures lengths { OnOk result (AreNodes columns.new.nodes columns.new.priorities columns.new.weights
+        columns.new.end_bits count) }
 {
-    let mut nodes = Items::new(alloc);
-    let mut priorities = Items::new(alloc);
-    let mut weights = Items::new(alloc);
-    let mut end_bits = Items::new(alloc);
+    *columns = Nodes::bare(alloc);
     let mut rest = bytes;
     for _ in 0..count {
         let (row, after) = node(alloc, version, rest)?;
-        nodes.push(row.node)?;
-        priorities.push(row.priority)?;
-        weights.push(row.weight)?;
-        end_bits.push(row.end_bit)?;
+        columns.nodes.push(row.node)?;
+        columns.priorities.push(row.priority)?;
+        columns.weights.push(row.weight)?;
+        columns.end_bits.push(row.end_bit)?;
         rest = after;
     }
-    let columns = Nodes {
-        nodes,
-        priorities,
-        weights,
-        end_bits,
-    };
-    Ok((columns, rest))
+    Ok(rest)
 }
 
 // What stands behind the header.
@@ -134,30 +160,34 @@ struct Parts {
 }
 
 #[tactic(auto, unfolding(crate::specs::Reading::Image::body_at, crate::specs::Reading::Image::counted_at))]
-fn all_parts(alloc: Global, version: u8, bytes: &[u8]) -> Result<Parts, DecodeFault>
-    ensures gives { Gives (λ p. image_of p.variables (thread_rows p.threads.threads p.threads.bounds)
-        (node_rows p.nodes.nodes p.nodes.priorities p.nodes.weights p.nodes.end_bits) p.budget) result
-        (body_at version bytes.now) }
-    ensures threads { IfOk result (λ p. AreThreads p.threads.threads p.threads.bounds (length p.threads.threads)) }
-    ensures nodes { IfOk result (λ p. AreNodes p.nodes.nodes p.nodes.priorities p.nodes.weights p.nodes.end_bits
-        (length p.nodes.nodes)) }
+fn all_parts(
+    alloc: Global,
+    version: u8,
+    bytes: &[u8],
+    parts: &mut Parts,
+) -> Result<(), DecodeFault>
+    ensures gives { Gives (λ _. image_of parts.new.variables
+        (thread_rows parts.new.threads.threads parts.new.threads.bounds)
+        (node_rows parts.new.nodes.nodes parts.new.nodes.priorities parts.new.nodes.weights parts.new.nodes.end_bits)
+        parts.new.budget) result (body_at version bytes.now) }
+    ensures threads { OnOk result (AreThreads parts.new.threads.threads parts.new.threads.bounds
+        (length parts.new.threads.threads)) }
+    ensures nodes { OnOk result (AreNodes parts.new.nodes.nodes parts.new.nodes.priorities parts.new.nodes.weights
+        parts.new.nodes.end_bits (length parts.new.nodes.nodes)) }
 {
     let (count, rest) = number16(bytes)?;
     let (variables, rest) = variable_list(alloc, count, rest)?;
+    parts.variables = variables;
     let (count, rest) = number16(rest)?;
-    let (threads, rest) = thread_columns(alloc, count, rest)?;
+    let rest = thread_columns(alloc, count, rest, &mut parts.threads)?;
     let (count, rest) = number16(rest)?;
-    let (nodes, rest) = node_columns(alloc, version, count, rest)?;
+    let rest = node_columns(alloc, version, count, rest, &mut parts.nodes)?;
     let (budget, rest) = number32(rest)?;
     if !rest.is_empty() {
         return Err(DecodeFault::Trailing);
     }
-    Ok(Parts {
-        variables,
-        threads,
-        nodes,
-        budget,
-    })
+    parts.budget = budget;
+    Ok(())
 }
 
 // The image of these parts.
@@ -211,8 +241,19 @@ fn image_from(parts: Parts) -> Image
 fn body(alloc: Global, version: u8, bytes: &[u8]) -> Result<Image, DecodeFault>
     ensures { Gives (λ i. i) result (body_at version bytes.now) }
 {
-    let parts = all_parts(alloc, version, bytes)?;
-    Ok(image_from(parts))
+    let mut parts = Parts {
+        variables: Items::new(alloc),
+        threads: Threads::bare(alloc),
+        nodes: Nodes::bare(alloc),
+        budget: 0,
+    };
+    match all_parts(alloc, version, bytes, &mut parts) {
+        Ok(()) => Ok(image_from(parts)),
+        Err(fault) => {
+            drop(parts);
+            Err(fault)
+        }
+    }
 }
 
 #[tactic(auto, unfolding(crate::specs::Reading::Image::image_at))]

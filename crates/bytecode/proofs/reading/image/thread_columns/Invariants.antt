@@ -8,6 +8,6 @@ use Rattle.bytecode.proofs.reading.image.thread_columns.Given as goal
 
 abbrev pub invariant-loop : goal.invariant-loop
 invariant-loop l = record {
-  lengths : AreThreads l.threads l.bounds l.counter;
-  read : with_front (thread_rows l.threads l.bounds) (each_at thread_at (l.count - l.counter) l.rest) ≡ each_at thread_at l.count l.bytes;
+  lengths : AreThreads l.columns.threads l.columns.bounds l.counter;
+  read : with_front (thread_rows l.columns.threads l.columns.bounds) (each_at thread_at (l.count - l.counter) l.rest) ≡ each_at thread_at l.count l.bytes;
 }
