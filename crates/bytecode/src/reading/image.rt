@@ -132,8 +132,11 @@ fn node_columns<'b>(
     bytes: &'b [u8],
     columns: &mut Nodes,
 ) -> Result<&'b [u8], DecodeFault>
-    ensures gives { Gives (λ x. (node_rows columns.new.nodes columns.new.priorities columns.new.weights
-        columns.new.end_bits, x.now)) result (each_at (node_at version) count bytes.now) }
+    ensures gives { Gives (λ x. (
+      node_rows columns.new.nodes columns.new.priorities columns.new.weights
+          columns.new.end_bits,
+      x.now,
+    )) result (each_at (node_at version) count bytes.now) }
     ensures lengths { OnOk result (AreNodes columns.new.nodes columns.new.priorities columns.new.weights
         columns.new.end_bits count) }
 {
@@ -160,12 +163,7 @@ struct Parts {
 }
 
 #[tactic(auto, unfolding(crate::specs::Reading::Image::body_at, crate::specs::Reading::Image::counted_at))]
-fn all_parts(
-    alloc: Global,
-    version: u8,
-    bytes: &[u8],
-    parts: &mut Parts,
-) -> Result<(), DecodeFault>
+fn all_parts(alloc: Global, version: u8, bytes: &[u8], parts: &mut Parts) -> Result<(), DecodeFault>
     ensures gives { Gives (λ _. image_of parts.new.variables
         (thread_rows parts.new.threads.threads parts.new.threads.bounds)
         (node_rows parts.new.nodes.nodes parts.new.nodes.priorities parts.new.nodes.weights parts.new.nodes.end_bits)

@@ -9,8 +9,8 @@ use Rattle.bytecode.proofs.reading.image.thread_columns.Goals as goal
 pub returns-in_err-row-clause-gives : goal.returns-in_err-row-clause-gives
 returns-in_err-row-clause-gives c =
     let p = err_from_is_err_and c.from_residual.result c.from_residual.ensures.1 in
-    rw (p.1, p.2) (ends_at thread_at c.in_err-row.field-0.0 (thread_rows c.loop.columns.threads c.loop.columns.bounds) c.args.count c.loop.counter c.loop.rest.now
-    (each_at thread_at c.args.count c.args.bytes.now) c.loop-test.true c.in_err-row.ensures c.loop.invariant.read)
+    rw (p.1, p.2) (ends_at thread_at c.in_err-row.field-0.0 (thread_rows c.loop.columns.threads c.loop.columns.bounds) c.args.count c.loop.counter
+    c.loop.rest.now (each_at thread_at c.args.count c.args.bytes.now) c.loop-test.true c.in_err-row.ensures c.loop.invariant.read)
 
 pub loop-preserved : goal.loop-preserved
 loop-preserved c =
