@@ -1,9 +1,9 @@
 //! Tables from the least numbers of each sort.
 
-ghost use Rattle.std.specs.Prelude.{◌≡◌, ◌≤◌, IfOk, ℕ, map, nat_lt, slice_index};
+ghost use Rattle.std.specs.Prelude.{◌≡◌, ◌≤◌, ◌++◌, IfOk, OnOk, ℕ, map, nat_lt, slice_index};
 ghost use Rattle.sc_graph.specs.Limits.{budget_limit};
 ghost use Rattle.sc_graph.specs.Valid.{IsFormed};
-ghost use Rattle.priority_weights.specs.Inside.Parts.{AreParts};
+ghost use Rattle.priority_weights.specs.Inside.Parts.{AreParts, fill_tables};
 ghost use Rattle.priority_weights.specs.LeastTables.{AreLeast};
 
 use crate::next::entry;
@@ -28,34 +28,50 @@ pub(crate) fn assembled(
 {
     let entry_weight = entry_number(program, weights, 0) as u32;
     let budget = entry(bounds.as_slice(), 0).max(entry_weight);
-    Ok(Tables {
-        priorities: narrowed(alloc, priorities)?,
-        weights: narrowed(alloc, weights)?,
-        end_bits: as_bits(alloc, ends)?,
+    let mut tables = Tables {
+        priorities: Items::new(alloc),
+        weights: Items::new(alloc),
+        end_bits: Items::new(alloc),
         bounds: Items::from_vec(bounds),
         budget,
-    })
+    };
+    fill_tables(ends, priorities, weights, &mut tables)?;
+    Ok(tables)
 }
 
-// Numbers in 16 bits.
-fn narrowed(alloc: Global, numbers: &[u32]) -> Result<Items<u16>, AllocError>
-    requires { (n : ℕ) → slice_index numbers.now n ≤ 65535 }
-    ensures { IfOk result (λ items. items ≡ numbers.now) }
+// The tables are behind a reference, so that no `?` has to drop their parts.
+fn fill_tables(
+    ends: &[u32],
+    priorities: &[u32],
+    weights: &[u32],
+    tables: &mut Tables,
+) -> Result<(), AllocError>
+    requires priorities { (n : ℕ) → slice_index priorities.now n ≤ 65535 }
+    requires weights { (n : ℕ) → slice_index weights.now n ≤ 65535 }
+    ensures { OnOk result (tables.new ≡ fill_tables ends.now priorities.now weights.now tables.old) }
 {
-    let mut items = Items::from_vec(Vec::with_capacity(alloc, numbers.len())?);
+    put_narrowed(priorities, &mut tables.priorities)?;
+    put_narrowed(weights, &mut tables.weights)?;
+    put_bits(ends, &mut tables.end_bits)
+}
+
+// Puts numbers in 16 bits behind others.
+fn put_narrowed(numbers: &[u32], items: &mut Items<u16>) -> Result<(), AllocError>
+    requires { (n : ℕ) → slice_index numbers.now n ≤ 65535 }
+    ensures { OnOk result (items.new ≡ items.old ++ numbers.now) }
+{
     for number in numbers {
         items.push(*number as u16)?;
     }
-    Ok(items)
+    Ok(())
 }
 
-// For each number, whether it is above 0.
-fn as_bits(alloc: Global, numbers: &[u32]) -> Result<Items<bool>, AllocError>
-    ensures { IfOk result (λ items. items ≡ map (nat_lt 0) numbers.now) }
+// Puts for each number whether it is above 0.
+fn put_bits(numbers: &[u32], items: &mut Items<bool>) -> Result<(), AllocError>
+    ensures { OnOk result (items.new ≡ items.old ++ map (nat_lt 0) numbers.now) }
 {
-    let mut items = Items::from_vec(Vec::with_capacity(alloc, numbers.len())?);
     for number in numbers {
         items.push(*number > 0)?;
     }
-    Ok(items)
+    Ok(())
 }

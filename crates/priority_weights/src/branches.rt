@@ -138,15 +138,19 @@ impl Branches {
         put(self.firsts.as_mut_slice(), u32::from(child), stands);
         let here = self.noted(Side::Second, child);
         if here != 0 {
-            arcs.add_sort(stands, here.saturating_add(1), Sort::Fall)?;
-            return arcs.add_sort(stands, here.saturating_add(2), Sort::Fall);
+            return add_two(
+                arcs,
+                stands,
+                here.saturating_add(1),
+                here.saturating_add(2),
+                Sort::Fall,
+            );
         }
         let last = self.last_of(fork);
         if last == 0 {
             return Ok(());
         }
-        arcs.add_sort(stands, last, Sort::Fall)?;
-        arcs.add_sort(stands, last.saturating_add(1), Sort::Fall)
+        add_two(arcs, stands, last, last.saturating_add(1), Sort::Fall)
     }
 
     // Makes what stands for the second nodes below a child and beside it, behind those of the child that was met last.
@@ -156,19 +160,11 @@ impl Branches {
         child: ThreadId,
         fork: NodeId,
     ) -> Result<(), AllocError> {
-        let stands = arcs.add_node()?;
-        let before = arcs.add_node()?;
-        let behind = arcs.add_node()?;
+        let stands = add_three(arcs)?;
         put(self.seconds.as_mut_slice(), u32::from(child), stands);
         let last = self.last_of(fork);
         put(self.last.as_mut_slice(), u32::from(fork), stands);
-        if last == 0 {
-            return Ok(());
-        }
-        arcs.add_sort(before, last, Sort::Link)?;
-        arcs.add_sort(before, last.saturating_add(1), Sort::Link)?;
-        arcs.add_sort(last.saturating_add(2), stands, Sort::Link)?;
-        arcs.add_sort(last.saturating_add(2), behind, Sort::Link)
+        put_behind(arcs, last, stands)
     }
 
     // What stands for the second nodes below the child of a fork that was met last; 0 where none was met.
@@ -202,4 +198,34 @@ fn add_between(
         Side::First => arcs.add_sort(below, above, sort),
         Side::Second => arcs.add_sort(above, below, sort),
     }
+}
+
+// Adds three nodes; the number of the first one.
+fn add_three(arcs: &mut Arcs) -> Result<u32, AllocError> {
+    let first = arcs.add_node()?;
+    let _second = arcs.add_node()?;
+    let _third = arcs.add_node()?;
+    Ok(first)
+}
+
+// Adds arcs of a sort from a node to two others.
+fn add_two(
+    arcs: &mut Arcs,
+    from: u32,
+    first: u32,
+    second: u32,
+    sort: Sort,
+) -> Result<(), AllocError> {
+    arcs.add_sort(from, first, sort)?;
+    arcs.add_sort(from, second, sort)
+}
+
+// Links what stands for second nodes with what stands for those that were met before, where some were.
+fn put_behind(arcs: &mut Arcs, last: u32, stands: u32) -> Result<(), AllocError> {
+    if last == 0 {
+        return Ok(());
+    }
+    let (before, behind) = (stands.saturating_add(1), stands.saturating_add(2));
+    add_two(arcs, before, last, last.saturating_add(1), Sort::Link)?;
+    add_two(arcs, last.saturating_add(2), stands, behind, Sort::Link)
 }

@@ -34,7 +34,7 @@ pub(crate) fn asked_by_instants(
 fn asked_by_entries(program: &Program, table: &[u32], children: &[ThreadId]) -> u64
     ensures { IsAsked (IsEntry program.now children.now) table.now 0 result }
 {
-    let mut asked = 0;
+    let mut asked: u64 = 0;
     for child in children {
         asked = asked.max(asked_by(table, program.entry(*child), 0));
     }

@@ -13,15 +13,20 @@ pub(crate) fn settling_order(
     visited: &Visited,
 ) -> Result<Vec<u32>, AllocError> {
     let turned = arcs.turned_within(alloc, visited.component.as_slice())?;
-    let mut spread = Spread::none(alloc, arcs.nodes())?;
     let mut order = Vec::new(alloc);
-    for node in visited.left.as_slice() {
-        order.push(*node)?;
-        if visited.is_first(*node) && turned.first(*node) != 0 {
-            spread.put_component(&turned, *node, &mut order)?;
-        }
-    }
+    put_settling(alloc, &turned, visited, &mut order)?;
     Ok(order)
+}
+
+// Puts the nodes in such an order, by the arcs within components, each turned round.
+fn put_settling(
+    alloc: Global,
+    turned: &Arcs,
+    visited: &Visited,
+    order: &mut Vec<u32>,
+) -> Result<(), AllocError> {
+    let mut spread = Spread::none(alloc, turned.nodes())?;
+    spread.put_all(turned, visited, order)
 }
 
 /// The nodes of a shortest way from a node to another along arcs within their component, without the other: the last
@@ -90,6 +95,23 @@ impl Spread {
             queue: Vec::new(alloc),
             at: 0,
         })
+    }
+
+    // Puts the nodes behind an order as they are left, and with the first one of a component of several nodes all of
+    // them.
+    fn put_all(
+        &mut self,
+        arcs: &Arcs,
+        visited: &Visited,
+        order: &mut Vec<u32>,
+    ) -> Result<(), AllocError> {
+        for node in visited.left.as_slice() {
+            order.push(*node)?;
+            if visited.is_first(*node) && arcs.first(*node) != 0 {
+                self.put_component(arcs, *node, order)?;
+            }
+        }
+        Ok(())
     }
 
     // Puts the nodes from which a node is come to behind an order.

@@ -1,5 +1,6 @@
 -- The parts of the least tables, each by the one before.
-use Rattle.std.specs.Prelude.{ℕ, List, length, slice_index}
+use Rattle.std.specs.Prelude.{ℕ, List, ◌++◌, length, map, nat_lt, slice_index}
+use Rattle.sc_graph.specs.declared.tables.Tables.{Tables}
 use Rattle.sc_graph.specs.Program.{Program}
 use Rattle.least_or_cycle.specs.Least.{IsLeast, IsWithin}
 use Rattle.least_or_cycle.specs.Walks.{Falls}
@@ -14,3 +15,12 @@ pub record AreParts (p : Program) (ends priorities weights bounds : List ℕ) : 
   pub weights_least : IsLeast (WeightKept p (bits (slice_index ends))) (length p.nodes) weights
   pub weights_within : IsWithin (length p.nodes) (length p.nodes) (slice_index weights)
   pub covering : AreLeastBounds p (slice_index weights) bounds
+
+-- what is put into tables that lack these
+abbrev pub fill_tables : (ends priorities weights : List ℕ) → Tables → Tables
+fill_tables ends priorities weights q =
+    record q {
+      priorities = q.priorities ++ priorities;
+      weights = q.weights ++ weights;
+      end_bits = q.end_bits ++ map (nat_lt 0) ends;
+    }
