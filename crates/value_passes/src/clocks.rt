@@ -6,6 +6,7 @@ ghost use Rattle.value_passes.specs.Clocks.{noting, timed_by, timed_transition, 
 ghost use Rattle.value_passes.specs.Clocks.{one_more, clock_region, with_clocks};
 ghost use Rattle.value_passes.specs.Inside.{clock_state, fill_timed};
 
+use crate::copies::{put_copied_effects, refused};
 use chart_elements::next;
 use core_charts::{Effect, Transition, copied_effects};
 use extended_charts::{
@@ -164,8 +165,10 @@ fn put_state(
     ensures { OnOk result (made.new ≡ made.old ++ (timed_state state.now).made now at ∷ []) }
 {
     let mut timed = bare(alloc, state);
-    fill_timed(alloc, now, at, state, &mut timed)?;
-    made.push(timed)
+    match fill_timed(alloc, now, at, state, &mut timed) {
+        Ok(()) => made.push(timed),
+        Err(error) => refused(timed, error),
+    }
 }
 
 // Puts what a state holds into a bare one, which is behind a reference so that no `?` has to drop its parts.
@@ -184,12 +187,8 @@ fn fill_timed(
     let at_entry = variable(at as usize)?;
     let inside = sum(at, one(asks))?;
     put_noting(asks, now, at_entry, &mut timed.entry)?;
-    timed
-        .entry
-        .append(copied_effects(alloc, state.entry.as_slice())?)?;
-    timed
-        .exit
-        .append(copied_effects(alloc, state.exit.as_slice())?)?;
+    put_copied_effects(alloc, state.entry.as_slice(), &mut timed.entry)?;
+    put_copied_effects(alloc, state.exit.as_slice(), &mut timed.exit)?;
     put_regions(
         alloc,
         now,

@@ -10,8 +10,9 @@ ghost use Rattle.value_passes.specs.Counts.{counting, all_counting, count_states
 ghost use Rattle.value_passes.specs.Inside.{fill_counted, anew};
 
 use crate::clocks::{one_more, put_timed};
+use crate::copies::{put_copied_effects, refused};
 use chart_elements::next;
-use core_charts::{Effect, Transition, TransitionKind, copied_effects};
+use core_charts::{Effect, Transition, TransitionKind};
 use extended_charts::{
     Declared, ExtendedChart, ExtendedRegion, ExtendedState, Reading, alone, bare, copy, count,
     count_variable, emission, has_some, is_count, local, made_state, passing, put_all_passing,
@@ -210,8 +211,10 @@ fn put_state(
     ensures { OnOk result (made.new ≡ made.old ++ counted_state first counts state.now ∷ []) }
 {
     let mut counted = bare(alloc, state);
-    fill_counted(alloc, first, counts, state, &mut counted)?;
-    made.push(counted)
+    match fill_counted(alloc, first, counts, state, &mut counted) {
+        Ok(()) => made.push(counted),
+        Err(error) => refused(counted, error),
+    }
 }
 
 // Puts what a state holds into a bare one, which is behind a reference so that no `?` has to drop its parts.
@@ -227,12 +230,8 @@ fn fill_counted(
 {
     let own = state.transitions.as_slice();
     put_tellings(alloc, first, counts, own, &mut counted.entry)?;
-    counted
-        .entry
-        .append(copied_effects(alloc, state.entry.as_slice())?)?;
-    counted
-        .exit
-        .append(copied_effects(alloc, state.exit.as_slice())?)?;
+    put_copied_effects(alloc, state.entry.as_slice(), &mut counted.entry)?;
+    put_copied_effects(alloc, state.exit.as_slice(), &mut counted.exit)?;
     put_regions(
         alloc,
         first,

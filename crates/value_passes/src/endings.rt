@@ -10,8 +10,9 @@ ghost use Rattle.extended_charts.specs.Holds.{ended};
 ghost use Rattle.value_passes.specs.Inside.{deeper, fill_ending};
 
 use crate::beginnings::{all_at_once, is_joined};
+use crate::copies::{put_copied_effects, refused};
 use chart_elements::next;
-use core_charts::{Effect, Transition, TransitionKind, copied_effects, copied_transitions};
+use core_charts::{Effect, Transition, TransitionKind, copied_transitions};
 use extended_charts::{
     Declared, During, ExtendedChart, ExtendedRegion, ExtendedState, alone, always, bare, condition,
     count, ended, has_some, local, made_state, one, passing, put_copied_durings,
@@ -342,8 +343,10 @@ fn put_state(
     ensures { OnOk result (made.new ≡ made.old ++ (ending_in_state state.now).made x ∷ []) }
 {
     let mut changed = bare(alloc, state);
-    fill_ending(alloc, x, state, &mut changed)?;
-    made.push(changed)
+    match fill_ending(alloc, x, state, &mut changed) {
+        Ok(()) => made.push(changed),
+        Err(error) => refused(changed, error),
+    }
 }
 
 // Puts what a state holds into a bare one, which is behind a reference so that no `?` has to drop its parts.
@@ -360,12 +363,8 @@ fn fill_ending(
     let ends = is_ending(state.during.as_slice(), own);
     let done = variable(x as usize)?;
     put_beginning(ends, done, &mut changed.entry)?;
-    changed
-        .entry
-        .append(copied_effects(alloc, state.entry.as_slice())?)?;
-    changed
-        .exit
-        .append(copied_effects(alloc, state.exit.as_slice())?)?;
+    put_copied_effects(alloc, state.entry.as_slice(), &mut changed.entry)?;
+    put_copied_effects(alloc, state.exit.as_slice(), &mut changed.exit)?;
     put_left_durings(alloc, ends, state.during.as_slice(), &mut changed.during)?;
     put_deeper(alloc, ends, done, x, state, &mut changed.regions)?;
     put_left_transitions(alloc, ends, own, &mut changed.transitions)

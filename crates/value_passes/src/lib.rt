@@ -6,6 +6,7 @@
 mod beginnings;
 mod clocks;
 mod constants;
+mod copies;
 mod counts;
 mod endings;
 mod initial;
