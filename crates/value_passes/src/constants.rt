@@ -7,6 +7,7 @@ ghost use Rattle.extended_charts.specs.Reading.{replaced};
 ghost use Rattle.value_passes.specs.Constants.{valued_region, valued_state, valued_chart, without_constants};
 ghost use Rattle.value_passes.specs.Inside.{fill_valued, fill_chart};
 
+use crate::copies::refused;
 use core_charts::{Effect, Transition};
 use extended_charts::{
     Constant, During, ExtendedChart, ExtendedRegion, ExtendedState, Reading, bare,
@@ -274,8 +275,10 @@ fn put_state(
     ensures { OnOk result (made.new ≡ made.old ++ valued_state reading.now state.now ∷ []) }
 {
     let mut valued = bare(alloc, state);
-    fill_valued(alloc, reading, state, &mut valued)?;
-    made.push(valued)
+    match fill_valued(alloc, reading, state, &mut valued) {
+        Ok(()) => made.push(valued),
+        Err(error) => refused(valued, error),
+    }
 }
 
 // Puts what a state holds into a bare one, which is behind a reference so that no `?` has to drop its parts.
