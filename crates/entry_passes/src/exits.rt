@@ -9,6 +9,7 @@ use crate::departures::{put_left_behind, put_left_transitions, set};
 use crate::leaving::{
     Leaving, has_exit, have_exits, inside, notes, put_state_leavings, state_inside,
 };
+use crate::refusals::refused;
 use core_charts::{Effect, Transition, copied_effects};
 use extended_charts::{
     ExtendedChart, ExtendedRegion, ExtendedState, bare, count, has_some, one, put_integers, sum,
@@ -238,8 +239,10 @@ fn put_state(
     ensures { OnOk result (made.new ≡ made.old ++ (left_state state.now).made own number x place ∷ []) }
 {
     let mut left = bare(alloc, state);
-    fill_left(alloc, own, number, x, place, state, &mut left)?;
-    made.push(left)
+    match fill_left(alloc, own, number, x, place, state, &mut left) {
+        Ok(()) => made.push(left),
+        Err(error) => refused(left, error),
+    }
 }
 
 // Puts what a state holds into a bare one, which is behind a reference so that no `?` has to drop its parts.

@@ -11,6 +11,7 @@ use crate::recalls::{
     Kept, asking_count, is_by_history, is_recalled, put_kept_in, put_variables, recalled_among,
     region_count, state_count,
 };
+use crate::refusals::refused;
 use crate::resuming::put_resuming;
 use chart_elements::next;
 use core_charts::{Effect, Transition, copied_effects};
@@ -284,8 +285,10 @@ fn put_state(
 {
     let mut past = bare(alloc, state);
     past.is_initial = begins(at.own, state.is_initial);
-    fill_past(alloc, at, is_recalled, place, x, state, &mut past)?;
-    made.push(past)
+    match fill_past(alloc, at, is_recalled, place, x, state, &mut past) {
+        Ok(()) => made.push(past),
+        Err(error) => refused(past, error),
+    }
 }
 
 // Puts what a state holds into a bare one, which is behind a reference so that no `?` has to drop its parts.

@@ -8,6 +8,7 @@ mod exits;
 mod histories;
 mod leaving;
 mod recalls;
+mod refusals;
 mod resuming;
 
 pub use entry::without_entry;
