@@ -1,18 +1,22 @@
 -- Reading phrases that are put behind others: what one round of the loop adds, and where it stops.
-use Rattle.std.proofs.Common.{◌≡◌, ℕ, ◌+◌, ◌-◌, ◌≤◌, ◌<◌, true, false, List, [], ◌∷◌, ◌++◌, length, refl, sym, ◌∙◌, ap}
+use Rattle.std.proofs.Common.{◌≡◌, ℕ, ◌+◌, ◌-◌, ◌≤◌, ◌<◌, true, false, Some, None, List, [], ◌∷◌, ◌++◌, length, drop, refl, sym, ◌∙◌, ap, subst}
 use Rattle.std.proofs.lemmas.List.{append_assoc, append-nil}
-use Rattle.grammar.specs.Grammar.{one, seq, many}
+use Rattle.grammar.specs.Grammar.{one, seq, made, maybe, many}
 use Rattle.grammar.specs.Predictive.{first}
-use Rattle.grammar.specs.Read.{Outcome, Got, starts, read}
+use Rattle.grammar.specs.Read.{Outcome, Got, Failed, starts, next, choose, read}
 use Rattle.sc_text.specs.declared.token.Token.{Token}
 use Rattle.sc_text.specs.declared.read_fault.ReadFault.{ReadFault}
 use Rattle.sc_text.specs.Classes.{Class}
-use Rattle.sc_text.specs.Expression.{text_tokens, before}
+use Rattle.sc_text.specs.Expression.{text_tokens, after, before}
 use Rattle.sc_text.specs.Reading.{Stops, Takes}
+use Rattle.sc_text.proofs.Steps.{one_taken}
+use Rattle.drafts.specs.Parts.{or_none}
 use Rattle.chart_drafts.specs.ChartText.{Grows, listed}
-use Rattle.chart_drafts.specs.Inside.{Fills, FillsBoth, IsFilling}
+use Rattle.chart_drafts.specs.Inside.{FillsBoth, IsFilling}
+use Rattle.chart_drafts.specs.PartsRead.{Fills}
 use Rattle.chart_drafts.specs.Phrase.{Gives}
-use Rattle.chart_drafts.proofs.Parts.{seq_gives, seq_stops_second, before_gives, before_stops_second}
+use Rattle.chart_drafts.proofs.Parts.{made_gives, made_stops, maybe_none, seq_gives, seq_stops_second, before_gives, before_stops_second}
+use Rattle.chart_drafts.proofs.Same.{after_read}
 use Rattle.chart_drafts.proofs.RowReading.{many_goes, listed_goes, going_ends, going_over, going_stops, going_on}
 
 module _ {A : Type 0} where
@@ -54,6 +58,39 @@ module _ {A : Type 0} (g : Grows A) where
           going = going_on g ks o i.done most used rest after x (i.done ++ x ∷ []) lt i.going e r refl;
           behind = n ∙ ap (λ l. l ++ x ∷ []) i.behind ∙ append_assoc old i.done (x ∷ []);
         }
+
+-- ---- one, and a row behind it
+
+module _ {A : Type 0} (h g : Grows A) (text mid : List Token) (x : A) (old found : List A) (r : Gives (read h text) x mid) where
+  pub listed_fill : (new : List A) (rest : List Token) → found ≡ old ++ x ∷ [] → Fills (read (many g) mid) found new rest
+      → Fills (read (listed h g) text) old new rest
+  listed_fill new rest f i =
+      let s = made_gives (λ y. y.0 ∷ y.1) (seq h (many g)) text (x, i.more) rest
+      (seq_gives h (many g) text mid rest x i.more r (fills_given _ found new rest i)) in
+      record { more = x ∷ i.more; is = s.is; behind = i.behind ∙ ap (λ l. l ++ i.more) f ∙ append_assoc old (x ∷ []) i.more }
+
+  pub listed_further_stops : (end : ℕ) (f : ReadFault) → Stops end (read (many g) mid) f → Stops end (read (listed h g) text) f
+  listed_further_stops end f s =
+      made_stops (λ y. y.0 ∷ y.1) (seq h (many g)) text end f (seq_stops_second h (many g) text mid x end f r s)
+
+-- ---- some behind a token, or none
+
+there_alone : {A : Type 0} (o : Outcome Token (List A)) → next (next o (λ a end. Got (Some a) end)) (λ x end. Got (or_none x) end) ≡ o
+there_alone (Got xs rest) = refl
+there_alone (Failed flaw rest) = refl
+
+module _ {A : Type 0} (ks : List Class) (g : Grows (List A)) (text : List Token) where
+  pub none_behind : (none : List A) → starts text_tokens ks text ≡ false → none ≡ [] → Gives (read (made or_none (maybe (after ks g))) text) none text
+  none_behind none e n =
+      subst (λ d. Gives (read (made or_none (maybe (after ks g))) text) d text) (sym n)
+      (made_gives or_none (maybe (after ks g)) text None text (maybe_none (after ks g) ks refl text e))
+
+  pub some_behind : (more : List Token) → starts text_tokens ks text ≡ true → more ≡ drop 1 text
+      → read (made or_none (maybe (after ks g))) text ≡ read g more
+  some_behind more e d =
+      ap (λ c. next (choose c (next (read (after ks g) text) (λ a end. Got (Some a) end)) (Got None text)) (λ x end. Got (or_none x) end)) e
+      ∙ ap (λ o. next (next o (λ a end. Got (Some a) end)) (λ x end. Got (or_none x) end)) (after_read ks g text more (one_taken ks text more e d))
+      ∙ there_alone (read g more)
 
 -- ---- before a token
 

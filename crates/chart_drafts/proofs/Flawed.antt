@@ -116,21 +116,19 @@ module _ (V : List Declaration) where
         (flaw_if (is_full 256 at) broken.Limit (out-DraftState s).named.at)) n))))
         ∙ state_step states at s f i
 
-    pub region_noted : (regions : List DraftRegion) (at : ℕ) (r : DraftRegion) (N : List (List ℕ)) (S : List DraftState) (f f1 f2 f3 f4 : List Flaw)
-        (again full : Bool) → slice_get regions at ≡ Some r → N ≡ names → again ≡ is_repeated N at (out-DraftRegion r).named.name
-        → f1 ≡ told_behind f (flaw_if again broken.Repeated (out-DraftRegion r).named.at) → full ≡ is_full 63 at
-        → f2 ≡ told_behind f1 (flaw_if full broken.Limit (out-DraftRegion r).named.at) → f3 ≡ told_behind f2 (initial_flaws r)
-        → S ≡ (out-DraftRegion r).states → f4 ≡ told_behind f3 (state_flaws V inside (state_names S) 0 S) →
-        told_behind f4 (region_flaws V inside names (at + 1) (drop (at + 1) regions)) ≡ told_behind f (region_flaws V inside names at (drop at regions))
-    region_noted regions at r N S f f1 f2 f3 f4 again full i n g a l b c st d =
+    pub region_noted : (regions : List DraftRegion) (at : ℕ) (r : DraftRegion) (N : List (List ℕ)) (S : List DraftState) (f f1 f2 f3 : List Flaw)
+        → slice_get regions at ≡ Some r → N ≡ names
+        → f1 ≡ told_behind (told_behind f (flaw_if (is_repeated N at (out-DraftRegion r).named.name) broken.Repeated (out-DraftRegion r).named.at))
+        (flaw_if (is_full 63 at) broken.Limit (out-DraftRegion r).named.at) → f2 ≡ told_behind f1 (initial_flaws r)
+        → S ≡ (out-DraftRegion r).states → f3 ≡ told_behind f2 (state_flaws V inside (state_names S) 0 S) →
+        told_behind f3 (region_flaws V inside names (at + 1) (drop (at + 1) regions)) ≡ told_behind f (region_flaws V inside names at (drop at regions))
+    region_noted regions at r N S f f1 f2 f3 i n a c st d =
         ap (λ x. told_behind x (region_flaws V inside names (at + 1) (drop (at + 1) regions)))
-        (d ∙ ap (λ x. told_behind f3 (state_flaws V inside (state_names x) 0 x)) st
+        (d ∙ ap (λ x. told_behind f2 (state_flaws V inside (state_names x) 0 x)) st
         ∙ ap (λ x. told_behind x (state_flaws V inside (state_names (out-DraftRegion r).states) 0 (out-DraftRegion r).states))
         (c ∙ ap (λ x. told_behind x (initial_flaws r))
-        (b ∙ ap (λ x. told_behind f1 (flaw_if x broken.Limit (out-DraftRegion r).named.at)) l
-        ∙ ap (λ x. told_behind x (flaw_if (is_full 63 at) broken.Limit (out-DraftRegion r).named.at))
-        (a ∙ ap (λ x. told_behind f (flaw_if x broken.Repeated (out-DraftRegion r).named.at))
-        (g ∙ ap (λ x. is_repeated x at (out-DraftRegion r).named.name) n)))))
+        (a ∙ ap (λ x. told_behind (told_behind f (flaw_if (is_repeated x at (out-DraftRegion r).named.name) broken.Repeated (out-DraftRegion r).named.at))
+        (flaw_if (is_full 63 at) broken.Limit (out-DraftRegion r).named.at)) n)))
         ∙ region_step regions at r f i
 
 -- ---- a part of which nothing is left

@@ -24,7 +24,8 @@ use Rattle.chart_drafts.specs.declared.draft.DraftChart.{DraftChart}
 use Rattle.chart_drafts.specs.Draft.{state_of, region_of, chart_of}
 use Rattle.chart_drafts.specs.ChartText.{Grows, the_word, the_sign, name, declaration, flag, leaving, listed, bare, inside, simple, body, state_first, state}
 use Rattle.chart_drafts.specs.ChartText.{braced, states, region, within, chart, chart_text}
-use Rattle.chart_drafts.specs.Inside.{Fills, FillsBoth, IsFilling}
+use Rattle.chart_drafts.specs.Inside.{FillsBoth, IsFilling}
+use Rattle.chart_drafts.specs.PartsRead.{Fills}
 use Rattle.chart_drafts.specs.Phrase.{Gives}
 use Rattle.chart_drafts.proofs.Shapes.{nested_is, region_is, state_is, within_fits}
 use Rattle.chart_drafts.proofs.Parts.{seq_gives, seq_stops_first, seq_stops_second, made_gives, made_stops, after_gives, after_stops_first, after_stops_second}

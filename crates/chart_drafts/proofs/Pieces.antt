@@ -107,10 +107,6 @@ declaration_gives text a b rest r k n x y z =
     made_gives (λ x. declared_as x.0 x.1.0 x.1.1) (seq declared_role (seq declared_kind last_name)) text (r, (k, n)) rest
     (seq_gives declared_role (seq declared_kind last_name) text a rest r (k, n) x (seq_gives declared_kind last_name a b rest k n y z))
 
-pub declarations_fill : (text : List Token) (most : ℕ) (found : List Declaration) → most ≡ length text
-    → IsFilling (read (many declaration) text) declaration roles found found (most - 0) text
-declarations_fill text most found e = many_fills declaration roles declaration_is.begins text most found e
-
 -- ---- effects
 
 abbrev becomes : Grows TextExpression
@@ -121,41 +117,6 @@ pub effect_gives : (text a rest : List Token) (n : Named) (e : TextExpression) �
 unfolding effect
 effect_gives text a rest n e x y =
     made_gives (λ x. effect_of x.0 x.1) (seq name becomes) text (n, e) rest (seq_gives name becomes text a rest n e x y)
-
-pub effects_fill : (text rest : List Token) (x : DraftEffect) (most : ℕ) (old found : List DraftEffect) → Gives (read (effect e0) text) x rest
-    → most ≡ length rest → found ≡ old ++ x ∷ [] → IsFilling (read (some_effects e0) text) (next_effect e0) (the_sign sign.Comma) old found
-    (most - 0) rest
-unfolding some_effects
-effects_fill text rest x most old found r e f =
-    listed_fills (next_effect e0) (the_sign sign.Comma) (next_effect_is e0 (expression_is 0)).begins (effect e0) text rest x most old found r e f
-
-pub no_first_effect : (text : List Token) (end : ℕ) (f : ReadFault) → Stops end (read (effect e0) text) f → Stops end (read (some_effects e0) text) f
-unfolding some_effects
-no_first_effect text end f s = listed_stops (next_effect e0) (effect e0) text end f s
-
-pub effects_missing : (text : List Token) (none : List DraftEffect) → starts text_tokens (the_word word.Do) text ≡ false → none ≡ []
-    → Gives (read (effects e0) text) none text
-unfolding effects
-effects_missing text none e n =
-    subst (λ d. Gives (read (effects e0) text) d text) (sym n)
-    (made_gives or_none (maybe (after (the_word word.Do) (some_effects e0))) text None text
-    (maybe_none (after (the_word word.Do) (some_effects e0)) (the_word word.Do) refl text e))
-
-there_alone : {A : Type 0} (o : Outcome Token (List A)) → next (next o (λ a end. Got (Some a) end)) (λ x end. Got (or_none x) end) ≡ o
-there_alone (Got xs rest) = refl
-there_alone (Failed flaw rest) = refl
-
-abbrev outcomes : Grows (List DraftEffect)
-outcomes = after (the_word word.Do) (some_effects e0)
-
-pub effects_read : (text more : List Token) → starts text_tokens (the_word word.Do) text ≡ true → more ≡ drop 1 text → read (effects e0) text
-    ≡ read (some_effects e0) more
-unfolding effects
-effects_read text more e d =
-    ap (λ c. next (choose c (next (read outcomes text) (λ a end. Got (Some a) end)) (Got None text)) (λ x end. Got (or_none x) end)) e
-    ∙ ap (λ o. next (next o (λ a end. Got (Some a) end)) (λ x end. Got (or_none x) end))
-    (after_read (the_word word.Do) (some_effects e0) text more (one_taken (the_word word.Do) text more e d))
-    ∙ there_alone (read (some_effects e0) more)
 
 -- ---- triggers
 
@@ -202,7 +163,3 @@ module _ (text : List Token) where
   pub is_tested : starts text_tokens (the_word word.Join) text ≡ false → read (transition e0) text ≡ read (tested e0) text
   unfolding transition
   is_tested e = right_read (termination e0) (the_word word.Join) (termination_is e0 (expression_is 0)).begins text (tested e0) e
-
-  pub transitions_fill : (most : ℕ) (found : List DraftTransition) → most ≡ length text
-      → IsFilling (read (many (transition e0)) text) (transition e0) transition_first found found (most - 0) text
-  transitions_fill most found e = many_fills (transition e0) transition_first (transition_is e0 (expression_is 0)).begins text most found e

@@ -1,18 +1,20 @@
 -- At each choice of the grammar of charts the next token decides.
-use Rattle.std.proofs.Common.{ℕ, zero, suc, ◌+◌, true, false, List, [], ◌∷◌, refl}
+use Rattle.std.proofs.Common.{◌≡◌, ℕ, zero, suc, ◌+◌, true, false, List, [], ◌∷◌, refl}
 use Rattle.grammar.specs.Grammar.{seq}
+use Rattle.grammar.specs.Predictive.{disjoint}
 use Rattle.grammar.proofs.Shaped.{Shaped, shaped_one, shaped_seq, shaped_either, shaped_maybe, shaped_many, shaped_made, shaped_headed, shaped_barred}
 use Rattle.sc_text.specs.declared.word.Word.{Word}
 use Rattle.sc_text.specs.declared.word.Word.TheVariants as word
 use Rattle.sc_text.specs.declared.sign.Sign.TheVariants as sign
 use Rattle.sc_text.specs.Classes.{Class, AName, TheWord, TheSign}
 use Rattle.sc_text.specs.Phrases.{Phrase}
-use Rattle.sc_text.specs.Expression.{expression}
+use Rattle.sc_text.specs.Expression.{text_tokens, after, expression}
 use Rattle.sc_text.proofs.Shapes.{Is, expression_first, expression_tails, expression_is}
 use Rattle.chart_drafts.specs.declared.draft.DraftRegion.{DraftRegion}
 use Rattle.chart_drafts.specs.ChartText.{Grows, the_word, the_sign, name, last_name, roles, declaration, flag, placed, effect, next_effect, some_effects}
 use Rattle.chart_drafts.specs.ChartText.{effects, target, trigger, outcome, termination, tested_words, tested, transition, transition_first, leaving, listed}
 use Rattle.chart_drafts.specs.ChartText.{Inner, NoMore, Nested, bare, inside, simple, body, state_first, state, states, region, within, chart, chart_text}
+use Rattle.chart_drafts.specs.ChartText.{braced}
 
 abbrev pub IsExpression : Grows Phrase → Type 0
 IsExpression e = Is e expression_first expression_tails
@@ -31,7 +33,7 @@ pub data Fits : Inner → Type 1 where
 pub name_is : Shaped name false (AName ∷ []) []
 name_is = shaped_made _ _ _ _ _ _ _ (shaped_one _ refl)
 
-last_name_is : Shaped last_name false (AName ∷ []) []
+pub last_name_is : Shaped last_name false (AName ∷ []) []
 unfolding last_name
 last_name_is = shaped_made _ _ _ _ _ _ _ (shaped_seq _ _ _ _ _ _ _ _ _ _ name_is (shaped_one _ refl) refl)
 
@@ -43,9 +45,34 @@ declaration_is =
     (shaped_seq _ _ _ _ _ _ _ _ _ _ (shaped_made _ _ _ _ _ _ _ (shaped_one _ refl)) last_name_is refl)
     refl)
 
+-- a word and a name
+pub title_is : (w : Word) → Shaped (after (the_word w) name) false (the_word w) []
+title_is w = shaped_made _ _ _ _ _ _ _ (shaped_seq _ _ _ _ _ _ _ _ _ _ (shaped_one _ refl) name_is refl)
+
+-- nothing goes on behind what ends by itself
+none_goes_on : (o : List Class) → disjoint text_tokens o [] ≡ true
+none_goes_on [] = refl
+none_goes_on (c ∷ o) = none_goes_on o
+
+-- what stands in braces
+pub braced_is : {A : Type 0} (g : Grows A) (o s : List Class) → Shaped g false o s → disjoint text_tokens (the_sign sign.CloseBrace) s ≡ true
+    → Shaped (braced g) false (the_sign sign.OpenBrace) []
+braced_is g o s h d =
+    shaped_made _ _ _ _ _ _ _
+    (shaped_seq _ _ _ _ _ _ _ _ _ _ (shaped_one _ refl)
+    (shaped_made _ _ _ _ _ _ _ (shaped_seq _ _ _ _ _ _ _ _ _ _ h (shaped_one _ refl) d))
+    (none_goes_on o))
+
 pub flag_is : (w : Word) → Shaped (flag w) true (the_word w) (the_word w)
 unfolding flag
 flag_is w = shaped_made _ _ _ _ _ _ _ (shaped_maybe _ _ _ _ (shaped_one _ refl))
+
+-- a state, by what is in it
+pub marked_is : {A : Type 0} (b : Grows A) (o : List Class) → Shaped b false o []
+    → Shaped (seq (flag word.Initial) (seq (flag word.Final) (seq (after (the_word word.State) name) b))) false state_first []
+marked_is b o h =
+    shaped_seq _ _ _ _ _ _ _ _ _ _ (flag_is word.Initial)
+    (shaped_seq _ _ _ _ _ _ _ _ _ _ (flag_is word.Final) (shaped_seq _ _ _ _ _ _ _ _ _ _ (title_is word.State) h (none_goes_on o)) refl) refl
 
 pub target_is : Shaped target false (the_sign sign.Arrow) []
 unfolding target
@@ -142,31 +169,18 @@ module _ (e : Grows Phrase) (h : IsExpression e) where
 
   pub state_is : (inner : Inner) → Fits inner → Shaped (state e inner) false state_first []
   unfolding state
-  state_is inner f =
-      shaped_made _ _ _ _ _ _ _
-      (shaped_seq _ _ _ _ _ _ _ _ _ _ (flag_is word.Initial)
-      (shaped_seq _ _ _ _ _ _ _ _ _ _ (flag_is word.Final)
-      (shaped_seq _ _ _ _ _ _ _ _ _ _
-      (shaped_made _ _ _ _ _ _ _ (shaped_seq _ _ _ _ _ _ _ _ _ _ (shaped_one _ refl) name_is refl))
-      (body_is inner f) refl)
-      refl)
-      refl)
+  state_is inner f = shaped_made _ _ _ _ _ _ _ (marked_is (body e inner) _ (body_is inner f))
+
+  states_are : (inner : Inner) → Fits inner → Shaped (states e inner) false state_first state_first
+  unfolding states
+  states_are inner f =
+      shaped_made _ _ _ _ _ _ _ (shaped_seq _ _ _ _ _ _ _ _ _ _ (state_is inner f) (shaped_many _ _ _ _ (state_is inner f) refl) refl)
 
   pub region_is : (inner : Inner) → Fits inner → IsRegion (region e inner)
-  unfolding region states
+  unfolding region
   region_is inner f =
       shaped_made _ _ _ _ _ _ _
-      (shaped_seq _ _ _ _ _ _ _ _ _ _
-      (shaped_made _ _ _ _ _ _ _ (shaped_seq _ _ _ _ _ _ _ _ _ _ (shaped_one _ refl) name_is refl))
-      (shaped_made _ _ _ _ _ _ _
-      (shaped_seq _ _ _ _ _ _ _ _ _ _ (shaped_one _ refl)
-      (shaped_made _ _ _ _ _ _ _
-      (shaped_seq _ _ _ _ _ _ _ _ _ _
-      (shaped_made _ _ _ _ _ _ _
-      (shaped_seq _ _ _ _ _ _ _ _ _ _ (state_is inner f) (shaped_many _ _ _ _ (state_is inner f) refl) refl))
-      (shaped_one _ refl) refl))
-      refl))
-      refl)
+      (shaped_seq _ _ _ _ _ _ _ _ _ _ (title_is word.Region) (braced_is (states e inner) _ _ (states_are inner f) refl) refl)
 
   pub within_fits : (n : ℕ) → Fits (within e n)
   unfolding within
@@ -178,17 +192,12 @@ module _ (e : Grows Phrase) (h : IsExpression e) where
   chart_is inner f =
       let i = region_is inner f in
       shaped_made _ _ _ _ _ _ _
-      (shaped_seq _ _ _ _ _ _ _ _ _ _
-      (shaped_made _ _ _ _ _ _ _ (shaped_seq _ _ _ _ _ _ _ _ _ _ (shaped_one _ refl) name_is refl))
-      (shaped_made _ _ _ _ _ _ _
-      (shaped_seq _ _ _ _ _ _ _ _ _ _ (shaped_one _ refl)
-      (shaped_made _ _ _ _ _ _ _
-      (shaped_seq _ _ _ _ _ _ _ _ _ _
+      (shaped_seq _ _ _ _ _ _ _ _ _ _ (title_is word.Chart)
+      (braced_is _ _ _
       (shaped_seq _ _ _ _ _ _ _ _ _ _ (shaped_many _ _ _ _ declaration_is refl)
       (shaped_made _ _ _ _ _ _ _ (shaped_seq _ _ _ _ _ _ _ _ _ _ i (shaped_many _ _ _ _ i refl) refl))
       refl)
-      (shaped_one _ refl) refl))
-      refl))
+      refl)
       refl)
 
 pub chart_text_is : (k : ℕ) → Shaped (chart_text k) false (the_word word.Chart) []

@@ -6,12 +6,6 @@ use Rattle.sc_text.specs.Classes.{Class}
 use Rattle.chart_drafts.specs.ChartText.{Grows}
 use Rattle.chart_drafts.specs.PartsRead.{IsGoing}
 
--- some phrases were read, and stand behind the old ones
-pub record Fills {A : Type 0} (o : Outcome Token (List A)) (old new : List A) (rest : List Token) : Type 0 where
-  pub more : List A
-  pub is : o ≡ Got more rest
-  pub behind : new ≡ old ++ more
-
 -- some phrases of two kinds were read, and stand behind the old ones of their kind
 pub record FillsBoth {A B : Type 0} (o : Outcome Token (List A × List B)) (old new : List A) (others all : List B) (rest : List Token) : Type 0 where
   pub more : List A

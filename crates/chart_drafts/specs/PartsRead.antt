@@ -14,6 +14,12 @@ pub record IsGoing {A : Type 0} (o : Outcome Token (List A)) (g : Grows A) (ks :
   pub begins : first g ≡ ks
   pub is : o ≡ next (read_each (starts text_tokens (first g)) (read g) left rest) (λ xs end. Got (found ++ xs) end)
 
+-- some phrases were read, and stand behind the old ones
+pub record Fills {A : Type 0} (o : Outcome Token (List A)) (old new : List A) (rest : List Token) : Type 0 where
+  pub more : List A
+  pub is : o ≡ Got more rest
+  pub behind : new ≡ old ++ more
+
 -- the name that a token is
 pub record IsNameOf (k : TokenKind) (name : List ℕ) : Type 0 where
   pub is : IsTrue (same_class AName (class_of k))

@@ -8,6 +8,7 @@ mod laws;
 mod names;
 mod region_flaws;
 mod regions;
+mod rows;
 pub mod text_parts;
 mod transition_flaws;
 mod transitions;

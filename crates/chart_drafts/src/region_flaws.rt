@@ -2,7 +2,6 @@
 
 ghost use Rattle.std.specs.Prelude.{◌≡◌, [], OnOk, IfOk, false, count_by};
 ghost use Rattle.sc_text.specs.declared.read_fault.FaultKind.TheVariants as broken;
-ghost use Rattle.core_charts.specs.Rules.{state_text_limit};
 ghost use Rattle.drafts.specs.Flaws.{flaw_if, is_full, is_repeated};
 ghost use Rattle.drafts.specs.Told.{told_behind};
 ghost use Rattle.chart_drafts.specs.declared.draft.DraftRegion.TheViews.{out-DraftRegion, out-DraftState};
@@ -13,7 +12,7 @@ use crate::draft::{DraftRegion, DraftState};
 use crate::names::Names;
 use crate::transition_flaws::transition_flaws;
 use core_charts::{REGION_LIMIT, STATE_LIMIT};
-use drafts::{Flaw, Scope, is_full, note_told};
+use drafts::{Flaw, Named, Scope, is_full, note_told};
 use sc_text::FaultKind;
 use sc_values::Name;
 use sqlite_items::Items;
@@ -56,11 +55,7 @@ fn each_region_flaws(
         regions.now)) }
 {
     for (at, region) in regions.iter().enumerate() {
-        let named = region.named;
-        let is_repeated = names.is_repeated(at, named.name);
-        note_told(alloc, found, is_repeated, FaultKind::Repeated, named.at)?;
-        let is_past = is_full(REGION_LIMIT, at);
-        note_told(alloc, found, is_past, FaultKind::Limit, named.at)?;
+        place_flaws(alloc, names, REGION_LIMIT, at, region.named, found)?;
         initial_flaws(alloc, region, found)?;
         let states = region.states.as_slice();
         state_flaws(alloc, scope, levels, states, found)?;
@@ -101,7 +96,7 @@ fn each_state_flaws(
         states.now)) }
 {
     for (at, state) in states.iter().enumerate() {
-        place_flaws(alloc, names, at, state, found)?;
+        place_flaws(alloc, names, STATE_LIMIT, at, state.named, found)?;
         final_flaws(alloc, state, found)?;
         own_transition_flaws(alloc, scope, names, state, found)?;
         region_flaws(alloc, scope, levels, state.regions.as_slice(), found)?;
@@ -123,23 +118,22 @@ fn deeper_flaws(
     }
 }
 
-// The flaws of a state by its place among the states of its region, which have these names.
+// The flaws of a state or a region by its place among those beside it, which have these names, where so many may stand.
 fn place_flaws(
     alloc: Global,
     names: &Names,
+    limit: usize,
     at: usize,
-    state: &DraftState,
+    named: Named,
     found: &mut Items<Flaw>,
 ) -> Result<(), AllocError>
     ensures { OnOk result (found.new ≡ told_behind (told_behind found.old
-        (flaw_if (is_repeated names.now.names at (out-DraftState state.now).named.name) broken.Repeated
-        (out-DraftState state.now).named.at))
-        (flaw_if (is_full state_text_limit at) broken.Limit (out-DraftState state.now).named.at)) }
+        (flaw_if (is_repeated names.now.names at named.name) broken.Repeated named.at))
+        (flaw_if (is_full limit at) broken.Limit named.at)) }
 {
-    let named = state.named;
     let is_repeated = names.is_repeated(at, named.name);
     note_told(alloc, found, is_repeated, FaultKind::Repeated, named.at)?;
-    let is_past = is_full(STATE_LIMIT, at);
+    let is_past = is_full(limit, at);
     note_told(alloc, found, is_past, FaultKind::Limit, named.at)
 }
 

@@ -6,8 +6,9 @@ ghost use Rattle.sc_text.specs.Expression.{text_tokens, expression};
 ghost use Rattle.sc_text.specs.Reading.{Stops};
 ghost use Rattle.chart_drafts.specs.ChartText.{state_first, listed, inside, body, state, states, region, braced};
 ghost use Rattle.chart_drafts.specs.ChartText.{within};
+ghost use Rattle.chart_drafts.specs.PartsRead.{Fills};
 ghost use Rattle.chart_drafts.specs.Phrase.{Gives};
-ghost use Rattle.chart_drafts.specs.Inside.{Fills, FillsBoth};
+ghost use Rattle.chart_drafts.specs.Inside.{FillsBoth};
 
 use crate::ahead::{Ahead, skip_sign};
 use crate::draft::{DraftRegion, DraftState, DraftTransition};

@@ -1,60 +1,51 @@
 //! Reading declarations and transitions.
 
 ghost use Rattle.std.specs.Prelude.{◌≡◌, MatchResult};
-ghost use Rattle.grammar.specs.Grammar.{many};
 ghost use Rattle.grammar.specs.Read.{read, starts};
 ghost use Rattle.sc_text.specs.Expression.{text_tokens, after, expression};
 ghost use Rattle.sc_text.specs.Reading.{Stops};
-ghost use Rattle.chart_drafts.specs.ChartText.{the_sign, declaration, placed, effect, next_effect, some_effects};
+ghost use Rattle.chart_drafts.specs.ChartText.{the_sign, declaration, placed, effect, some_effects};
 ghost use Rattle.chart_drafts.specs.ChartText.{effects, target, trigger, outcome};
 ghost use Rattle.chart_drafts.specs.ChartText.{termination, tested, transition_first};
 ghost use Rattle.chart_drafts.specs.ChartText.{transition, leaving};
+ghost use Rattle.chart_drafts.specs.PartsRead.{Fills};
 ghost use Rattle.chart_drafts.specs.Phrase.{Gives};
-ghost use Rattle.chart_drafts.specs.Inside.{Fills};
 
 use crate::ahead::{Ahead, skip_sign};
 use crate::draft::{DraftEffect, DraftTransition};
+use crate::rows::{Part, RowPart, listed, listed_behind, put_row};
 use crate::words::{
     declared_kind, declared_role, flag, join_word, last_name, name, role_follows, tested_word,
     tested_word_follows,
 };
 use drafts::{Declaration, Named, TextExpression};
-use sc_text::ahead::{behind, place, sign_follows, word_follows};
+use sc_text::ahead::{behind, place, word_follows};
 use sc_text::{ReadFault, Sign, Token, Word, expression};
 use sqlite_items::Items;
 use std::alloc::Global;
 
-/// Puts the declarations of a chart behind others.
-pub(crate) fn declarations(
-    ahead: &mut Ahead,
-    end: usize,
-    found: &mut Items<Declaration>,
-) -> Result<(), ReadFault>
-    ensures { MatchResult result
-        (λ _. Fills (read (many declaration) ahead.old.tokens.now) found.old found.new ahead.new.tokens.now)
-        (λ fault. Stops end (read (many declaration) ahead.old.tokens.now) fault) }
-{
-    let most = ahead.tokens.len();
-    for used in 0..most {
-        if !role_follows(ahead.tokens) {
-            return Ok(());
-        }
-        let next = declaration(ahead, end)?;
-        found.push(next)?;
+/// The declarations of a chart.
+pub(crate) struct Declarations;
+
+impl Part for Declarations {
+    type Read = Declaration;
+
+    ghost phrase = { declaration };
+
+    #[tactic(auto, using(crate::proofs::Pieces::declaration_gives, crate::proofs::Parts::made_stops, crate::proofs::Parts::seq_stops_first, crate::proofs::Parts::seq_stops_second), unfolding(crate::specs::ChartText::declaration))]
+    fn take(alloc: Global, ahead: &mut Ahead, end: usize) -> Result<Declaration, ReadFault> {
+        let role = declared_role(ahead, end)?;
+        let kind = declared_kind(ahead, end)?;
+        let named = last_name(ahead, end)?;
+        Ok(Declaration { role, kind, named })
     }
-    Ok(())
 }
 
-#[tactic(auto, using(crate::proofs::Pieces::declaration_gives, crate::proofs::Parts::made_stops, crate::proofs::Parts::seq_stops_first, crate::proofs::Parts::seq_stops_second), unfolding(crate::specs::ChartText::declaration))]
-fn declaration(ahead: &mut Ahead, end: usize) -> Result<Declaration, ReadFault>
-    ensures { MatchResult result
-        (λ x. Gives (read declaration ahead.old.tokens.now) x ahead.new.tokens.now)
-        (λ fault. Stops end (read declaration ahead.old.tokens.now) fault) }
-{
-    let role = declared_role(ahead, end)?;
-    let kind = declared_kind(ahead, end)?;
-    let named = last_name(ahead, end)?;
-    Ok(Declaration { role, kind, named })
+impl RowPart for Declarations {
+    #[tactic(auto, unfolding(crate::specs::ChartText::declaration))]
+    fn follows(tokens: &[Token]) -> bool {
+        role_follows(tokens)
+    }
 }
 
 /// An expression with its place.
@@ -82,29 +73,24 @@ pub fn value(alloc: Global, ahead: &mut Ahead, end: usize) -> Result<TextExpress
     placed(alloc, ahead, end)
 }
 
-#[tactic(auto, using(crate::proofs::Pieces::effect_gives, crate::proofs::Parts::made_stops, crate::proofs::Parts::seq_stops_first, crate::proofs::Parts::seq_stops_second), unfolding(crate::specs::ChartText::effect))]
-fn effect(alloc: Global, ahead: &mut Ahead, end: usize) -> Result<DraftEffect, ReadFault>
-    ensures { MatchResult result
-        (λ x. Gives (read (effect (expression 0)) ahead.old.tokens.now) x ahead.new.tokens.now)
-        (λ fault. Stops end (read (effect (expression 0)) ahead.old.tokens.now) fault) }
-{
-    let variable = name(ahead, end)?;
-    let value = value(alloc, ahead, end)?;
-    Ok(DraftEffect { variable, value })
-}
+// What a transition does.
+struct ListedEffects;
 
-#[tactic(auto, using(crate::proofs::Parts::after_stops_first), unfolding(crate::specs::ChartText::next_effect))]
-fn next_effect(alloc: Global, ahead: &mut Ahead, end: usize) -> Result<DraftEffect, ReadFault>
-    ensures { MatchResult result
-        (λ x. Gives (read (next_effect (expression 0)) ahead.old.tokens.now) x ahead.new.tokens.now)
-        (λ fault. Stops end (read (next_effect (expression 0)) ahead.old.tokens.now) fault) }
-{
-    skip_sign(ahead, end, Sign::Comma)?;
-    effect(alloc, ahead, end)
+impl Part for ListedEffects {
+    type Read = DraftEffect;
+
+    ghost phrase = { effect (expression 0) };
+
+    #[tactic(auto, using(crate::proofs::Pieces::effect_gives, crate::proofs::Parts::made_stops, crate::proofs::Parts::seq_stops_first, crate::proofs::Parts::seq_stops_second), unfolding(crate::specs::ChartText::effect))]
+    fn take(alloc: Global, ahead: &mut Ahead, end: usize) -> Result<DraftEffect, ReadFault> {
+        let variable = name(ahead, end)?;
+        let value = value(alloc, ahead, end)?;
+        Ok(DraftEffect { variable, value })
+    }
 }
 
 /// The assignments behind the word `do`.
-#[tactic(auto, using(crate::proofs::Filling::fills_alone))]
+#[tactic(auto, unfolding(crate::specs::ChartText::some_effects, crate::specs::ChartText::next_effect))]
 pub fn some_effects(
     alloc: Global,
     ahead: &mut Ahead,
@@ -114,46 +100,16 @@ pub fn some_effects(
         (λ x. Gives (read (some_effects (expression 0)) ahead.old.tokens.now) x ahead.new.tokens.now)
         (λ fault. Stops end (read (some_effects (expression 0)) ahead.old.tokens.now) fault) }
 {
-    let mut found = Items::new(alloc);
-    put_effects(alloc, ahead, end, &mut found)?;
-    Ok(found)
+    listed::<ListedEffects>(alloc, ahead, end)
 }
 
-#[tactic(auto, using(crate::proofs::Pieces::no_first_effect))]
-fn put_effects(
-    alloc: Global,
-    ahead: &mut Ahead,
-    end: usize,
-    found: &mut Items<DraftEffect>,
-) -> Result<(), ReadFault>
-    ensures { MatchResult result
-        (λ _. Fills (read (some_effects (expression 0)) ahead.old.tokens.now) found.old found.new ahead.new.tokens.now)
-        (λ fault. Stops end (read (some_effects (expression 0)) ahead.old.tokens.now) fault) }
-{
-    let first = effect(alloc, ahead, end)?;
-    found.push(first)?;
-    let most = ahead.tokens.len();
-    for used in 0..most {
-        if !sign_follows(ahead.tokens, Sign::Comma) {
-            return Ok(());
-        }
-        let next = next_effect(alloc, ahead, end)?;
-        found.push(next)?;
-    }
-    Ok(())
-}
-
-#[tactic(auto, using(crate::proofs::Pieces::effects_missing))]
+#[tactic(auto, unfolding(crate::specs::ChartText::effects, crate::specs::ChartText::some_effects, crate::specs::ChartText::next_effect))]
 fn effects(alloc: Global, ahead: &mut Ahead, end: usize) -> Result<Items<DraftEffect>, ReadFault>
     ensures { MatchResult result
         (λ x. Gives (read (effects (expression 0)) ahead.old.tokens.now) x ahead.new.tokens.now)
         (λ fault. Stops end (read (effects (expression 0)) ahead.old.tokens.now) fault) }
 {
-    if !word_follows(ahead.tokens, Word::Do) {
-        return Ok(Items::new(alloc));
-    }
-    ahead.tokens = behind(ahead.tokens);
-    some_effects(alloc, ahead, end)
+    listed_behind::<ListedEffects>(alloc, ahead, end, Word::Do)
 }
 
 #[tactic(auto, using(crate::proofs::Parts::after_stops_first), unfolding(crate::specs::ChartText::target))]
@@ -244,44 +200,34 @@ fn tested(alloc: Global, ahead: &mut Ahead, end: usize) -> Result<DraftTransitio
     })
 }
 
-fn transition(alloc: Global, ahead: &mut Ahead, end: usize) -> Result<DraftTransition, ReadFault>
-    ensures { MatchResult result
-        (λ x. Gives (read (transition (expression 0)) ahead.old.tokens.now) x ahead.new.tokens.now)
-        (λ fault. Stops end (read (transition (expression 0)) ahead.old.tokens.now) fault) }
-{
-    if word_follows(ahead.tokens, Word::Join) {
-        return termination(alloc, ahead, end);
+// The transitions of a state.
+struct Transitions;
+
+impl Part for Transitions {
+    type Read = DraftTransition;
+
+    ghost phrase = { transition (expression 0) };
+
+    fn take(alloc: Global, ahead: &mut Ahead, end: usize) -> Result<DraftTransition, ReadFault> {
+        if word_follows(ahead.tokens, Word::Join) {
+            return termination(alloc, ahead, end);
+        }
+        tested(alloc, ahead, end)
     }
-    tested(alloc, ahead, end)
 }
 
-// Whether a transition is next.
-fn transition_follows(tokens: &[Token]) -> bool
+impl RowPart for Transitions {
+    #[tactic(auto, unfolding(crate::specs::ChartText::transition, crate::specs::ChartText::termination, crate::specs::ChartText::tested))]
+    fn follows(tokens: &[Token]) -> bool {
+        transition_follows(tokens)
+    }
+}
+
+/// Whether a transition is next.
+pub fn transition_follows(tokens: &[Token]) -> bool
     ensures { result ≡ starts text_tokens transition_first tokens.now }
 {
     word_follows(tokens, Word::Join) || tested_word_follows(tokens)
-}
-
-fn transitions(
-    alloc: Global,
-    ahead: &mut Ahead,
-    end: usize,
-    found: &mut Items<DraftTransition>,
-) -> Result<(), ReadFault>
-    ensures { MatchResult result
-        (λ _. Fills (read (many (transition (expression 0))) ahead.old.tokens.now)
-        found.old found.new ahead.new.tokens.now)
-        (λ fault. Stops end (read (many (transition (expression 0))) ahead.old.tokens.now) fault) }
-{
-    let most = ahead.tokens.len();
-    for used in 0..most {
-        if !transition_follows(ahead.tokens) {
-            return Ok(());
-        }
-        let next = transition(alloc, ahead, end)?;
-        found.push(next)?;
-    }
-    Ok(())
 }
 
 /// Puts the transitions of a state behind others, up to the brace that closes it.
@@ -296,6 +242,6 @@ pub(crate) fn leaving(
         (λ _. Fills (read (leaving (expression 0)) ahead.old.tokens.now) found.old found.new ahead.new.tokens.now)
         (λ fault. Stops end (read (leaving (expression 0)) ahead.old.tokens.now) fault) }
 {
-    transitions(alloc, ahead, end, found)?;
+    put_row::<Transitions>(alloc, ahead, end, found)?;
     skip_sign(ahead, end, Sign::CloseBrace)
 }

@@ -14,7 +14,8 @@ ghost use Rattle.chart_drafts.specs.Inside.{FillsBoth};
 use crate::ahead::{Ahead, skip_sign};
 use crate::draft::{DraftChart, DraftRegion};
 use crate::regions::regions;
-use crate::transitions::declarations;
+use crate::rows::put_row;
+use crate::transitions::Declarations;
 use crate::words::title;
 use drafts::Declaration;
 use sc_text::ahead::wrong;
@@ -108,6 +109,6 @@ fn parts(
         (listed (region (expression 0) (within (expression 0) inner_depth_limit))
         (region (expression 0) (within (expression 0) inner_depth_limit)))) ahead.old.tokens.now) fault) }
 {
-    declarations(ahead, end, variables)?;
+    put_row::<Declarations>(alloc, ahead, end, variables)?;
     regions(alloc, INNER_LEVELS, ahead, end, found)
 }

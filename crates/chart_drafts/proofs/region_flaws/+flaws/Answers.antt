@@ -35,9 +35,8 @@ each_region_flaws-loop-at-preserved t c =
     let region = c.index-regions-at.result in
     let is : slice_get c.args.regions.now c.loop-at.at ≡ Some region = slice_get_read _ _ _ _ refl c.loop-at-test.true c.index-regions-at.is in
     region_noted c.args.scope.now.variables.now (nested_flaws c.args.scope.now.variables.now c.args.levels)
-    c.args.names.now.names c.args.regions.now c.loop-at.at region _ _ _ _ _ _ _ _ _ is refl
-    c.is_repeated-is_repeated.ensures c.in_ok-note_told.ensures c.is_full-is_past.ensures c.in_ok-note_told-2.ensures
-    c.in_ok-initial_flaws.ensures c.as_slice-states.ensures c.in_ok-state_flaws.ensures
+    c.args.names.now.names c.args.regions.now c.loop-at.at region _ _ _ _ _ _ is refl
+    c.in_ok-place_flaws.ensures c.in_ok-initial_flaws.ensures c.as_slice-states.ensures c.in_ok-state_flaws.ensures
     ∙ c.loop-at.invariant
 
 pub each_state_flaws-loop-at-preserved : goal.each_state_flaws-loop-at-preserved

@@ -9,5 +9,5 @@ use Rattle.chart_drafts.proofs.transitions.leaving.Goals as goal
 pub returns : goal.returns
 unfolding leaving
 returns c =
-    either_way _ c.skip_sign.ensures (λ x. before_fills (the_sign sign.CloseBrace) (many (transition (expression 0))) _ _ _ _ c.in_ok-transitions.ensures _)
-    (λ f. before_fills_stops (the_sign sign.CloseBrace) (many (transition (expression 0))) _ _ _ _ c.in_ok-transitions.ensures _ f)
+    either_way _ c.skip_sign.ensures (λ x. before_fills (the_sign sign.CloseBrace) (many (transition (expression 0))) _ _ _ _ c.in_ok-put_row.ensures _)
+    (λ f. before_fills_stops (the_sign sign.CloseBrace) (many (transition (expression 0))) _ _ _ _ c.in_ok-put_row.ensures _ f)

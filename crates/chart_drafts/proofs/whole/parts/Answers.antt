@@ -9,7 +9,7 @@ use Rattle.chart_drafts.proofs.whole.parts.Goals as goal
 pub returns : goal.returns
 returns c =
     either_way _ c.regions.ensures
-    (λ x. seq_fills (many declaration) (regions_of inner_depth_limit) c.args.ahead.now.tokens.now c.declarations.new.ahead.tokens.now c.args.variables.now
-    c.declarations.new.found c.in_ok-declarations.ensures c.regions.new.ahead.tokens.now c.args.found.now c.regions.new.found)
-    (λ f. seq_fills_stops (many declaration) (regions_of inner_depth_limit) c.args.ahead.now.tokens.now c.declarations.new.ahead.tokens.now
-    c.args.variables.now c.declarations.new.found c.in_ok-declarations.ensures c.args.end f)
+    (λ x. seq_fills (many declaration) (regions_of inner_depth_limit) c.args.ahead.now.tokens.now c.put_row.new.ahead.tokens.now c.args.variables.now
+    c.put_row.new.found c.in_ok-put_row.ensures c.regions.new.ahead.tokens.now c.args.found.now c.regions.new.found)
+    (λ f. seq_fills_stops (many declaration) (regions_of inner_depth_limit) c.args.ahead.now.tokens.now c.put_row.new.ahead.tokens.now
+    c.args.variables.now c.put_row.new.found c.in_ok-put_row.ensures c.args.end f)

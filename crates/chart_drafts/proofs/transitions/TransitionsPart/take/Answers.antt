@@ -5,7 +5,7 @@ use Rattle.chart_drafts.specs.ChartText.{the_word}
 use Rattle.sc_text.specs.Expression.{text_tokens}
 use Rattle.chart_drafts.proofs.Same.{same_reading}
 use Rattle.chart_drafts.proofs.Pieces.{is_termination, is_tested}
-use Rattle.chart_drafts.proofs.transitions.transition.Goals as goal
+use Rattle.chart_drafts.proofs.transitions.TransitionsPart.take.Goals as goal
 
 pub returns-then-word_follows : goal.returns-then-word_follows
 returns-then-word_follows c =
