@@ -1,36 +1,30 @@
 -- What reading gives for each rule of effects.
 use Rattle.std.proofs.Common.{◌≡◌, ℕ, ◌-◌, true, false, Some, None, List, [], ◌∷◌, ◌++◌, length, drop, refl, sym, ◌∙◌, ap, subst}
-use Rattle.grammar.specs.Grammar.{seq, either, maybe}
-use Rattle.grammar.specs.Read.{Outcome, Got, Failed, starts, next, choose, read}
+use Rattle.grammar.specs.Grammar.{seq, either}
+use Rattle.grammar.specs.Read.{starts, read}
 use Rattle.sc_values.specs.declared.operator.BinaryOperator.{BinaryOperator}
 use Rattle.sc_text.specs.declared.sign.Sign.TheVariants as sign
 use Rattle.sc_text.specs.declared.token.Token.{Token}
 use Rattle.sc_text.specs.declared.read_fault.ReadFault.{ReadFault}
-use Rattle.sc_text.specs.declared.word.Word.TheVariants as word
 use Rattle.sc_text.specs.Phrases.{Phrase}
 use Rattle.sc_text.specs.Expression.{text_tokens, after, expression}
 use Rattle.sc_text.specs.Reading.{Stops}
 use Rattle.sc_text.proofs.Shapes.{expression_is}
-use Rattle.sc_text.proofs.Steps.{one_taken, stops_as}
+use Rattle.sc_text.proofs.Steps.{stops_as}
 use Rattle.drafts.specs.declared.parts.Named.{Named}
 use Rattle.drafts.specs.declared.parts.TextExpression.{TextExpression}
-use Rattle.drafts.specs.Parts.{or_none}
 use Rattle.chart_drafts.specs.declared.draft.DraftEffect.{DraftEffect}
-use Rattle.chart_drafts.specs.ChartText.{Grows, the_word, the_sign, name, placed}
-use Rattle.extended_drafts.specs.Inside.{IsPutting, put_one}
-use Rattle.extended_drafts.proofs.Putting.{put_first, one_put}
+use Rattle.chart_drafts.specs.ChartText.{Grows, the_sign, name, placed}
 use Rattle.chart_drafts.specs.Phrase.{Gives}
-use Rattle.chart_drafts.proofs.Parts.{seq_gives, made_gives, made_stops, maybe_none, left_read}
+use Rattle.chart_drafts.proofs.Parts.{seq_gives, made_gives, made_stops, left_read}
 use Rattle.chart_drafts.proofs.Parts.{right_read, gives_as}
-use Rattle.chart_drafts.proofs.RowReading.{listed_stops}
 use Rattle.extended_drafts.specs.declared.draft.CompoundSign.{CompoundSign}
 use Rattle.extended_drafts.specs.declared.draft.EffectEnd.{EffectEnd}
 use Rattle.extended_drafts.specs.declared.draft.EffectEnd.TheVariants as ends
 use Rattle.extended_drafts.specs.Draft.{combination, effect_with}
 use Rattle.extended_drafts.specs.ExtendedText.{combining_signs, combiner, equals, combining, to_combination, combined}
-use Rattle.extended_drafts.specs.ExtendedText.{to_value, to_name, becoming, emitting, effect_end, effect, next_effect, some_effects, effects}
-use Rattle.extended_drafts.proofs.Shapes.{becoming_is, combined_is, next_effect_is}
-use Rattle.chart_drafts.proofs.Same.{after_read}
+use Rattle.extended_drafts.specs.ExtendedText.{to_value, to_name, becoming, emitting, effect_end, effect}
+use Rattle.extended_drafts.proofs.Shapes.{becoming_is, combined_is}
 
 abbrev e0 : Grows Phrase
 e0 = expression 0
@@ -105,41 +99,3 @@ unfolding effect
 effect_gives text a rest n b x p q e =
     subst (λ z. Gives (read (effect e0) text) z rest) (sym e)
     (made_gives (λ x. effect_with x.0 x.1) (seq name (effect_end e0)) text (n, b) rest (seq_gives name (effect_end e0) text a rest n b p q))
-
--- ---- effects
-
-pub effects_put : (text rest : List Token) (x : DraftEffect) (most : ℕ) (old found : List DraftEffect) → Gives (read (effect e0) text) x rest
-    → most ≡ length rest → found ≡ old ++ x ∷ [] → IsPutting (read (some_effects e0) text) (next_effect e0) (the_sign sign.Comma) put_one old found
-    (most - 0) rest
-unfolding some_effects
-effects_put text rest x most old found r e f =
-    put_first put_one (next_effect e0) (the_sign sign.Comma) (next_effect_is e0 (expression_is 0)).begins (effect e0) text rest most old found
-    (one_put (read (effect e0) text) x rest old found r f) e
-
-pub no_first_effect : (text : List Token) (end : ℕ) (f : ReadFault) → Stops end (read (effect e0) text) f → Stops end (read (some_effects e0) text) f
-unfolding some_effects
-no_first_effect text end f s = listed_stops (next_effect e0) (effect e0) text end f s
-
-abbrev outcomes : Grows (List DraftEffect)
-outcomes = after (the_word word.Do) (some_effects e0)
-
-pub effects_missing : (text : List Token) (none : List DraftEffect) → starts text_tokens (the_word word.Do) text ≡ false → none ≡ []
-    → Gives (read (effects e0) text) none text
-unfolding effects
-effects_missing text none e n =
-    subst (λ d. Gives (read (effects e0) text) d text) (sym n)
-    (made_gives or_none (maybe outcomes) text None text (maybe_none outcomes (the_word word.Do) refl text e))
-
--- what is there where something may be missing is read alone
-there_alone : (o : Outcome Token (List DraftEffect)) → next (next o (λ a end. Got (Some a) end)) (λ x end. Got (or_none x) end) ≡ o
-there_alone (Got a rest) = refl
-there_alone (Failed flaw rest) = refl
-
-pub effects_read : (text more : List Token) → starts text_tokens (the_word word.Do) text ≡ true → more ≡ drop 1 text → read (effects e0) text
-    ≡ read (some_effects e0) more
-unfolding effects
-effects_read text more e d =
-    ap (λ c. next (choose c (next (read outcomes text) (λ a end. Got (Some a) end)) (Got None text)) (λ x end. Got (or_none x) end)) e
-    ∙ ap (λ o. next (next o (λ a end. Got (Some a) end)) (λ x end. Got (or_none x) end))
-    (after_read (the_word word.Do) (some_effects e0) text more (one_taken (the_word word.Do) text more e d))
-    ∙ there_alone (read (some_effects e0) more)

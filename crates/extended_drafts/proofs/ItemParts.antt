@@ -16,11 +16,9 @@ use Rattle.sc_text.proofs.Steps.{one_taken, stops_as}
 use Rattle.drafts.specs.declared.parts.Named.{Named}
 use Rattle.drafts.specs.declared.parts.TextExpression.{TextExpression}
 use Rattle.chart_drafts.specs.ChartText.{Grows, the_sign, roles, declared_role, declared_kind, name, last_name, placed}
-use Rattle.extended_drafts.specs.Inside.{IsPutting, put_one}
 use Rattle.chart_drafts.specs.Phrase.{Gives}
 use Rattle.chart_drafts.proofs.Parts.{seq_gives, made_gives, made_stops, after_gives, after_stops_second, maybe_none, maybe_some, maybe_stops, left_read}
 use Rattle.chart_drafts.proofs.Parts.{right_read, gives_as}
-use Rattle.extended_drafts.proofs.Putting.{put_none}
 use Rattle.extended_drafts.specs.declared.draft.ItemBody.{ItemBody}
 use Rattle.extended_drafts.specs.declared.draft.DraftItem.{DraftItem}
 use Rattle.extended_drafts.specs.Draft.{typed_body, signal_body, plain_item, worded_item}
@@ -34,19 +32,15 @@ pub value_missing : (text : List Token) → starts text_tokens (the_sign sign.Be
 unfolding item_value
 value_missing text e = maybe_none (after (the_sign sign.Becomes) (placed e0)) (the_sign sign.Becomes) refl text e
 
-pub value_there : (text more rest : List Token) (x : TextExpression) → starts text_tokens (the_sign sign.Becomes) text ≡ true → more ≡ drop 1 text
-    → Gives (read (placed e0) more) x rest → Gives (read (item_value e0) text) (Some x) rest
+pub value_there : (text rest : List Token) (x : TextExpression) → starts text_tokens (the_sign sign.Becomes) text ≡ true
+    → Gives (read (after (the_sign sign.Becomes) (placed e0)) text) x rest → Gives (read (item_value e0) text) (Some x) rest
 unfolding item_value
-value_there text more rest x e d r =
-    maybe_some (after (the_sign sign.Becomes) (placed e0)) (the_sign sign.Becomes) refl text x rest e
-    (after_gives (the_sign sign.Becomes) (placed e0) text more rest x (one_taken (the_sign sign.Becomes) text more e d) r)
+value_there text rest x e r = maybe_some (after (the_sign sign.Becomes) (placed e0)) (the_sign sign.Becomes) refl text x rest e r
 
-pub value_stops : (text more : List Token) (end : ℕ) (f : ReadFault) → starts text_tokens (the_sign sign.Becomes) text ≡ true → more ≡ drop 1 text
-    → Stops end (read (placed e0) more) f → Stops end (read (item_value e0) text) f
+pub value_stops : (text : List Token) (end : ℕ) (f : ReadFault) → starts text_tokens (the_sign sign.Becomes) text ≡ true
+    → Stops end (read (after (the_sign sign.Becomes) (placed e0)) text) f → Stops end (read (item_value e0) text) f
 unfolding item_value
-value_stops text more end f e d s =
-    maybe_stops (after (the_sign sign.Becomes) (placed e0)) (the_sign sign.Becomes) refl text end f e
-    (after_stops_second (the_sign sign.Becomes) (placed e0) text more end f (one_taken (the_sign sign.Becomes) text more e d) s)
+value_stops text end f e s = maybe_stops (after (the_sign sign.Becomes) (placed e0)) (the_sign sign.Becomes) refl text end f e s
 
 -- ---- what is declared behind the first word
 
@@ -118,7 +112,3 @@ module _ (text : List Token) where
   pub is_worded : starts text_tokens roles text ≡ false → read (item e0) text ≡ read (worded e0) text
   unfolding item
   is_worded e = right_read (plain e0) roles (plain_is e0 (expression_is 0)).begins text (worded e0) e
-
-pub items_put : (text : List Token) (most : ℕ) (old : List DraftItem) → most ≡ length text
-    → IsPutting (read (many (item e0)) text) (item e0) item_first put_one old old (most - 0) text
-items_put text most old e = put_none put_one (item e0) item_first (item_is e0 (expression_is 0)).begins text most old e

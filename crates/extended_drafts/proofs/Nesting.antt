@@ -29,15 +29,16 @@ use Rattle.extended_drafts.specs.declared.draft.DraftEntry.{DraftEntry}
 use Rattle.extended_drafts.specs.declared.draft.DraftWay.{DraftWay}
 use Rattle.extended_drafts.specs.declared.draft.StateActions.{StateActions}
 use Rattle.extended_drafts.specs.declared.draft.DraftRows.{DraftRows}
-use Rattle.extended_drafts.specs.declared.draft.StateBody.{StateBody}
 use Rattle.extended_drafts.specs.declared.draft.ExtendedDraft.{ExtendedDraft}
-use Rattle.extended_drafts.specs.Draft.{no_rows, both_rows, gathered, body_of, actions_of, state_rows, state_with, region_with, draft_of}
+use Rattle.extended_drafts.specs.Draft.{StateBody, no_rows, both_rows, gathered, body_of, actions_of, state_rows, state_with, region_with, draft_of}
 use Rattle.chart_drafts.specs.Draft.{state_of, region_of}
 use Rattle.extended_drafts.specs.ExtendedText.{item, entry, leaving, rowed, bare, nested, inside, simple, acting, body, state, region, within, parts, extended}
 use Rattle.extended_drafts.specs.ExtendedText.{extended_text}
-use Rattle.extended_drafts.specs.Inside.{Puts, IsPutting, InState, put_list, put_ways, put_part, put_parts, put_inside, put_body}
+use Rattle.chart_drafts.specs.PartsRead.{Fills}
+use Rattle.chart_drafts.proofs.Filling.{fills_alone}
+use Rattle.extended_drafts.specs.Inside.{Puts, IsPutting, InState, put_ways, put_part, put_parts, put_inside, put_body}
 use Rattle.extended_drafts.proofs.Shapes.{nested_is, region_is, state_is, within_fits}
-use Rattle.extended_drafts.proofs.Putting.{put_first, put_alone}
+use Rattle.extended_drafts.proofs.Putting.{put_first}
 use Rattle.chart_drafts.proofs.Same.{after_read}
 
 abbrev pub e0 : Grows Phrase
@@ -179,13 +180,13 @@ module _ (n : ℕ) (text : List Token) where
 
   -- what is in a state, behind its actions
   pub acting_puts : (a rest : List Token) (f : Bool) (none entries : List DraftEntry) (own : StateActions) (old new : InState) (rows : DraftRows)
-      → Puts (read (many (entry e0)) text) put_list none entries a → none ≡ [] → own ≡ actions_of f entries
+      → Fills (read (many (entry e0)) text) none entries a → none ≡ [] → own ≡ actions_of f entries
       → rows ≡ record { entries = old.1.entries ++ own ∷ []; ways = old.1.ways }
       → Puts (read (inside e0 (within e0 n)) a) put_inside (old.0, rows) new rest → Puts (read (acting e0 (within e0 n)) text) (put_body f) old new rest
   unfolding acting
   acting_puts a rest f none entries own old new rows s z y w q =
       let b = q.part in
-      let p = put_alone _ none entries a s z in
+      let p = fills_alone _ none entries a s z in
       let given = seq_gives (many (entry e0)) (inside e0 (within e0 n)) text a rest entries b p (record { is = q.is }) in
       record {
         part = (entries, b);
@@ -198,10 +199,10 @@ module _ (n : ℕ) (text : List Token) where
             (append_assoc old.1.entries (actions_of f entries ∷ []) b.rows.entries);
       }
 
-  pub inside_stops : (a : List Token) (none entries : List DraftEntry) (end : ℕ) (f : ReadFault) → Puts (read (many (entry e0)) text) put_list none entries a
+  pub inside_stops : (a : List Token) (none entries : List DraftEntry) (end : ℕ) (f : ReadFault) → Fills (read (many (entry e0)) text) none entries a
       → Stops end (read (inside e0 (within e0 n)) a) f → Stops end (read (acting e0 (within e0 n)) text) f
   unfolding acting
-  inside_stops a none entries end f p s = seq_stops_second (many (entry e0)) (inside e0 (within e0 n)) text a p.part end f (record { is = p.is }) s
+  inside_stops a none entries end f p s = seq_stops_second (many (entry e0)) (inside e0 (within e0 n)) text a p.more end f (record { is = p.is }) s
 
 -- ---- the regions and the transitions of a state
 
@@ -331,14 +332,14 @@ unfolding parts
 items_stop text end f s = seq_stops_first (many (item e0)) (regions_of inner_depth_limit) text end f s
 
 pub parts_stop : (text a : List Token) (nothing items : List DraftItem) (end : ℕ) (f : ReadFault)
-    → Puts (read (many (item e0)) text) put_list nothing items a → Stops end (read (regions_of inner_depth_limit) a) f
+    → Fills (read (many (item e0)) text) nothing items a → Stops end (read (regions_of inner_depth_limit) a) f
     → Stops end (read (parts e0 (within e0 inner_depth_limit)) text) f
 unfolding parts
 parts_stop text a nothing items end f p s =
-    seq_stops_second (many (item e0)) (regions_of inner_depth_limit) text a p.part end f (record { is = p.is }) s
+    seq_stops_second (many (item e0)) (regions_of inner_depth_limit) text a p.more end f (record { is = p.is }) s
 
 pub parts_give : (text a rest : List Token) (nothing items : List DraftItem) (none regions : List DraftRegion) (empty rows : DraftRows)
-    → Puts (read (many (item e0)) text) put_list nothing items a → nothing ≡ []
+    → Fills (read (many (item e0)) text) nothing items a → nothing ≡ []
     → Puts (read (regions_of inner_depth_limit) a) put_parts (none, empty) (regions, rows) rest → none ≡ []
     → empty ≡ no_rows → Gives (read (parts e0 (within e0 inner_depth_limit)) text) (items, (regions, rows)) rest
 unfolding parts
@@ -348,7 +349,7 @@ parts_give text a rest nothing items none regions empty rows p g q e f =
     let there : rows ≡ x.1 = ap (λ z. z.1) q.behind ∙ ap (λ r. both_rows r x.1) f in
     let is : read (regions_of inner_depth_limit) a ≡ Got (regions, rows) rest =
     q.is ∙ ap (λ l. Got (l, x.1) rest) (sym here) ∙ ap (λ l. Got (regions, l) rest) (sym there) in
-    seq_gives (many (item e0)) (regions_of inner_depth_limit) text a rest items (regions, rows) (put_alone _ nothing items a p g) (record { is = is })
+    seq_gives (many (item e0)) (regions_of inner_depth_limit) text a rest items (regions, rows) (fills_alone _ nothing items a p g) (record { is = is })
 
 abbrev to_draft : Named × (Named × Parts) → ExtendedDraft
 to_draft x = draft_of x.0 x.1.0 x.1.1

@@ -30,7 +30,7 @@ use Rattle.extended_drafts.specs.declared.draft.DraftWay.{DraftWay}
 use Rattle.extended_drafts.specs.Draft.{entry_of, count_of, delay_of, hold_of, or_next, way_of, delayed, ended}
 use Rattle.extended_drafts.specs.ExtendedText.{outcome, last_effects, entry, entry_first, some_count, counted, some_delay, at_once, waiting, pause}
 use Rattle.extended_drafts.specs.ExtendedText.{pause_first, tested, termination, transition}
-use Rattle.extended_drafts.specs.Inside.{IsPutting, put_one, put_way}
+use Rattle.extended_drafts.specs.Inside.{IsPutting, put_way}
 use Rattle.extended_drafts.proofs.Putting.{put_none}
 use Rattle.extended_drafts.proofs.Shapes.{entry_is, some_count_is, at_once_is, either_is, termination_is, transition_is}
 
@@ -48,10 +48,6 @@ entry_gives text a b c rest i n t d x y z w =
     made_gives (λ x. entry_of x.0 x.1.0 x.1.1.0 x.1.1.1) (seq (flag word.Immediate) (seq name (seq (trigger e0) outcomes))) text (i, (n, (t, d))) rest
     (seq_gives (flag word.Immediate) (seq name (seq (trigger e0) outcomes)) text a rest i (n, (t, d)) x
     (seq_gives name (seq (trigger e0) outcomes) a b rest n (t, d) y (seq_gives (trigger e0) outcomes b c rest t d z w)))
-
-pub entries_put : (text : List Token) (most : ℕ) (old : List DraftEntry) → most ≡ length text
-    → IsPutting (read (many (entry e0)) text) (entry e0) entry_first put_one old old (most - 0) text
-entries_put text most old e = put_none put_one (entry e0) entry_first (entry_is e0 (expression_is 0)).begins text most old e
 
 -- ---- what transitions wait
 

@@ -18,7 +18,7 @@ use Rattle.chart_drafts.proofs.RowReading.{many_goes, listed_goes, going_ends, g
 use Rattle.extended_drafts.specs.declared.draft.DraftWay.{DraftWay}
 use Rattle.extended_drafts.specs.declared.draft.DraftRows.{DraftRows}
 use Rattle.extended_drafts.specs.Draft.{both_rows, all_rows, gathered, parted}
-use Rattle.extended_drafts.specs.Inside.{Puts, IsPutting, put_each, put_one, put_list, put_way, put_ways, put_part, put_parts}
+use Rattle.extended_drafts.specs.Inside.{Puts, IsPutting, put_each, put_way, put_ways, put_part, put_parts}
 
 module _ {A S : Type 0} (put : A → S → S) where
   put_more : (s : S) (xs : List A) (x : A) → put_each put s (xs ++ x ∷ []) ≡ put x (put_each put s xs)
@@ -65,33 +65,6 @@ module _ {A S : Type 0} (put : A → S → S) where
             → starts text_tokens ks rest ≡ true → Stops end (read g rest) f → Stops end (next o (λ xs r. Got (F xs) r)) f
         putting_stops most used rest end f lt i e t =
             next_stops end o (λ xs r. Got (F xs) r) f (going_stops g ks o i.done most used rest end f lt i.going e t)
-
--- ---- rows of phrases
-
-lists_put : {A : Type 0} (xs s : List A) → put_each put_one s xs ≡ put_list xs s
-lists_put [] s = sym (append-nil s)
-lists_put (x ∷ xs) s = lists_put xs (s ++ x ∷ []) ∙ append_assoc s (x ∷ []) xs
-
-module _ {A : Type 0} (o : Outcome Token A) (x : A) (rest : List Token) (old new : List A) where
-  pub one_put : Gives o x rest → new ≡ old ++ x ∷ [] → Puts o put_one old new rest
-  one_put r e = record { part = x; is = r.is; behind = e }
-
-module _ {A : Type 0} (o : Outcome Token (List A)) (none new : List A) (rest : List Token) where
-  pub put_alone : Puts o put_list none new rest → none ≡ [] → Gives o new rest
-  put_alone p e = record { is = p.is ∙ ap (λ l. Got l rest) (sym (p.behind ∙ ap (λ l. l ++ p.part) e)) }
-
-module _ {A : Type 0} (g : Grows A) (ks : List Class) (o : Outcome Token (List A)) (old s : List A) where
-  pub row_ends : (left : ℕ) (rest : List Token) → IsPutting o g ks put_one old s left rest → starts text_tokens ks rest ≡ false → Puts o put_list old s rest
-  row_ends left rest i e =
-      let r = going_ends g ks o i.done left rest i.going e in record { part = i.done; is = r.is; behind = i.behind ∙ lists_put i.done old }
-
-  pub row_over : (most used : ℕ) (rest : List Token) → most ≤ used → IsPutting o g ks put_one old s (most - used) rest → Puts o put_list old s rest
-  row_over most used rest le i =
-      let r = going_over g ks o i.done most used rest le i.going in record { part = i.done; is = r.is; behind = i.behind ∙ lists_put i.done old }
-
-  pub row_stops : (most used : ℕ) (rest : List Token) (end : ℕ) (f : ReadFault) → used < most → IsPutting o g ks put_one old s (most - used) rest
-      → starts text_tokens ks rest ≡ true → Stops end (read g rest) f → Stops end o f
-  row_stops most used rest end f lt i e t = going_stops g ks o i.done most used rest end f lt i.going e t
 
 -- ---- transitions with what is new of them
 

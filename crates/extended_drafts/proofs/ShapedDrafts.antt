@@ -27,12 +27,12 @@ use Rattle.chart_drafts.proofs.ShapedDrafts.{listed_kept, none_shaped, state_sha
 use Rattle.extended_drafts.specs.declared.draft.DraftEntry.{DraftEntry}
 use Rattle.extended_drafts.specs.declared.draft.DraftWay.{DraftWay}
 use Rattle.extended_drafts.specs.declared.draft.DraftRows.{DraftRows}
-use Rattle.extended_drafts.specs.declared.draft.StateBody.{StateBody}
 use Rattle.extended_drafts.specs.declared.draft.ExtendedDraft.{ExtendedDraft}
 use Rattle.extended_drafts.specs.declared.draft.ItemBody.{ItemBody}
 use Rattle.extended_drafts.specs.declared.draft.EffectEnd.{EffectEnd}
 use Rattle.extended_drafts.specs.declared.draft.EffectEnd.TheVariants as ends
-use Rattle.extended_drafts.specs.Draft.{typed_body, signal_body, plain_item, worded_with, worded_item, effect_with, ended, all_rows, gathered, parted, body_of}
+use Rattle.extended_drafts.specs.Draft.{StateBody, typed_body, signal_body, plain_item, worded_with, worded_item, effect_with, ended, all_rows, gathered}
+use Rattle.extended_drafts.specs.Draft.{parted, body_of}
 use Rattle.extended_drafts.specs.Draft.{state_with, region_with, draft_of}
 use Rattle.extended_drafts.specs.ExtendedText.{typed, signalled, bare_signal, plain_body, worded_body, plain, worded, item, to_value, to_name}
 use Rattle.extended_drafts.specs.ExtendedText.{combining, to_combination, combined, becoming, emitting, effect_end, effect, next_effect, some_effects}

@@ -10,7 +10,8 @@ use Rattle.sc_text.specs.Expression.{expression}
 use Rattle.sc_text.proofs.Shapes.{expression_tails, expression_is}
 use Rattle.chart_drafts.specs.declared.draft.DraftRegion.{DraftRegion}
 use Rattle.chart_drafts.specs.ChartText.{Grows, the_word, the_sign, roles, kinds, last_name, tested_words, transition_first, state_first}
-use Rattle.chart_drafts.proofs.Shapes.{IsExpression, leaving_first, name_is, flag_is, placed_is, trigger_is}
+use Rattle.chart_drafts.proofs.Shapes.{IsExpression, leaving_first, name_is, last_name_is, title_is, braced_is, flag_is, marked_is, placed_is}
+use Rattle.chart_drafts.proofs.Shapes.{trigger_is}
 use Rattle.extended_drafts.specs.declared.draft.DraftRows.{DraftRows}
 use Rattle.extended_drafts.specs.ExtendedText.{item_first, item_value, last_value, typed, signalled, bare_signal, plain_body, worded_body, plain, worded, item}
 use Rattle.extended_drafts.specs.ExtendedText.{combining_signs, combining, combined, becoming, emitting, effect_end, effect, next_effect, some_effects}
@@ -27,10 +28,6 @@ pub data Fits : Inner → Type 1 where
   in_more : (r : Grows (DraftRegion × DraftRows)) → IsRegion r → Fits (Nested r)
 
 -- ---- items
-
-last_name_is : Shaped last_name false (AName ∷ []) []
-unfolding last_name
-last_name_is = shaped_made _ _ _ _ _ _ _ (shaped_seq _ _ _ _ _ _ _ _ _ _ name_is (shaped_one _ refl) refl)
 
 pub signalled_is : Shaped signalled false (AName ∷ []) []
 unfolding signalled
@@ -243,15 +240,7 @@ module _ (e : Grows Phrase) (h : IsExpression e) where
 
   pub state_is : (inner : Inner) → Fits inner → Shaped (state e inner) false state_first []
   unfolding state
-  state_is inner f =
-      shaped_made _ _ _ _ _ _ _
-      (shaped_seq _ _ _ _ _ _ _ _ _ _ (flag_is word.Initial)
-      (shaped_seq _ _ _ _ _ _ _ _ _ _ (flag_is word.Final)
-      (shaped_seq _ _ _ _ _ _ _ _ _ _
-      (shaped_made _ _ _ _ _ _ _ (shaped_seq _ _ _ _ _ _ _ _ _ _ (shaped_one _ refl) name_is refl))
-      (body_is inner f) refl)
-      refl)
-      refl)
+  state_is inner f = shaped_made _ _ _ _ _ _ _ (marked_is (body e inner) _ (body_is inner f))
 
   states_are : (inner : Inner) → Fits inner → Shaped (rowed (state e inner)) false state_first state_first
   states_are inner f =
@@ -263,14 +252,7 @@ module _ (e : Grows Phrase) (h : IsExpression e) where
   unfolding region
   region_is inner f =
       shaped_made _ _ _ _ _ _ _
-      (shaped_seq _ _ _ _ _ _ _ _ _ _
-      (shaped_made _ _ _ _ _ _ _ (shaped_seq _ _ _ _ _ _ _ _ _ _ (shaped_one _ refl) name_is refl))
-      (shaped_made _ _ _ _ _ _ _
-      (shaped_seq _ _ _ _ _ _ _ _ _ _ (shaped_one _ refl)
-      (shaped_made _ _ _ _ _ _ _
-      (shaped_seq _ _ _ _ _ _ _ _ _ _ (states_are inner f) (shaped_one _ refl) refl))
-      refl))
-      refl)
+      (shaped_seq _ _ _ _ _ _ _ _ _ _ (title_is word.Region) (braced_is (rowed (state e inner)) _ _ (states_are inner f) refl) refl)
 
   pub within_fits : (n : ℕ) → Fits (within e n)
   unfolding within
@@ -294,14 +276,7 @@ module _ (e : Grows Phrase) (h : IsExpression e) where
   extended_is inner f =
       shaped_made _ _ _ _ _ _ _
       (shaped_seq _ _ _ _ _ _ _ _ _ _ name_is
-      (shaped_seq _ _ _ _ _ _ _ _ _ _
-      (shaped_made _ _ _ _ _ _ _ (shaped_seq _ _ _ _ _ _ _ _ _ _ (shaped_one _ refl) name_is refl))
-      (shaped_made _ _ _ _ _ _ _
-      (shaped_seq _ _ _ _ _ _ _ _ _ _ (shaped_one _ refl)
-      (shaped_made _ _ _ _ _ _ _
-      (shaped_seq _ _ _ _ _ _ _ _ _ _ (parts_are inner f) (shaped_one _ refl) refl))
-      refl))
-      refl)
+      (shaped_seq _ _ _ _ _ _ _ _ _ _ (title_is word.Chart) (braced_is (parts e inner) _ _ (parts_are inner f) refl) refl)
       refl)
 
 pub extended_text_is : (k : ℕ) → Shaped (extended_text k) false (AName ∷ []) []

@@ -33,7 +33,6 @@ use Rattle.extended_drafts.specs.declared.draft.DraftDelay.{DraftDelay}
 use Rattle.extended_drafts.specs.declared.draft.DraftLead.{DraftLead}
 use Rattle.extended_drafts.specs.declared.draft.DraftWay.{DraftWay}
 use Rattle.extended_drafts.specs.declared.draft.DraftRows.{DraftRows}
-use Rattle.extended_drafts.specs.declared.draft.StateBody.{StateBody}
 use Rattle.extended_drafts.specs.declared.draft.ExtendedDraft.{ExtendedDraft}
 
 -- ---- items
@@ -146,6 +145,13 @@ abbrev pub parted : {A B : Type 0} → List (A × B) → List A × List B
 parted parts = (map (λ x. x.0) parts, map (λ x. x.1) parts)
 
 -- ---- states, regions and charts
+
+-- what is in a state behind its actions: its regions with their rows, its transitions, and what is new of these
+pub record StateBody : Type 0 where
+  pub regions : List DraftRegion
+  pub rows : DraftRows
+  pub transitions : List DraftTransition
+  pub ways : List DraftWay
 
 abbrev pub body_of : List DraftRegion × DraftRows → List DraftTransition × List DraftWay → StateBody
 body_of regions transitions =

@@ -45,9 +45,9 @@ use Rattle.extended_drafts.specs.declared.draft.DraftDelay.{DraftDelay}
 use Rattle.extended_drafts.specs.declared.draft.DraftLead.{DraftLead}
 use Rattle.extended_drafts.specs.declared.draft.DraftWay.{DraftWay}
 use Rattle.extended_drafts.specs.declared.draft.DraftRows.{DraftRows}
-use Rattle.extended_drafts.specs.declared.draft.StateBody.{StateBody}
 use Rattle.extended_drafts.specs.declared.draft.ExtendedDraft.{ExtendedDraft}
-use Rattle.extended_drafts.specs.Draft.{typed_body, signal_body, plain_item, worded_item, combined_by, combination, effect_with, entry_of, count_of, delay_of}
+use Rattle.extended_drafts.specs.Draft.{StateBody, typed_body, signal_body, plain_item, worded_item, combined_by, combination, effect_with}
+use Rattle.extended_drafts.specs.Draft.{entry_of, count_of, delay_of}
 use Rattle.extended_drafts.specs.Draft.{or_next, lead_of, delayed, ended, no_rows}
 use Rattle.extended_drafts.specs.Draft.{gathered, parted, body_of, state_with, region_with, draft_of}
 

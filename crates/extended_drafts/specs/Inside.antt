@@ -12,9 +12,8 @@ use Rattle.chart_drafts.specs.declared.draft.DraftTransition.{DraftTransition}
 use Rattle.extended_drafts.specs.declared.draft.DraftEntry.{DraftEntry}
 use Rattle.extended_drafts.specs.declared.draft.DraftWay.{DraftWay}
 use Rattle.extended_drafts.specs.declared.draft.DraftRows.{DraftRows}
-use Rattle.extended_drafts.specs.declared.draft.StateBody.{StateBody}
 use Rattle.extended_drafts.specs.declared.draft.ExtendedDraft.{ExtendedDraft}
-use Rattle.extended_drafts.specs.Draft.{both_rows, state_rows}
+use Rattle.extended_drafts.specs.Draft.{StateBody, both_rows, state_rows}
 use Rattle.extended_drafts.specs.Flaws.{joined, entries_flaws, all_way_flaws, variable_name_flaws, region_inside_flaws}
 
 -- a phrase was read, and what it adds was put behind what there was
@@ -35,13 +34,6 @@ pub record IsPutting {A S : Type 0} (o : Outcome Token (List A)) (g : Grows A) (
   pub done : List A
   pub going : IsGoing o g ks done left rest
   pub behind : sofar ≡ put_each put old done
-
--- a phrase, and some of them
-abbrev pub put_one : {A : Type 0} → A → List A → List A
-put_one x s = s ++ x ∷ []
-
-abbrev pub put_list : {A : Type 0} → List A → List A → List A
-put_list xs s = s ++ xs
 
 -- a transition, and what is new of it
 abbrev pub put_way : DraftTransition × DraftWay → List DraftTransition × List DraftWay → List DraftTransition × List DraftWay

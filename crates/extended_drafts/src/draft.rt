@@ -1,6 +1,6 @@
 //! What a text of an extended chart spells: a draft of a chart without what is new, and what is new beside it.
 
-use chart_drafts::{DraftChart, DraftEffect, DraftRegion, DraftTransition};
+use chart_drafts::{DraftChart, DraftEffect};
 use drafts::{Declaration, Named, TextExpression};
 use sc_values::{BinaryOperator, Kind};
 use sqlite_items::Items;
@@ -102,15 +102,6 @@ pub struct DraftWay {
 #[derive(Debug, Drop)]
 pub struct DraftRows {
     pub entries: Items<StateActions>,
-    pub ways: Items<DraftWay>,
-}
-
-/// What is in a state behind its actions: its regions with their rows, its transitions, and what is new of these.
-#[derive(Drop)]
-pub struct StateBody {
-    pub regions: Items<DraftRegion>,
-    pub rows: DraftRows,
-    pub transitions: Items<DraftTransition>,
     pub ways: Items<DraftWay>,
 }
 

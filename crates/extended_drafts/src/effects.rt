@@ -5,17 +5,16 @@ ghost use Rattle.grammar.specs.Read.{read, starts};
 ghost use Rattle.sc_text.specs.Expression.{text_tokens, expression};
 ghost use Rattle.sc_text.specs.Reading.{Stops};
 ghost use Rattle.chart_drafts.specs.Phrase.{Gives};
-ghost use Rattle.extended_drafts.specs.Inside.{Puts, put_list};
 ghost use Rattle.extended_drafts.specs.Draft.{emitted, combined_by, combined, effect_with};
 ghost use Rattle.extended_drafts.specs.ExtendedText.{combining_signs, combiner, equals, combining};
-ghost use Rattle.extended_drafts.specs.ExtendedText.{effect_end, effect, next_effect, some_effects, effects, outcome};
+ghost use Rattle.extended_drafts.specs.ExtendedText.{effect_end, effect, some_effects, effects, outcome};
 
 use crate::draft::{CompoundSign, DraftLead, EffectEnd};
 use crate::targets::leading;
 use chart_drafts::DraftEffect;
-use chart_drafts::text_parts::{Ahead, name, placed, skip_sign, value};
+use chart_drafts::text_parts::{Ahead, Part, listed, listed_behind, name, placed, value};
 use drafts::{Named, TextExpression};
-use sc_text::ahead::{behind, sign_follows, word_follows, wrong};
+use sc_text::ahead::{sign_follows, wrong};
 use sc_text::{ReadFault, Sign, TextOperation, Token, TokenKind, Word};
 use sc_values::{BinaryOperator, Value};
 use sqlite_items::Items;
@@ -166,30 +165,25 @@ fn effect_with(alloc: Global, first: Named, behind: EffectEnd) -> Result<DraftEf
     }
 }
 
-#[tactic(auto, using(crate::proofs::EffectParts::effect_gives, chart_drafts::proofs::Parts::made_stops, chart_drafts::proofs::Parts::seq_stops_first, chart_drafts::proofs::Parts::seq_stops_second), unfolding(crate::specs::ExtendedText::effect))]
-fn effect(alloc: Global, ahead: &mut Ahead, end: usize) -> Result<DraftEffect, ReadFault>
-    ensures { MatchResult result
-        (λ x. Gives (read (effect (expression 0)) ahead.old.tokens.now) x ahead.new.tokens.now)
-        (λ fault. Stops end (read (effect (expression 0)) ahead.old.tokens.now) fault) }
-{
-    let first = name(ahead, end)?;
-    let behind = effect_end(alloc, ahead, end)?;
-    let effect = effect_with(alloc, first, behind)?;
-    Ok(effect)
-}
+// What a transition or an action does.
+struct ListedEffects;
 
-#[tactic(auto, using(chart_drafts::proofs::Parts::after_stops_first), unfolding(crate::specs::ExtendedText::next_effect))]
-fn next_effect(alloc: Global, ahead: &mut Ahead, end: usize) -> Result<DraftEffect, ReadFault>
-    ensures { MatchResult result
-        (λ x. Gives (read (next_effect (expression 0)) ahead.old.tokens.now) x ahead.new.tokens.now)
-        (λ fault. Stops end (read (next_effect (expression 0)) ahead.old.tokens.now) fault) }
-{
-    skip_sign(ahead, end, Sign::Comma)?;
-    effect(alloc, ahead, end)
+impl Part for ListedEffects {
+    type Read = DraftEffect;
+
+    ghost phrase = { effect (expression 0) };
+
+    #[tactic(auto, using(crate::proofs::EffectParts::effect_gives, chart_drafts::proofs::Parts::made_stops, chart_drafts::proofs::Parts::seq_stops_first, chart_drafts::proofs::Parts::seq_stops_second), unfolding(crate::specs::ExtendedText::effect))]
+    fn take(alloc: Global, ahead: &mut Ahead, end: usize) -> Result<DraftEffect, ReadFault> {
+        let first = name(ahead, end)?;
+        let behind = effect_end(alloc, ahead, end)?;
+        let effect = effect_with(alloc, first, behind)?;
+        Ok(effect)
+    }
 }
 
 /// The effects behind the word `do`.
-#[tactic(auto, using(crate::proofs::Putting::put_alone))]
+#[tactic(auto, unfolding(crate::specs::ExtendedText::some_effects, crate::specs::ExtendedText::next_effect))]
 pub(crate) fn some_effects(
     alloc: Global,
     ahead: &mut Ahead,
@@ -199,47 +193,16 @@ pub(crate) fn some_effects(
         (λ x. Gives (read (some_effects (expression 0)) ahead.old.tokens.now) x ahead.new.tokens.now)
         (λ fault. Stops end (read (some_effects (expression 0)) ahead.old.tokens.now) fault) }
 {
-    let mut found = Items::new(alloc);
-    put_effects(alloc, ahead, end, &mut found)?;
-    Ok(found)
+    listed::<ListedEffects>(alloc, ahead, end)
 }
 
-#[tactic(auto, using(crate::proofs::EffectParts::no_first_effect))]
-fn put_effects(
-    alloc: Global,
-    ahead: &mut Ahead,
-    end: usize,
-    found: &mut Items<DraftEffect>,
-) -> Result<(), ReadFault>
-    ensures { MatchResult result
-        (λ _. Puts (read (some_effects (expression 0)) ahead.old.tokens.now) put_list found.old found.new
-        ahead.new.tokens.now)
-        (λ fault. Stops end (read (some_effects (expression 0)) ahead.old.tokens.now) fault) }
-{
-    let first = effect(alloc, ahead, end)?;
-    found.push(first)?;
-    let most = ahead.tokens.len();
-    for used in 0..most {
-        if !sign_follows(ahead.tokens, Sign::Comma) {
-            return Ok(());
-        }
-        let next = next_effect(alloc, ahead, end)?;
-        found.push(next)?;
-    }
-    Ok(())
-}
-
-#[tactic(auto, using(crate::proofs::EffectParts::effects_missing))]
+#[tactic(auto, unfolding(crate::specs::ExtendedText::effects, crate::specs::ExtendedText::some_effects, crate::specs::ExtendedText::next_effect))]
 fn effects(alloc: Global, ahead: &mut Ahead, end: usize) -> Result<Items<DraftEffect>, ReadFault>
     ensures { MatchResult result
         (λ x. Gives (read (effects (expression 0)) ahead.old.tokens.now) x ahead.new.tokens.now)
         (λ fault. Stops end (read (effects (expression 0)) ahead.old.tokens.now) fault) }
 {
-    if !word_follows(ahead.tokens, Word::Do) {
-        return Ok(Items::new(alloc));
-    }
-    ahead.tokens = behind(ahead.tokens);
-    some_effects(alloc, ahead, end)
+    listed_behind::<ListedEffects>(alloc, ahead, end, Word::Do)
 }
 
 /// What is done, and where a transition leads.

@@ -1,70 +1,52 @@
 //! Reading the actions of a state.
 
 ghost use Rattle.std.specs.Prelude.{◌≡◌, MatchResult};
-ghost use Rattle.grammar.specs.Grammar.{many};
 ghost use Rattle.grammar.specs.Read.{read, starts};
 ghost use Rattle.sc_text.specs.Expression.{text_tokens, after, expression};
 ghost use Rattle.sc_text.specs.Reading.{Stops};
 ghost use Rattle.chart_drafts.specs.ChartText.{the_word};
 ghost use Rattle.chart_drafts.specs.Phrase.{Gives};
-ghost use Rattle.extended_drafts.specs.Inside.{Puts, put_list};
-ghost use Rattle.extended_drafts.specs.ExtendedText.{last_effects, entry, entry_first};
+ghost use Rattle.extended_drafts.specs.ExtendedText.{last_effects, entry};
 
 use crate::draft::DraftEntry;
 use crate::effects::some_effects;
 use chart_drafts::DraftEffect;
-use chart_drafts::text_parts::{Ahead, flag, name, name_follows, skip_sign, skip_word, trigger};
+use chart_drafts::text_parts::{
+    Ahead, Part, RowPart, flag, name, name_follows, skip_sign, skip_word, trigger,
+};
 use sc_text::ahead::word_follows;
 use sc_text::{ReadFault, Sign, Token, Word};
 use sqlite_items::Items;
 use std::alloc::Global;
 
-/// Puts the actions of a state behind others.
-pub(crate) fn entries(
-    alloc: Global,
-    ahead: &mut Ahead,
-    end: usize,
-    found: &mut Items<DraftEntry>,
-) -> Result<(), ReadFault>
-    ensures { MatchResult result
-        (λ _. Puts (read (many (entry (expression 0))) ahead.old.tokens.now) put_list found.old found.new
-        ahead.new.tokens.now)
-        (λ fault. Stops end (read (many (entry (expression 0))) ahead.old.tokens.now) fault) }
-{
-    let most = ahead.tokens.len();
-    for used in 0..most {
-        if !entry_follows(ahead.tokens) {
-            return Ok(());
-        }
-        let next = entry(alloc, ahead, end)?;
-        found.push(next)?;
+/// The actions of a state.
+pub(crate) struct Entries;
+
+impl Part for Entries {
+    type Read = DraftEntry;
+
+    ghost phrase = { entry (expression 0) };
+
+    #[tactic(auto, using(crate::proofs::Pieces::entry_gives, chart_drafts::proofs::Parts::made_stops, chart_drafts::proofs::Parts::seq_stops_first, chart_drafts::proofs::Parts::seq_stops_second), unfolding(crate::specs::ExtendedText::entry))]
+    fn take(alloc: Global, ahead: &mut Ahead, end: usize) -> Result<DraftEntry, ReadFault> {
+        let immediate = flag(ahead, Word::Immediate);
+        let word = name(ahead, end)?;
+        let trigger = trigger(alloc, ahead, end)?;
+        let effects = outcomes(alloc, ahead, end)?;
+        Ok(DraftEntry {
+            immediate,
+            word,
+            trigger,
+            effects,
+        })
     }
-    Ok(())
 }
 
-// Whether an action is next.
-fn entry_follows(tokens: &[Token]) -> bool
-    ensures { result ≡ starts text_tokens entry_first tokens.now }
-{
-    word_follows(tokens, Word::Immediate) || name_follows(tokens)
-}
-
-#[tactic(auto, using(crate::proofs::Pieces::entry_gives, chart_drafts::proofs::Parts::made_stops, chart_drafts::proofs::Parts::seq_stops_first, chart_drafts::proofs::Parts::seq_stops_second), unfolding(crate::specs::ExtendedText::entry))]
-fn entry(alloc: Global, ahead: &mut Ahead, end: usize) -> Result<DraftEntry, ReadFault>
-    ensures { MatchResult result
-        (λ x. Gives (read (entry (expression 0)) ahead.old.tokens.now) x ahead.new.tokens.now)
-        (λ fault. Stops end (read (entry (expression 0)) ahead.old.tokens.now) fault) }
-{
-    let immediate = flag(ahead, Word::Immediate);
-    let word = name(ahead, end)?;
-    let trigger = trigger(alloc, ahead, end)?;
-    let effects = outcomes(alloc, ahead, end)?;
-    Ok(DraftEntry {
-        immediate,
-        word,
-        trigger,
-        effects,
-    })
+impl RowPart for Entries {
+    #[tactic(auto, unfolding(crate::specs::ExtendedText::entry, chart_drafts::specs::ChartText::flag))]
+    fn follows(tokens: &[Token]) -> bool {
+        word_follows(tokens, Word::Immediate) || name_follows(tokens)
+    }
 }
 
 // The word `do`, and what is done.

@@ -1,68 +1,48 @@
 //! Reading what stands among the variables of an extended chart.
 
 ghost use Rattle.std.specs.Prelude.{◌≡◌, IfOk, MatchResult, map};
-ghost use Rattle.grammar.specs.Grammar.{many};
 ghost use Rattle.grammar.specs.Read.{read, starts};
 ghost use Rattle.sc_text.specs.Expression.{text_tokens, expression};
 ghost use Rattle.sc_text.specs.Reading.{Stops};
 ghost use Rattle.chart_drafts.specs.Phrase.{Gives};
-ghost use Rattle.extended_drafts.specs.Inside.{Puts, put_list};
 ghost use Rattle.extended_drafts.specs.Draft.{signal_body, plain_item, worded_item};
-ghost use Rattle.extended_drafts.specs.ExtendedText.{item_first, item_value, last_value, typed, signalled};
+ghost use Rattle.extended_drafts.specs.ExtendedText.{item_value, last_value, typed, signalled};
 ghost use Rattle.extended_drafts.specs.ExtendedText.{plain_body, plain, worded_body, worded, item};
 
 use crate::draft::{DraftItem, ItemBody};
 use chart_drafts::text_parts::{
-    Ahead, declared_kind, declared_role, last_name, name, name_follows, placed, role_follows,
-    skip_sign,
+    Ahead, Part, RowPart, declared_kind, declared_role, last_name, name, name_follows,
+    role_follows, skip_sign, value,
 };
 use drafts::{Declaration, Named, TextExpression};
 use sc_graph::Role;
-use sc_text::ahead::{behind, sign_follows};
+use sc_text::ahead::sign_follows;
 use sc_text::{ReadFault, Sign, Token};
 use sc_values::Kind;
 use sqlite_items::Items;
 use std::alloc::{AllocError, Global};
 
-/// Puts what stands among the variables behind others.
-pub(crate) fn items(
-    alloc: Global,
-    ahead: &mut Ahead,
-    end: usize,
-    found: &mut Items<DraftItem>,
-) -> Result<(), ReadFault>
-    ensures { MatchResult result
-        (λ _. Puts (read (many (item (expression 0))) ahead.old.tokens.now) put_list found.old found.new
-        ahead.new.tokens.now)
-        (λ fault. Stops end (read (many (item (expression 0))) ahead.old.tokens.now) fault) }
-{
-    let most = ahead.tokens.len();
-    for used in 0..most {
-        if !item_follows(ahead.tokens) {
-            return Ok(());
+/// What stands among the variables.
+pub(crate) struct ChartItems;
+
+impl Part for ChartItems {
+    type Read = DraftItem;
+
+    ghost phrase = { item (expression 0) };
+
+    fn take(alloc: Global, ahead: &mut Ahead, end: usize) -> Result<DraftItem, ReadFault> {
+        if role_follows(ahead.tokens) {
+            return plain(alloc, ahead, end);
         }
-        let next = item(alloc, ahead, end)?;
-        found.push(next)?;
+        worded(alloc, ahead, end)
     }
-    Ok(())
 }
 
-// Whether an item is next.
-fn item_follows(tokens: &[Token]) -> bool
-    ensures { result ≡ starts text_tokens item_first tokens.now }
-{
-    role_follows(tokens) || name_follows(tokens)
-}
-
-fn item(alloc: Global, ahead: &mut Ahead, end: usize) -> Result<DraftItem, ReadFault>
-    ensures { MatchResult result
-        (λ x. Gives (read (item (expression 0)) ahead.old.tokens.now) x ahead.new.tokens.now)
-        (λ fault. Stops end (read (item (expression 0)) ahead.old.tokens.now) fault) }
-{
-    if role_follows(ahead.tokens) {
-        return plain(alloc, ahead, end);
+impl RowPart for ChartItems {
+    #[tactic(auto, unfolding(crate::specs::ExtendedText::item, crate::specs::ExtendedText::plain, crate::specs::ExtendedText::worded))]
+    fn follows(tokens: &[Token]) -> bool {
+        role_follows(tokens) || name_follows(tokens)
     }
-    worded(alloc, ahead, end)
 }
 
 // A variable, which may be a signal.
@@ -205,7 +185,7 @@ fn typed(alloc: Global, ahead: &mut Ahead, end: usize) -> Result<ItemBody, ReadF
     })
 }
 
-#[tactic(auto, using(crate::proofs::ItemParts::value_stops))]
+#[tactic(auto, using(crate::proofs::ItemParts::value_missing, crate::proofs::ItemParts::value_there, crate::proofs::ItemParts::value_stops))]
 fn item_value(
     alloc: Global,
     ahead: &mut Ahead,
@@ -218,8 +198,7 @@ fn item_value(
     if !sign_follows(ahead.tokens, Sign::Becomes) {
         return Ok(None);
     }
-    ahead.tokens = behind(ahead.tokens);
-    let value = placed(alloc, ahead, end)?;
+    let value = value(alloc, ahead, end)?;
     Ok(Some(value))
 }
 

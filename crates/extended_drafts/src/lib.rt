@@ -23,7 +23,7 @@ mod whole;
 pub use checked::{extended_told_flaws, read_checked_extended};
 pub use draft::{
     CompoundSign, DraftCount, DraftDelay, DraftEntry, DraftItem, DraftLead, DraftRows, DraftWay,
-    EffectEnd, ExtendedDraft, HistoryWords, ItemBody, StateActions, StateBody,
+    EffectEnd, ExtendedDraft, HistoryWords, ItemBody, StateActions,
 };
 pub use laws::{extended_drafts_are_shaped, extended_texts_are_told};
 pub use whole::read_extended_draft;

@@ -9,10 +9,10 @@ ghost use Rattle.extended_drafts.specs.ExtendedText.{rowed, inside, acting, body
 ghost use Rattle.extended_drafts.specs.Inside.{Puts, put_part, put_parts, put_inside, put_body};
 
 use crate::draft::DraftRows;
-use crate::entries::entries;
+use crate::entries::Entries;
 use crate::rows::actions_of;
 use crate::transitions::leaving;
-use chart_drafts::text_parts::{Ahead, flag, skip_sign, state_follows, title};
+use chart_drafts::text_parts::{Ahead, flag, put_row, skip_sign, state_follows, title};
 use chart_drafts::{DraftRegion, DraftState, DraftTransition};
 use sc_text::ahead::{behind, sign_follows, too_deep, word_follows};
 use sc_text::{ReadFault, Sign, Word};
@@ -203,7 +203,7 @@ fn acting(
         (λ fault. Stops end (read (acting (expression 0) (within (expression 0) depth)) ahead.old.tokens.now) fault) }
 {
     let mut own = Items::new(alloc);
-    entries(alloc, ahead, end, &mut own)?;
+    put_row::<Entries>(alloc, ahead, end, &mut own)?;
     rows.entries.push(actions_of(is_final, own))?;
     inside(alloc, depth, ahead, end, found, transitions, rows)
 }

@@ -1,10 +1,9 @@
 //! Reading transitions with what is new of them.
 
 ghost use Rattle.std.specs.Prelude.{◌≡◌, MatchResult, option_map};
-ghost use Rattle.grammar.specs.Read.{read, starts};
-ghost use Rattle.sc_text.specs.Expression.{text_tokens, expression};
+ghost use Rattle.grammar.specs.Read.{read};
+ghost use Rattle.sc_text.specs.Expression.{expression};
 ghost use Rattle.sc_text.specs.Reading.{Stops};
-ghost use Rattle.chart_drafts.specs.ChartText.{transition_first};
 ghost use Rattle.chart_drafts.specs.Phrase.{Gives};
 ghost use Rattle.extended_drafts.specs.Draft.{hold_of};
 ghost use Rattle.extended_drafts.specs.ExtendedText.{some_count, counted, some_delay, pause, tested, termination};
@@ -15,12 +14,12 @@ use crate::draft::{DraftCount, DraftDelay, DraftWay};
 use crate::effects::outcome;
 use chart_drafts::DraftTransition;
 use chart_drafts::text_parts::{
-    Ahead, join_word, name, name_follows, placed, skip_sign, tested_word, tested_word_follows,
+    Ahead, join_word, name, name_follows, placed, skip_sign, tested_word, transition_follows,
     trigger,
 };
 use drafts::TextExpression;
 use sc_text::ahead::{behind, word_follows};
-use sc_text::{ReadFault, Sign, Token, Word};
+use sc_text::{ReadFault, Sign, Word};
 use sqlite_items::Items;
 use std::alloc::Global;
 
@@ -172,13 +171,6 @@ fn transition(
         return termination(alloc, ahead, end);
     }
     tested(alloc, ahead, end)
-}
-
-// Whether a transition is next.
-fn transition_follows(tokens: &[Token]) -> bool
-    ensures { result ≡ starts text_tokens transition_first tokens.now }
-{
-    word_follows(tokens, Word::Join) || tested_word_follows(tokens)
 }
 
 fn transitions(

@@ -16,10 +16,10 @@ ghost use Rattle.extended_drafts.specs.ExtendedText.{parts, within, extended_tex
 ghost use Rattle.extended_drafts.specs.Reading.{IsExtendedDraft, IsDraftFault};
 
 use crate::draft::{DraftItem, DraftRows, ExtendedDraft};
-use crate::items::{declarations, items};
+use crate::items::{ChartItems, declarations};
 use crate::regions::regions;
 use block_comments::without_comments;
-use chart_drafts::text_parts::{Ahead, name, skip_sign, title};
+use chart_drafts::text_parts::{Ahead, name, put_row, skip_sign, title};
 use chart_drafts::{DraftChart, DraftRegion};
 use chart_modules::without_modules;
 use drafts::Named;
@@ -132,7 +132,7 @@ fn parts(
         fault) }
 {
     let mut all = Items::new(alloc);
-    items(alloc, ahead, end, &mut all)?;
+    put_row::<ChartItems>(alloc, ahead, end, &mut all)?;
     let mut found = Items::new(alloc);
     let mut rows = DraftRows::new(alloc);
     regions(alloc, INNER_LEVELS, ahead, end, &mut found, &mut rows)?;

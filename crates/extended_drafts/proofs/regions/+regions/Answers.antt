@@ -126,9 +126,9 @@ body-returns t c =
 pub acting-returns : goal.acting-returns
 acting-returns t c =
     either_way _ c.inside.ensures
-    (λ x. acting_puts _ _ _ _ _ _ _ _ ((c.args.found.now, c.args.transitions.now), c.args.rows.now) _ _ c.in_ok-entries.ensures c.new-own.ensures
+    (λ x. acting_puts _ _ _ _ _ _ _ _ ((c.args.found.now, c.args.transitions.now), c.args.rows.now) _ _ c.in_ok-put_row.ensures c.new-own.ensures
     c.actions_of.ensures (ap (λ l. record { entries = l; ways = c.args.rows.now.ways }) c.in_ok-push.ensures.ok))
-    (λ f. inside_stops _ _ _ _ _ _ f c.in_ok-entries.ensures)
+    (λ f. inside_stops _ _ _ _ _ _ f c.in_ok-put_row.ensures)
 
 pub inside-returns-then-not-word_follows : goal.inside-returns-then-not-word_follows
 inside-returns-then-not-word_follows t c =

@@ -11,12 +11,12 @@ use Rattle.extended_drafts.proofs.whole.parts.Goals as goal
 pub returns-in_err-regions : goal.returns-in_err-regions
 returns-in_err-regions c =
     let stops : (f : ReadFault) → Stops c.args.end
-    (read (rowed (region (expression 0) (within (expression 0) inner_depth_limit))) c.items.new.ahead.tokens.now) f
+    (read (rowed (region (expression 0) (within (expression 0) inner_depth_limit))) c.put_row.new.ahead.tokens.now) f
     → Stops c.args.end (read (parts (expression 0) (within (expression 0) inner_depth_limit)) c.args.ahead.now.tokens.now) f =
-    λ f. parts_stop _ _ _ _ c.args.end f c.in_ok-items.ensures in
+    λ f. parts_stop _ _ _ _ c.args.end f c.in_ok-put_row.ensures in
     search (rules, stops)
 
 pub returns : goal.returns
 returns c =
-    parts_give c.args.ahead.now.tokens.now _ _ _ _ _ _ _ _ c.in_ok-items.ensures c.new-all.ensures c.in_ok-regions.ensures c.new-found.ensures
+    parts_give c.args.ahead.now.tokens.now _ _ _ _ _ _ _ _ c.in_ok-put_row.ensures c.new-all.ensures c.in_ok-regions.ensures c.new-found.ensures
     c.new-rows.ensures

@@ -4,7 +4,7 @@ use Rattle.chart_drafts.specs.ChartText.{roles}
 use Rattle.sc_text.specs.Expression.{text_tokens}
 use Rattle.chart_drafts.proofs.Same.{same_reading}
 use Rattle.extended_drafts.proofs.ItemParts.{is_plain, is_worded}
-use Rattle.extended_drafts.proofs.items.item.Goals as goal
+use Rattle.extended_drafts.proofs.items.ChartItemsPart.take.Goals as goal
 
 pub returns-then-role_follows : goal.returns-then-role_follows
 returns-then-role_follows c =
