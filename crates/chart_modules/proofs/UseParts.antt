@@ -1,41 +1,23 @@
 -- What reading gives for each rule of uses.
-use Rattle.std.proofs.Common.{◌≡◌, ℕ, ◌-◌, true, false, Some, None, List, [], ◌∷◌, ◌++◌, length, refl, sym, subst}
+use Rattle.std.proofs.Common.{◌≡◌, ℕ, true, false, Some, None, List, [], refl, sym, subst}
 use Rattle.grammar.specs.Grammar.{seq, maybe}
 use Rattle.grammar.specs.Predictive.{first}
 use Rattle.grammar.specs.Read.{starts, read}
-use Rattle.sc_text.specs.declared.sign.Sign.TheVariants as sign
 use Rattle.sc_text.specs.declared.token.Token.{Token}
 use Rattle.sc_text.specs.declared.read_fault.ReadFault.{ReadFault}
 use Rattle.sc_text.specs.Expression.{text_tokens}
 use Rattle.sc_text.specs.Reading.{Stops}
 use Rattle.drafts.specs.declared.parts.Named.{Named}
 use Rattle.drafts.specs.Parts.{or_none}
-use Rattle.chart_drafts.specs.ChartText.{the_sign, name, last_name}
-use Rattle.chart_drafts.specs.PartsRead.{IsGoing}
+use Rattle.chart_drafts.specs.ChartText.{name, last_name}
 use Rattle.chart_drafts.specs.Phrase.{Gives}
 use Rattle.chart_drafts.proofs.Parts.{seq_gives, made_gives, made_stops, maybe_none, maybe_some, maybe_stops}
-use Rattle.chart_drafts.proofs.RowReading.{listed_goes, listed_stops}
-use Rattle.chart_modules.specs.Phrases.{argument_classes, argument, next_argument, some_arguments, arguments, all_arguments, use_of, using}
+use Rattle.chart_modules.specs.Phrases.{argument_classes, some_arguments, arguments, all_arguments, use_of, using}
 
 module _ (text : List Token) where
-  next_begins : first next_argument ≡ the_sign sign.Comma
-  unfolding next_argument
-  next_begins = refl
-
   some_begin : first some_arguments ≡ argument_classes
   unfolding some_arguments
   some_begin = refl
-
-  pub arguments_go : (rest : List Token) (x : Token) (most : ℕ) (none found : List Token) → Gives (read argument text) x rest
-      → most ≡ length rest → none ≡ [] → found ≡ none ++ x ∷ [] → IsGoing (read some_arguments text) next_argument (the_sign sign.Comma) found
-      (most - 0) rest
-  unfolding some_arguments
-  arguments_go rest x left none found r e n f =
-      listed_goes next_argument (the_sign sign.Comma) next_begins argument text rest x left none found r e n f
-
-  pub no_first_argument : (end : ℕ) (f : ReadFault) → Stops end (read argument text) f → Stops end (read some_arguments text) f
-  unfolding some_arguments
-  no_first_argument end f s = listed_stops next_argument argument text end f s
 
   pub arguments_missing : (none : List Token) → starts text_tokens argument_classes text ≡ false → none ≡ [] → Gives (read arguments text) none text
   unfolding arguments

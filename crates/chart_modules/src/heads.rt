@@ -5,14 +5,14 @@ ghost use Rattle.grammar.specs.Read.{read, starts};
 ghost use Rattle.sc_text.specs.Expression.{text_tokens};
 ghost use Rattle.sc_text.specs.Reading.{Stops};
 ghost use Rattle.chart_drafts.specs.Phrase.{Gives};
-ghost use Rattle.chart_modules.specs.Phrases.{parameter_first, role_of, opening, parameter, next_parameter};
+ghost use Rattle.chart_modules.specs.Phrases.{parameter_first, role_of, opening, parameter};
 ghost use Rattle.chart_modules.specs.Phrases.{some_parameters, parameters, last_parameters, all_parameters};
 ghost use Rattle.chart_modules.specs.Phrases.{head, opened};
 
 use crate::parts::{ModuleHead, Parameter, ParameterRole};
 use crate::words::is_word;
-use chart_drafts::text_parts::{Ahead, declared_kind, name, name_follows, skip_sign};
-use sc_text::ahead::{sign_follows, word_follows, wrong};
+use chart_drafts::text_parts::{Ahead, Part, declared_kind, listed, name, name_follows, skip_sign};
+use sc_text::ahead::{word_follows, wrong};
 use sc_text::{ReadFault, Sign, Token, TokenKind, Word};
 use sqlite_items::Items;
 use std::alloc::Global;
@@ -55,34 +55,29 @@ fn opening(ahead: &mut Ahead, end: usize) -> Result<(ParameterRole, usize), Read
     }
 }
 
-#[tactic(auto, using(crate::proofs::HeadParts::parameter_gives, chart_drafts::proofs::Parts::made_stops, chart_drafts::proofs::Parts::seq_stops_first, chart_drafts::proofs::Parts::seq_stops_second), unfolding(crate::specs::Phrases::parameter))]
-fn parameter(ahead: &mut Ahead, end: usize) -> Result<Parameter, ReadFault>
-    ensures { MatchResult result
-        (λ x. Gives (read parameter ahead.old.tokens.now) x ahead.new.tokens.now)
-        (λ fault. Stops end (read parameter ahead.old.tokens.now) fault) }
-{
-    let (role, at) = opening(ahead, end)?;
-    let kind = declared_kind(ahead, end)?;
-    let named = name(ahead, end)?;
-    Ok(Parameter {
-        role,
-        at,
-        kind,
-        named,
-    })
+// The parameters of a module.
+struct ListedParameters;
+
+impl Part for ListedParameters {
+    type Read = Parameter;
+
+    ghost phrase = { parameter };
+
+    #[tactic(auto, using(crate::proofs::HeadParts::parameter_gives, chart_drafts::proofs::Parts::made_stops, chart_drafts::proofs::Parts::seq_stops_first, chart_drafts::proofs::Parts::seq_stops_second), unfolding(crate::specs::Phrases::parameter))]
+    fn take(alloc: Global, ahead: &mut Ahead, end: usize) -> Result<Parameter, ReadFault> {
+        let (role, at) = opening(ahead, end)?;
+        let kind = declared_kind(ahead, end)?;
+        let named = name(ahead, end)?;
+        Ok(Parameter {
+            role,
+            at,
+            kind,
+            named,
+        })
+    }
 }
 
-#[tactic(auto, using(chart_drafts::proofs::Parts::after_stops_first), unfolding(crate::specs::Phrases::next_parameter))]
-fn next_parameter(ahead: &mut Ahead, end: usize) -> Result<Parameter, ReadFault>
-    ensures { MatchResult result
-        (λ x. Gives (read next_parameter ahead.old.tokens.now) x ahead.new.tokens.now)
-        (λ fault. Stops end (read next_parameter ahead.old.tokens.now) fault) }
-{
-    skip_sign(ahead, end, Sign::Comma)?;
-    parameter(ahead, end)
-}
-
-#[tactic(auto, using(crate::proofs::HeadParts::parameters_go, crate::proofs::HeadParts::no_first_parameter, chart_drafts::proofs::RowReading::going_ends, chart_drafts::proofs::RowReading::going_over, chart_drafts::proofs::RowReading::going_stops, chart_drafts::proofs::RowReading::going_on))]
+#[tactic(auto, unfolding(crate::specs::Phrases::some_parameters, crate::specs::Phrases::next_parameter))]
 fn some_parameters(
     alloc: Global,
     ahead: &mut Ahead,
@@ -92,18 +87,7 @@ fn some_parameters(
         (λ x. Gives (read some_parameters ahead.old.tokens.now) x ahead.new.tokens.now)
         (λ fault. Stops end (read some_parameters ahead.old.tokens.now) fault) }
 {
-    let mut found = Items::new(alloc);
-    let first = parameter(ahead, end)?;
-    found.push(first)?;
-    let most = ahead.tokens.len();
-    for used in 0..most {
-        if !sign_follows(ahead.tokens, Sign::Comma) {
-            return Ok(found);
-        }
-        let next = next_parameter(ahead, end)?;
-        found.push(next)?;
-    }
-    Ok(found)
+    listed::<ListedParameters>(alloc, ahead, end)
 }
 
 // The parameters, or none where none is next.

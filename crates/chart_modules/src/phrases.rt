@@ -7,13 +7,13 @@ ghost use Rattle.sc_text.specs.Classes.{class_of};
 ghost use Rattle.sc_text.specs.Expression.{text_tokens};
 ghost use Rattle.sc_text.specs.Reading.{Stops};
 ghost use Rattle.chart_drafts.specs.Phrase.{Gives};
-ghost use Rattle.chart_modules.specs.Phrases.{argument_classes, argument, next_argument, some_arguments, arguments};
+ghost use Rattle.chart_modules.specs.Phrases.{argument_classes, argument, some_arguments, arguments};
 ghost use Rattle.chart_modules.specs.Phrases.{last_arguments, all_arguments, using};
 
 use crate::parts::ModuleUse;
-use chart_drafts::text_parts::{Ahead, last_name, name, skip_sign};
+use chart_drafts::text_parts::{Ahead, Part, last_name, listed, name, skip_sign};
 use drafts::Named;
-use sc_text::ahead::{sign_follows, word_follows, wrong};
+use sc_text::ahead::wrong;
 use sc_text::{ReadFault, Sign, Token, TokenKind, Word};
 use sqlite_items::Items;
 use std::alloc::Global;
@@ -42,53 +42,37 @@ fn argument_follows(tokens: &[Token]) -> bool
     }
 }
 
-#[tactic(auto, using(chart_drafts::proofs::Parts::token_fails, chart_drafts::proofs::Parts::token_gives))]
-fn argument(ahead: &mut Ahead, end: usize) -> Result<Token, ReadFault>
-    ensures { MatchResult result
-        (λ x. Gives (read argument ahead.old.tokens.now) x ahead.new.tokens.now)
-        (λ fault. Stops end (read argument ahead.old.tokens.now) fault) }
-{
-    if !argument_follows(ahead.tokens) {
-        return Err(wrong(ahead.tokens, end));
-    }
-    match ahead.tokens {
-        [] => Err(wrong(ahead.tokens, end)),
-        [next, rest @ ..] => {
-            let found = *next;
-            ahead.tokens = rest;
-            Ok(found)
+// The arguments of a use.
+struct ListedArguments;
+
+impl Part for ListedArguments {
+    type Read = Token;
+
+    ghost phrase = { argument };
+
+    #[tactic(auto, using(chart_drafts::proofs::Parts::token_fails, chart_drafts::proofs::Parts::token_gives))]
+    fn take(alloc: Global, ahead: &mut Ahead, end: usize) -> Result<Token, ReadFault> {
+        if !argument_follows(ahead.tokens) {
+            return Err(wrong(ahead.tokens, end));
+        }
+        match ahead.tokens {
+            [] => Err(wrong(ahead.tokens, end)),
+            [next, rest @ ..] => {
+                let found = *next;
+                ahead.tokens = rest;
+                Ok(found)
+            }
         }
     }
 }
 
-#[tactic(auto, using(chart_drafts::proofs::Parts::after_stops_first), unfolding(crate::specs::Phrases::next_argument))]
-fn next_argument(ahead: &mut Ahead, end: usize) -> Result<Token, ReadFault>
-    ensures { MatchResult result
-        (λ x. Gives (read next_argument ahead.old.tokens.now) x ahead.new.tokens.now)
-        (λ fault. Stops end (read next_argument ahead.old.tokens.now) fault) }
-{
-    skip_sign(ahead, end, Sign::Comma)?;
-    argument(ahead, end)
-}
-
-#[tactic(auto, using(crate::proofs::UseParts::arguments_go, crate::proofs::UseParts::no_first_argument, chart_drafts::proofs::RowReading::going_ends, chart_drafts::proofs::RowReading::going_over, chart_drafts::proofs::RowReading::going_stops, chart_drafts::proofs::RowReading::going_on))]
+#[tactic(auto, unfolding(crate::specs::Phrases::some_arguments, crate::specs::Phrases::next_argument))]
 fn some_arguments(alloc: Global, ahead: &mut Ahead, end: usize) -> Result<Items<Token>, ReadFault>
     ensures { MatchResult result
         (λ x. Gives (read some_arguments ahead.old.tokens.now) x ahead.new.tokens.now)
         (λ fault. Stops end (read some_arguments ahead.old.tokens.now) fault) }
 {
-    let mut found = Items::new(alloc);
-    let first = argument(ahead, end)?;
-    found.push(first)?;
-    let most = ahead.tokens.len();
-    for used in 0..most {
-        if !sign_follows(ahead.tokens, Sign::Comma) {
-            return Ok(found);
-        }
-        let next = next_argument(ahead, end)?;
-        found.push(next)?;
-    }
-    Ok(found)
+    listed::<ListedArguments>(alloc, ahead, end)
 }
 
 // The arguments, or none where none is next.

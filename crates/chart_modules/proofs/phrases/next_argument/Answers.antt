@@ -1,9 +1,0 @@
-use Rattle.sc_text.specs.declared.sign.Sign.TheVariants as sign
-use Rattle.chart_drafts.specs.ChartText.{the_sign}
-use Rattle.chart_drafts.proofs.Same.{same_reading, after_read}
-use Rattle.chart_modules.specs.Phrases.{argument, next_argument}
-use Rattle.chart_modules.proofs.phrases.next_argument.Goals as goal
-
-pub returns : goal.returns
-unfolding next_argument
-returns c = same_reading _ _ _ _ _ (after_read (the_sign sign.Comma) argument c.args.ahead.now.tokens.now _ c.in_ok-skip_sign.ensures) c.argument.ensures
