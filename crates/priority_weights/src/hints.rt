@@ -64,10 +64,22 @@ impl Search {
         count: u16,
     ) -> Result<Search, AllocError> {
         let order = settling_order(alloc, arcs, visited)?;
+        Search::with_reasons(alloc, arcs, order.as_slice(), count)
+    }
+
+    // This order, with the reasons by it.
+    fn with_reasons(
+        alloc: Global,
+        arcs: &Arcs,
+        order: &[u32],
+        count: u16,
+    ) -> Result<Search, AllocError> {
+        let reasons = reasons(alloc, arcs, order, count)?;
+        let order = of_program(alloc, order, count)?;
         Ok(Search {
-            order: of_program(alloc, order.as_slice(), count)?,
+            order,
             suspects: Vec::new(alloc),
-            reasons: reasons(alloc, arcs, order.as_slice(), count)?,
+            reasons,
         })
     }
 
@@ -89,10 +101,20 @@ impl Search {
         suspect: Suspect,
     ) -> Result<Search, AllocError> {
         let way = way_to(alloc, arcs, visited, suspect.next, u32::from(suspect.node))?;
-        let mut suspects = Vec::new(alloc);
-        suspects.push(suspect.node)?;
+        Search::on_way(alloc, way.as_slice(), count, suspect.node)
+    }
+
+    // A suspect, and this way.
+    fn on_way(
+        alloc: Global,
+        way: &[u32],
+        count: u16,
+        suspect: NodeId,
+    ) -> Result<Search, AllocError> {
+        let suspects = vec![in alloc; suspect; 1]?;
+        let order = of_program(alloc, way, count)?;
         Ok(Search {
-            order: of_program(alloc, way.as_slice(), count)?,
+            order,
             suspects,
             reasons: Vec::new(alloc),
         })
@@ -152,6 +174,16 @@ fn put_ending(
     for node in 0..program.node_count() {
         give_bit(program, bits, order, node)?;
     }
+    put_behind(program, behind, bits, order)
+}
+
+// Puts the nodes that get their end bit by those of an order behind it.
+fn put_behind(
+    program: &Program,
+    behind: &Arcs,
+    bits: &mut Vec<u32>,
+    order: &mut Vec<NodeId>,
+) -> Result<(), AllocError> {
     let mut at: usize = 0;
     for _ in 0..program.node_count() {
         match order.get(at) {
