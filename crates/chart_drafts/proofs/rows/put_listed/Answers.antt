@@ -3,7 +3,7 @@ use Rattle.sc_text.specs.declared.sign.Sign.TheVariants as sign
 use Rattle.sc_text.specs.Expression.{after}
 use Rattle.chart_drafts.specs.ChartText.{the_sign}
 use Rattle.chart_drafts.proofs.Filling.{listed_fill, listed_further_stops}
-use Rattle.chart_drafts.proofs.Same.{either_way}
+use Rattle.drafts.proofs.Outcomes.{either_way}
 use Rattle.chart_drafts.proofs.rows.put_listed.Goals as goal
 
 pub returns : goal.returns
