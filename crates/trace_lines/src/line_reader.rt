@@ -61,7 +61,14 @@ impl<'i, 'a> LineReader<'i, 'a> {
         ensures same { self.new.variables ≡ self.old.variables }
     {
         let slot = slot_of(line);
-        read_in(alloc, self.interface, &mut self.room, &mut self.kept, slot, line)?;
+        read_in(
+            alloc,
+            self.interface,
+            &mut self.room,
+            &mut self.kept,
+            slot,
+            line,
+        )?;
         self.slot = slot;
         Ok(())
     }
