@@ -9,10 +9,9 @@ use Rattle.core_charts.specs.declared.region.State.{State}
 use Rattle.core_charts.specs.Tests.{at_once, strong_aborts, weak_aborts}
 use Rattle.chart_machine.specs.declared.standing.Standing.TheVariants as at
 use Rattle.chart_machine.specs.declared.standing.Move.{Move}
-use Rattle.chart_machine.specs.declared.table.StatesRows.{StatesRows}
 use Rattle.chart_machine.specs.declared.table.Table.{Table}
 use Rattle.chart_machine.specs.declared.table.TablePosition.{TablePosition}
-use Rattle.chart_machine.specs.Table.{Subtree, state_at, region_at, region_numbers, state_numbers, within, inside_region, side_by_side}
+use Rattle.chart_machine.specs.Table.{Subtree, state_at, region_at, region_numbers, state_numbers, within, inside_region, side_by_side, StatesRows}
 use Rattle.chart_machine.specs.Table.{regions_in_initial, in_region, region_subtree, state_subtree, is_superstate, past_states, next_behind}
 use Rattle.chart_machine.specs.Table.{subtree_of_region as table_of_region, subtree_of_state as table_of_state}
 use Rattle.chart_machine.specs.Steps.{to}

@@ -15,9 +15,8 @@ use Rattle.core_charts.specs.Rules.{IsRegion, AreRegions}
 use Rattle.chart_machine.specs.declared.table.RegionRow.{RegionRow}
 use Rattle.chart_machine.specs.declared.table.Table.{Table}
 use Rattle.chart_machine.specs.declared.table.TablePosition.{TablePosition}
-use Rattle.chart_machine.specs.declared.table.StatesRows.{StatesRows}
 use Rattle.chart_machine.specs.Table.{Subtree, region_at, state_numbers, states_in, regions_in, in_region, past_states, with_region, regions_in_initial}
-use Rattle.chart_machine.specs.Table.{inside_region, region_subtree, state_subtree, subtree_of_state}
+use Rattle.chart_machine.specs.Table.{inside_region, region_subtree, state_subtree, subtree_of_state, StatesRows}
 use Rattle.chart_machine.proofs.Outside.{within_or_past}
 use Rattle.scl.specs.declared.statement.Statement.{Statement}
 use Rattle.scl.specs.Block.{Block, End, Label}

@@ -7,8 +7,7 @@ use Rattle.core_charts.specs.declared.region.State.{State}
 use Rattle.core_charts.specs.declared.region.Region.TheViews.{out-State}
 use Rattle.core_charts.specs.declared.region.Region.TheFolds.{fold_out-State}
 use Rattle.chart_machine.specs.declared.table.TablePosition.{TablePosition}
-use Rattle.chart_machine.specs.declared.table.StatesRows.{StatesRows}
-use Rattle.chart_machine.specs.Table.{Subtree, regions_in, rows_of_state_at, followed_by, in_region, past_states}
+use Rattle.chart_machine.specs.Table.{Subtree, regions_in, rows_of_state_at, followed_by, in_region, past_states, StatesRows}
 use Rattle.chart_machine.specs.Table.{regions_in_initial, region_subtree, state_subtree}
 use Rattle.chart_machine.specs.Table.{subtree_of_state}
 use Rattle.scl.specs.declared.statement.Statement.{Statement}

@@ -10,8 +10,7 @@ use Rattle.core_charts.specs.declared.region.Region.TheViews.{out-Region, out-St
 use Rattle.core_charts.specs.declared.region.Region.TheFolds.{fold_out-Region, fold_out-State}
 use Rattle.core_charts.specs.Rules.{IsState, IsRegion, AreRegions}
 use Rattle.chart_machine.specs.declared.table.TablePosition.{TablePosition}
-use Rattle.chart_machine.specs.declared.table.StatesRows.{StatesRows}
-use Rattle.chart_machine.specs.Table.{Subtree, states_in, regions_in, side_by_side, behind, within, rows_of_state_at, alone, next_behind, in_region}
+use Rattle.chart_machine.specs.Table.{Subtree, states_in, regions_in, side_by_side, behind, within, rows_of_state_at, alone, next_behind, in_region, StatesRows}
 use Rattle.chart_machine.specs.Table.{past_states, with_region, region_subtree, state_subtree, subtree_of_region, subtree_of_state}
 
 -- a piece gives as many rows as it has states and regions

@@ -6,7 +6,7 @@ use Rattle.core_charts.specs.Chart.{Chart}
 use Rattle.core_charts.specs.Rules.{IsChart, depth_limit, IsRegion, AreRegions}
 use Rattle.chart_machine.specs.declared.table.SubtreeRows.{SubtreeRows}
 use Rattle.chart_machine.specs.Table.{table, whole, side_by_side, states_in, regions_in, region_numbers, subtree_of_region, region_at, state_numbers, in_region}
-use Rattle.chart_machine.specs.Table.{past_states, with_region, regions_in_initial, inside_region, region_subtree, state_subtree, subtree_of_state}
+use Rattle.chart_machine.specs.Table.{past_states, with_region, regions_in_initial, inside_region, region_subtree, state_subtree, subtree_of_state, StatesRows}
 use Rattle.scl.specs.declared.program.Scl.{Scl}
 use Rattle.scl.specs.declared.statement.Statement.{Statement}
 use Rattle.scl.specs.Rules.{KeepsRules}
@@ -38,7 +38,6 @@ use Rattle.core_charts.specs.declared.region.Region.TheFolds.{fold_out-Region}
 use Rattle.chart_machine.specs.declared.table.RegionRow.{RegionRow}
 use Rattle.chart_machine.specs.declared.table.Table.{Table}
 use Rattle.chart_machine.specs.declared.table.TablePosition.{TablePosition}
-use Rattle.chart_machine.specs.declared.table.StatesRows.{StatesRows}
 use Rattle.scl_graph_laws.proofs.Members.{contains_head, contains_tail}
 use Rattle.scl_graph_laws.proofs.Searching.{own_labels}
 use Rattle.chart_lowering_laws.proofs.Labels.{text_labels, own_made, label_first}

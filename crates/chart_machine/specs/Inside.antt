@@ -9,10 +9,9 @@ use Rattle.chart_machine.specs.declared.chosen.Choice.TheVariants as choice
 use Rattle.chart_machine.specs.declared.standing.Move.{Move}
 use Rattle.chart_machine.specs.declared.table.RegionRow.{RegionRow}
 use Rattle.chart_machine.specs.declared.table.StateRow.{StateRow}
-use Rattle.chart_machine.specs.declared.table.StatesRows.{StatesRows}
 use Rattle.chart_machine.specs.declared.table.SubtreeRows.{SubtreeRows}
 use Rattle.chart_machine.specs.declared.table.TablePosition.{TablePosition}
-use Rattle.chart_machine.specs.Table.{entered_state, is_superstate, region_numbers, subtree_of_region}
+use Rattle.chart_machine.specs.Table.{entered_state, is_superstate, region_numbers, subtree_of_region, StatesRows}
 
 -- whether a transition is of those that are tested
 abbrev pub is_chosen : Choice → Transition → Bool

@@ -15,7 +15,6 @@ use Rattle.chart_machine.specs.declared.table.RegionRow.{RegionRow}
 use Rattle.chart_machine.specs.declared.table.Table.{Table}
 use Rattle.chart_machine.specs.declared.table.TablePosition.{TablePosition}
 use Rattle.chart_machine.specs.declared.table.SubtreeRows.{SubtreeRows}
-use Rattle.chart_machine.specs.declared.table.StatesRows.{StatesRows}
 use Rattle.core_charts.specs.Chart.{Chart}
 use Rattle.core_charts.specs.Tests.{at_once, strong_aborts, first_closing_tests}
 
@@ -106,6 +105,14 @@ state_subtree s =
       regions = regions_in s.regions;
       parts = λ at. state_over s at (side_by_side s.regions (within at));
     }
+
+-- What the states of a region give. The regions inside its initial state have the first numbers, those inside the others
+-- come behind.
+pub record StatesRows : Type 0 where
+  pub states : List StateRow
+  pub first : List RegionRow
+  pub others : List RegionRow
+  pub entered : List Move
 
 abbrev pub followed_by : StatesRows → StatesRows → StatesRows
 followed_by a b = record {

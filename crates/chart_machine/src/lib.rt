@@ -21,4 +21,4 @@ pub use evaluating::value_of;
 pub use region_change::{RegionChange, Write};
 pub use running::Ran;
 pub use standing::{Configuration, Move, Standing};
-pub use table::{RegionRow, StateRow, StatesRows, SubtreeRows, Table, TablePosition};
+pub use table::{RegionRow, StateRow, SubtreeRows, Table, TablePosition};

@@ -59,13 +59,3 @@ pub struct SubtreeRows {
     pub regions: Items<RegionRow>,
     pub entered: Items<Move>,
 }
-
-/// What the states of a region give, as contracts say it. The regions inside its initial state have the first numbers,
-/// those inside the others come behind.
-#[derive(Drop)]
-pub struct StatesRows {
-    pub states: Items<StateRow>,
-    pub first: Items<RegionRow>,
-    pub others: Items<RegionRow>,
-    pub entered: Items<Move>,
-}

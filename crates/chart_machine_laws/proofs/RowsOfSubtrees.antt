@@ -7,8 +7,7 @@ use Rattle.chart_machine.specs.declared.table.RegionRow.{RegionRow}
 use Rattle.chart_machine.specs.declared.table.Table.{Table}
 use Rattle.chart_machine.specs.declared.table.TablePosition.{TablePosition}
 use Rattle.chart_machine.specs.declared.table.SubtreeRows.{SubtreeRows}
-use Rattle.chart_machine.specs.declared.table.StatesRows.{StatesRows}
-use Rattle.chart_machine.specs.Table.{Subtree, states_in, regions_in, behind, side_by_side, within, state_subtree, with_region, past_states}
+use Rattle.chart_machine.specs.Table.{Subtree, states_in, regions_in, behind, side_by_side, within, state_subtree, with_region, past_states, StatesRows}
 use Rattle.chart_machine.specs.Table.{rows_of_state_at, alone, next_behind, in_region, regions_in_initial, inside_region, region_subtree, state_at}
 use Rattle.chart_machine.specs.Table.{region_at}
 

@@ -19,10 +19,9 @@ use Rattle.chart_machine.specs.declared.standing.Standing.TheVariants as at
 use Rattle.chart_machine.specs.declared.standing.Move.{Move}
 use Rattle.chart_machine.specs.declared.table.StateRow.{StateRow}
 use Rattle.chart_machine.specs.declared.table.SubtreeRows.{SubtreeRows}
-use Rattle.chart_machine.specs.declared.table.StatesRows.{StatesRows}
 use Rattle.chart_machine.specs.declared.table.Table.{Table}
 use Rattle.chart_machine.specs.declared.table.TablePosition.{TablePosition}
-use Rattle.chart_machine.specs.Table.{Subtree, side_by_side, behind, within, come_to, entered_state, is_superstate, state_subtree, rows_of_state_at}
+use Rattle.chart_machine.specs.Table.{Subtree, side_by_side, behind, within, come_to, entered_state, is_superstate, state_subtree, rows_of_state_at, StatesRows}
 use Rattle.chart_machine.specs.Table.{with_region, past_states, next_behind, in_region, regions_in_initial, inside_region, region_subtree}
 use Rattle.chart_machine.specs.Table.{subtree_of_region, subtree_of_state, whole, table_of, state_at}
 

@@ -7,8 +7,7 @@ use Rattle.chart_machine.specs.declared.table.RegionRow.{RegionRow}
 use Rattle.chart_machine.specs.declared.table.Table.{Table}
 use Rattle.chart_machine.specs.declared.table.TablePosition.{TablePosition}
 use Rattle.chart_machine.specs.declared.table.SubtreeRows.{SubtreeRows}
-use Rattle.chart_machine.specs.declared.table.StatesRows.{StatesRows}
-use Rattle.chart_machine.specs.Table.{region_numbers, Subtree, behind, side_by_side, within, state_subtree, state_numbers, with_region, past_states}
+use Rattle.chart_machine.specs.Table.{region_numbers, Subtree, behind, side_by_side, within, state_subtree, state_numbers, with_region, past_states, StatesRows}
 use Rattle.chart_machine.specs.Table.{rows_of_state_at}
 use Rattle.chart_machine.specs.Table.{alone, next_behind, followed_by, in_region, regions_in_initial, inside_region, region_subtree, state_at, region_at}
 use Rattle.scl_graph_laws.proofs.Segments.{EachAt, each_from, each_append}
