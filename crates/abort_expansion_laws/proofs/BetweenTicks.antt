@@ -1,10 +1,9 @@
 -- What holds of a chart and its core chart between two ticks, and what gives that no strong test is overwritten within one.
 use Rattle.std.proofs.Common.{◌≡◌, ℕ, ◌⊎◌, inl, inr, true, List, map, length, refl, sym, ap, subst}
-use Rattle.std.proofs.Common.{◌∙◌, Option}
+use Rattle.std.proofs.Common.{◌∙◌}
 use Rattle.std.specs.Prelude.{take}
 use Rattle.std.proofs.lemmas.List.{length-map, map-append}
 use Rattle.sc_values.specs.declared.value.Value.{Value}
-use Rattle.sc_values.specs.Access.{Access}
 use Rattle.sc_values.specs.Operator.{initial_value}
 use Rattle.sc_values.specs.Runs.{Ends}
 use Rattle.sc_graph.specs.Tick.{Inputs}
@@ -21,13 +20,13 @@ use Rattle.chart_machine.specs.Machine.{machine, initial, start, stands_in, is_a
 use Rattle.abort_expansion.specs.Expansion.{expanded}
 use Rattle.abort_expansion_laws.specs.Preemption.{SeenAlike}
 use Rattle.abort_expansion_laws.specs.Segments.{Follows}
-use Rattle.abort_expansion_laws.specs.Stages.{Entry, Silent, EachSpared}
+use Rattle.abort_expansion_laws.specs.Stages.{Entry, EachSpared}
 use Rattle.abort_expansion_laws.proofs.FreshInside.{nobody_there}
 use Rattle.abort_expansion_laws.proofs.Owed.{Started, first_tick, later_tick}
 use Rattle.abort_expansion_laws.proofs.SeenAlike.{front_of}
 use Rattle.abort_expansion_laws.proofs.RestedCharts.{rested_seen}
 use Rattle.abort_expansion_laws.proofs.TicksOfCharts as ticks
-use Rattle.abort_expansion_laws.proofs.FlagStages.{FlagStages, usual}
+use Rattle.abort_expansion_laws.proofs.FlagStages.{FlagStages}
 
 -- ---- before the first tick
 

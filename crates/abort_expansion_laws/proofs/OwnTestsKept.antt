@@ -3,12 +3,10 @@ use Rattle.std.proofs.Common.{ℕ, List}
 use Rattle.core_charts.specs.declared.features.Features.TheVariants as features
 use Rattle.core_charts.specs.Chart.{Chart}
 use Rattle.core_charts.specs.Rules.{IsChart}
-use Rattle.chart_machine.specs.declared.standing.Configuration.{Configuration}
 use Rattle.chart_machine.specs.declared.standing.Move.{Move}
 use Rattle.chart_machine.specs.Table.{table, state_at}
 use Rattle.abort_expansion.specs.Expansion.{expanded}
 use Rattle.abort_expansion_laws.specs.CoreRows.{IsState, IsSuper}
-use Rattle.abort_expansion_laws.specs.Stages.{Entry}
 use Rattle.abort_expansion_laws.proofs.EnteredAlike.{AreEntered}
 use Rattle.abort_expansion_laws.proofs.OpenedInside.{charts_enter}
 use Rattle.abort_expansion_laws.proofs.OwnTests.{OwnTests, owns_initially, owns_at_start, owns_still}
@@ -16,7 +14,6 @@ use Rattle.abort_expansion_laws.proofs.RowsOfCharts as whole
 use Rattle.abort_expansion_laws.proofs.TopRegions.{tops}
 use Rattle.abort_expansion_laws.proofs.WalkedWhole.{entered}
 use Rattle.abort_expansion_laws.proofs.TicksOfCharts as ticks
-use Rattle.abort_expansion_laws.proofs.ToldSteps.{Told}
 
 module _ (c : Chart) (rules : IsChart features.Extended c) (core_rules : IsChart features.Core (expanded c)) where
   pub own_tests_kept : ticks.KeptByChart c rules core_rules (OwnTests (table c))

@@ -1,6 +1,5 @@
 -- What belongs to each chart and its core chart in a tick: their tables and rows, what each step of the chart keeps, and where a tick has ended.
-use Rattle.std.proofs.Common.{◌≡◌, ℕ, Bool, Option, Some, sym, subst}
-use Rattle.sc_values.specs.Access.{Access}
+use Rattle.std.proofs.Common.{◌≡◌, ℕ, Bool, Some, sym, subst}
 use Rattle.sc_values.specs.Runs.{IsOver}
 use Rattle.core_charts.specs.declared.features.Features.TheVariants as features
 use Rattle.core_charts.specs.Chart.{Chart}
@@ -13,7 +12,7 @@ use Rattle.chart_machine.specs.Machine.{machine, initial, start}
 use Rattle.chart_machine.specs.Steps.{step}
 use Rattle.abort_expansion.specs.Expansion.{expanded}
 use Rattle.chart_machine_laws.specs.Tree.{IsNested}
-use Rattle.abort_expansion_laws.specs.Stages.{Entry, Silent, Correspondence}
+use Rattle.abort_expansion_laws.specs.Stages.{Correspondence}
 use Rattle.abort_expansion_laws.specs.CoreRows.{Images, CoreRows, pair}
 use Rattle.abort_expansion_laws.proofs.Owed.{Resting, Started, first_tick, later_tick}
 use Rattle.abort_expansion_laws.proofs.RowsOfCharts as whole

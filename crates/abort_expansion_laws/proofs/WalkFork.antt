@@ -12,7 +12,7 @@ use Rattle.chart_machine.specs.declared.standing.Standing.{Standing}
 use Rattle.chart_machine.specs.declared.standing.Standing.TheVariants as at
 use Rattle.chart_machine.specs.declared.table.Table.{Table}
 use Rattle.chart_machine.specs.declared.table.TablePosition.{TablePosition}
-use Rattle.chart_machine.specs.Table.{Subtree, state_at, region_at, states_in, regions_in, region_numbers, state_numbers, side_by_side, state_subtree}
+use Rattle.chart_machine.specs.Table.{Subtree, state_at, states_in, regions_in, region_numbers, side_by_side, state_subtree}
 use Rattle.chart_machine.specs.Table.{within as table_within, subtree_of_region as table_of_region, subtree_of_state as table_of_state}
 use Rattle.chart_machine.specs.Table.{past_states, next_behind}
 use Rattle.chart_machine.specs.Table.{come_to}
@@ -38,8 +38,8 @@ use Rattle.abort_expansion_laws.proofs.SimpleRows.{rolled_piece}
 use Rattle.abort_expansion_laws.proofs.InRegionRows.{InRegionAt, first_holds, rest_holds, position_of}
 use Rattle.abort_expansion_laws.proofs.SideRows.{past_side, side_first, side_second, side_entered, states_append, sized_append, numbers_append}
 use Rattle.abort_expansion_laws.proofs.Walked.{World, StateImage, ValuesAt, values_from, values_first, values_second, images_of, i, RegionFits, StateFits}
-use Rattle.abort_expansion_laws.proofs.Walked.{CoreStateFits, CoreSort, for_super, for_behind, for_watching, for_nothing, Origin, thread, watcher, OwnerFits}
-use Rattle.abort_expansion_laws.proofs.Walked.{InRegion, Range, range_none, range_one, range_both, range_to}
+use Rattle.abort_expansion_laws.proofs.Walked.{CoreStateFits, CoreSort, for_super, for_behind, for_watching, for_nothing, thread, watcher, OwnerFits}
+use Rattle.abort_expansion_laws.proofs.Walked.{Range, range_none, range_one, range_both, range_to}
 use Rattle.abort_expansion_laws.proofs.Walked.{FlagsFit, WatcherFits, range_more, behind_by}
 use Rattle.abort_expansion_laws.proofs.Walks.{Part, Fits, StateStands, RegionsStand, RegionsWalk, RegionWalks, pieces_of}
 use Rattle.abort_expansion_laws.proofs.WalkSide.{walk_side}

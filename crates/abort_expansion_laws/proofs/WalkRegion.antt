@@ -2,7 +2,6 @@
 use Rattle.std.proofs.Common.{◌≡◌, ℕ, suc, ◌+◌, ◌<◌, Bool, true, false, None}
 use Rattle.std.proofs.Common.{Option, Some, List, [], ◌∷◌, ◌++◌, map, length, slice_get}
 use Rattle.std.proofs.Common.{unwrap_or, refl, sym, ap, subst, ◌∙◌, arith}
-use Rattle.std.specs.List.{list_any}
 use Rattle.std.proofs.lemmas.List.{length-append, map-append, append-nil}
 use Rattle.sc_text.proofs.EachItem.{Each}
 use Rattle.core_charts.specs.declared.region.Region.{Region}
@@ -37,7 +36,6 @@ use Rattle.abort_expansion_laws.proofs.Walked.{World, ValuesAt, values_from, val
 use Rattle.abort_expansion_laws.proofs.Walked.{CoreStateFits, CoreSort, for_start, for_nothing, thread, Range, range_both, range_to}
 use Rattle.abort_expansion_laws.proofs.Walked.{thread_by, places_by}
 use Rattle.abort_expansion_laws.proofs.Walks.{Fits, RegionsStand, RegionsWalk, RegionWalks, StateWalks, pieces_of}
-use Rattle.abort_expansion_laws.proofs.WalkSimple.{one_row, one_sized, one_begins, one_state}
 use Rattle.abort_expansion_laws.proofs.RowsOfForks.{region_rows}
 use Rattle.abort_expansion_laws.proofs.WalkStates.{expanded_pieces, EachPlace, FirstFits, StatesStand, StatesWalk, walk_states, numbers_append}
 use Rattle.abort_expansion_laws.proofs.WalkStates.{numbers_long, pieces_long}

@@ -1,5 +1,5 @@
 -- A simple state and a final one, and what stands for them.
-use Rattle.std.proofs.Common.{◌≡◌, ◌≢◌, ℕ, suc, ◌+◌, ◌<◌, ⊎_elim, Bool, true, false, Option, Some, None, List, [], ◌∷◌, ◌++◌, map, length, refl, sym, ap}
+use Rattle.std.proofs.Common.{◌≡◌, ◌≢◌, ℕ, suc, ◌+◌, ◌<◌, ⊎_elim, Bool, true, false, Option, Some, List, [], ◌∷◌, ◌++◌, map, length, refl, sym, ap}
 use Rattle.std.proofs.Common.{subst, ◌∙◌, arith, unwrap_or}
 use Rattle.std.specs.Prelude.{reverse}
 use Rattle.std.proofs.lemmas.Option.{slice_get_past}
@@ -20,8 +20,8 @@ use Rattle.core_charts.specs.Aborts.{has_aborts}
 use Rattle.abort_expansion.specs.Superstates.{simple_transitions, simple}
 use Rattle.chart_machine_laws.specs.Tree.{IsThere, holder}
 use Rattle.chart_machine_laws.proofs.RowsOfSubtrees.{Holds, IsSized, state_sized}
-use Rattle.abort_expansion_laws.specs.CoreRows.{own, IsState, is_final, IsSuper, IsSimple, simple_row, Images, flags_around}
-use Rattle.abort_expansion_laws.specs.CoreRows.{SimpleImage, FinalImage, StayingImage, SplitImage}
+use Rattle.abort_expansion_laws.specs.CoreRows.{own, IsState, is_final, flags_around}
+use Rattle.abort_expansion_laws.specs.CoreRows.{SimpleImage, FinalImage}
 use Rattle.abort_expansion_laws.proofs.SimpleRows.{rolled, rolled_piece}
 use Rattle.abort_expansion_laws.proofs.InRegionRows.{InRegionAt, first_holds, position_of}
 use Rattle.abort_expansion_laws.proofs.Walked.{World, StateImage, no_flags, images_of, i, RegionFits, StateFits, CoreStateFits}

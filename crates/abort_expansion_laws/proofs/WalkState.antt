@@ -20,7 +20,7 @@ use Rattle.abort_expansion.specs.declared.pieces.NextNumbers.{NextNumbers}
 use Rattle.abort_expansion.specs.Flags.{has_join, preparation_name}
 use Rattle.core_charts.specs.Aborts.{has_aborts}
 use Rattle.abort_expansion.specs.Pieces.{RegionPiece, StatePiece, beside}
-use Rattle.abort_expansion.specs.Superstates.{stays, is_prepared, prepared, superstate_over, split}
+use Rattle.abort_expansion.specs.Superstates.{stays, is_prepared, prepared}
 use Rattle.abort_expansion.specs.Expansion.{piece_of_region, piece_of_state, region_piece, state_piece}
 use Rattle.chart_machine_laws.proofs.RowsOfSubtrees.{IsSized, state_sized}
 use Rattle.chart_machine_laws.proofs.TableTrees.{NoneInitial, OnceInitial}

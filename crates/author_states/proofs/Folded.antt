@@ -1,6 +1,6 @@
 -- Passes that make of each state another one keep own paths: those of constants, during actions, counts and terminations.
 use Rattle.std.proofs.Common.{◌≡◌, ℕ, suc, ◌+◌, ◌==◌, Bool, true, false, Option, Some, None}
-use Rattle.std.proofs.Common.{List, [], ◌∷◌, ◌++◌, map, length, codes, refl, ap, sym, ◌∙◌, append-nil}
+use Rattle.std.proofs.Common.{List, [], ◌∷◌, ◌++◌, map, length, codes, refl, ap, ◌∙◌, append-nil}
 use Rattle.sc_values.specs.declared.expression.Expr.{Expr}
 use Rattle.core_charts.specs.declared.region.TransitionKind.TheVariants as kind
 use Rattle.sc_text.specs.MadeNames.{numbered}
@@ -23,7 +23,7 @@ use Rattle.sc_text.proofs.EachItem.{Each}
 use Rattle.author_states.specs.Own.{among, own_in_region, own_in_state}
 use Rattle.state_paths.specs.Paths.{beside}
 use Rattle.author_states.proofs.Made.{made_silent, one_silent, passing_silent, silent_region}
-use Rattle.author_states.proofs.Walking.{Cases, each_region, SameRegion, SameState, SameRegions, Silent, mapped_regions, mapped_states, region_parts}
+use Rattle.author_states.proofs.Walking.{each_region, SameRegion, SameState, SameRegions, Silent, mapped_regions, mapped_states, region_parts}
 use Rattle.author_states.proofs.Walking.{region_same, silent_append, state_parts, state_same}
 
 -- ---- what makes of a state whose regions are the same another one that is

@@ -1,5 +1,5 @@
 -- What reductions make has no own paths.
-use Rattle.std.proofs.Common.{◌≡◌, ℕ, suc, ◌==◌, Bool, true, false, List, [], ◌∷◌, ◌++◌, map, codes, refl, ap, sym, ◌∙◌, append-nil}
+use Rattle.std.proofs.Common.{◌≡◌, ℕ, suc, ◌==◌, Bool, true, false, List, [], ◌∷◌, ◌++◌, map, codes, refl, ap, ◌∙◌, append-nil}
 use Rattle.core_charts.specs.declared.region.Effect.{Effect}
 use Rattle.core_charts.specs.declared.region.Transition.{Transition}
 use Rattle.sc_text.specs.MadeNames.{numbered}
@@ -7,7 +7,7 @@ use Rattle.extended_charts.specs.declared.extended.ExtendedRegion.{ExtendedRegio
 use Rattle.extended_charts.specs.declared.extended.ExtendedState.{ExtendedState}
 use Rattle.extended_charts.specs.Making.{all_passing, always, made_state, passing, region}
 use Rattle.state_paths.specs.Paths.{beside}
-use Rattle.author_states.specs.Own.{among, own_in_region, own_in_state}
+use Rattle.author_states.specs.Own.{own_in_region, own_in_state}
 use Rattle.author_states.proofs.Walking.{SameRegions, Silent, beside_append, region_parts, silent_append, state_parts}
 
 -- a state that is made, with nothing inside

@@ -1,5 +1,5 @@
 -- No pass changes the own paths of a chart.
-use Rattle.std.proofs.Common.{◌≡◌, ℕ, zero, suc, ◌+◌, ◌==◌, Bool, true, false, Option, None, List, [], ◌∷◌, ◌++◌, map, length, codes, refl, ap, ◌∙◌}
+use Rattle.std.proofs.Common.{◌≡◌, ℕ, zero, suc, ◌+◌, ◌==◌, Bool, true, false, List, [], ◌∷◌, ◌++◌, map, length, codes, refl, ap, ◌∙◌}
 use Rattle.std.proofs.Common.{append-nil}
 use Rattle.std.specs.Prelude.{if◌then◌else◌}
 use Rattle.sc_values.specs.declared.expression.Expr.{Expr}
@@ -24,7 +24,6 @@ use Rattle.chart_reduction.specs.Reduction.{with_entry, with_variables}
 use Rattle.value_passes.specs.Registers as registers
 use Rattle.extended_charts.specs.Signals as signals
 use Rattle.author_states.specs.Own.{among, own_in_region, own_in_state, own_paths}
-use Rattle.state_paths.specs.Paths.{beside}
 use Rattle.author_states.proofs.Ended.{endings_kept}
 use Rattle.author_states.proofs.Folded.{constants_kept, counts_kept, durings_kept, holds_kept}
 use Rattle.author_states.proofs.Left.{exits_kept}

@@ -1,9 +1,9 @@
 -- What reading gives for each rule of declarations and transitions.
-use Rattle.std.proofs.Common.{◌≡◌, ℕ, ◌-◌, Bool, true, false, Option, Some, None, List, [], ◌∷◌, ◌++◌, length, drop, refl, sym, ◌∙◌, ap, subst}
+use Rattle.std.proofs.Common.{◌≡◌, ℕ, ◌-◌, Bool, true, false, Option, Some, None, List, [], ◌∷◌, ◌++◌, drop, refl, sym, ◌∙◌, ap}
 use Rattle.sc_values.specs.declared.value.Kind.{Kind}
 use Rattle.sc_graph.specs.declared.program.Role.{Role}
-use Rattle.grammar.specs.Grammar.{one, seq, maybe, many, spells}
-use Rattle.grammar.specs.Read.{Outcome, Got, Failed, starts, next, choose, read, with_head}
+use Rattle.grammar.specs.Grammar.{one, seq, maybe, spells}
+use Rattle.grammar.specs.Read.{Got, starts, next, read, with_head}
 use Rattle.grammar.proofs.Shaped.{Shaped}
 use Rattle.grammar.proofs.Reading.{Verdict, good, bad, begins_some}
 use Rattle.grammar.proofs.Every.{reads}
@@ -21,22 +21,16 @@ use Rattle.sc_text.proofs.Steps.{one_taken, next_stops}
 use Rattle.core_charts.specs.declared.region.TransitionKind.{TransitionKind}
 use Rattle.drafts.specs.declared.parts.Named.{Named}
 use Rattle.drafts.specs.declared.parts.TextExpression.{TextExpression}
-use Rattle.drafts.specs.declared.parts.Declaration.{Declaration}
 use Rattle.chart_drafts.specs.declared.draft.DraftEffect.{DraftEffect}
-use Rattle.chart_drafts.specs.declared.draft.DraftTransition.{DraftTransition}
 use Rattle.chart_drafts.specs.Draft.{is_there, effect_of, transition_of}
-use Rattle.drafts.specs.Parts.{or_none, expressed, declared_as}
-use Rattle.chart_drafts.specs.ChartText.{Grows, the_word, the_sign, roles, declared_role, declared_kind, last_name, name, declaration, flag, placed, effect}
-use Rattle.chart_drafts.specs.ChartText.{next_effect, some_effects, effects, trigger, outcome, moment, termination, tested_words, tested, transition_first}
+use Rattle.drafts.specs.Parts.{expressed, declared_as}
+use Rattle.chart_drafts.specs.ChartText.{Grows, the_word, the_sign, declared_role, declared_kind, last_name, name, declaration, flag, placed, effect}
+use Rattle.chart_drafts.specs.ChartText.{trigger, outcome, moment, termination, tested_words, tested}
 use Rattle.chart_drafts.specs.ChartText.{transition}
-use Rattle.chart_drafts.specs.Inside.{IsFilling}
 use Rattle.chart_drafts.specs.Phrase.{Gives}
-use Rattle.chart_drafts.proofs.Shapes.{declaration_is, next_effect_is, termination_is, transition_is}
+use Rattle.chart_drafts.proofs.Shapes.{termination_is}
 use Rattle.chart_drafts.proofs.Parts.{seq_gives, made_gives, after_gives, after_stops_second, maybe_none, maybe_some, maybe_stops, left_read}
 use Rattle.chart_drafts.proofs.Parts.{right_read}
-use Rattle.chart_drafts.proofs.Same.{after_read}
-use Rattle.chart_drafts.proofs.RowReading.{listed_stops}
-use Rattle.chart_drafts.proofs.Filling.{many_fills, listed_fills}
 
 abbrev e0 : Grows Phrase
 e0 = expression 0

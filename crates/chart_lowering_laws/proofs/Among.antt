@@ -1,17 +1,14 @@
 -- Where the states of a region stand, the initial one and the others.
 use Rattle.std.proofs.Common.{Some, slice_get, unwrap_or, ◌≡◌, ℕ, zero, suc, ◌+◌, ◌<◌, ◌≤◌, inl, inr, ⊎_elim, true, false, if◌then◌else◌, List, [], ◌∷◌, ◌++◌}
-use Rattle.std.proofs.Common.{map, length, count_by, Contains, refl, sym, ap, subst, ◌∙◌, arith}
+use Rattle.std.proofs.Common.{map, length, Contains, refl, sym, ap, subst, ◌∙◌, arith}
 use Rattle.std.proofs.lemmas.Option.{slice_get_within}
 use Rattle.std.proofs.lemmas.List.{length-map}
 use Rattle.chart_lowering_laws.specs.Layout.{InRegion}
-use Rattle.sc_graph.specs.declared.program.Variable.{Variable}
-use Rattle.sc_text.proofs.EachItem.{Each, each_of}
-use Rattle.core_charts.specs.declared.features.Features.TheVariants as features
+use Rattle.sc_text.proofs.EachItem.{Each}
 use Rattle.core_charts.specs.declared.region.Region.{Region}
 use Rattle.core_charts.specs.declared.region.State.{State}
-use Rattle.core_charts.specs.declared.region.Region.TheViews.{out-Region, out-State}
+use Rattle.core_charts.specs.declared.region.Region.TheViews.{out-Region}
 use Rattle.core_charts.specs.declared.region.Region.TheFolds.{fold_out-Region}
-use Rattle.core_charts.specs.Rules.{IsRegion, AreRegions}
 use Rattle.chart_machine.specs.declared.table.RegionRow.{RegionRow}
 use Rattle.chart_machine.specs.declared.table.Table.{Table}
 use Rattle.chart_machine.specs.declared.table.TablePosition.{TablePosition}
@@ -31,16 +28,14 @@ use Rattle.chart_lowering.specs.declared.targets.Targets.{Targets}
 use Rattle.chart_lowering.specs.Lowering.{RegionPiece, StatePiece, label, label_name, texts, numbers, targets, labels_in_initial, state_piece as low_state}
 use Rattle.chart_lowering.specs.Lowering.{labels_in_states, region_piece as low_region, piece_of_region as low_of_region, piece_of_state as low_of_state}
 use Rattle.chart_lowering_laws.proofs.Texts.{made, label_piece}
-use Rattle.chart_lowering_laws.proofs.Counting.{threads_in, CountsState, state_counts, regions_count}
+use Rattle.chart_lowering_laws.proofs.Counting.{threads_in, CountsState}
 use Rattle.chart_lowering_laws.proofs.Finding.{MainPlace, label_found}
 use Rattle.chart_lowering_laws.proofs.Passing.{Passed, pass, Front, front_of}
-use Rattle.chart_lowering_laws.proofs.Rows.{Rowed, StateRowed, open_region, state_is_rowed, regions_rowed}
+use Rattle.chart_lowering_laws.proofs.Rows.{Rowed, StateRowed, open_region}
 use Rattle.chart_lowering_laws.specs.Marks.{Mark, initial_among, RegionMarks, StateMarks, marks_among, region_marks, state_marks, marks_of_region}
-use Rattle.chart_lowering_laws.proofs.Marking.{marks_of_state, StateMarked, low_states_same, state_is_marked, regions_marked}
-use Rattle.chart_lowering_laws.proofs.Walking.{HasLabel, Goes, StateAt, RegionAt, Found, WalksRegion, WalksRegionBy, WalksState, WalksSide, low_open_region}
-use Rattle.chart_lowering_laws.proofs.Walking.{walk_side, walk_state}
+use Rattle.chart_lowering_laws.proofs.Marking.{marks_of_state, StateMarked, low_states_same}
+use Rattle.chart_lowering_laws.proofs.Walking.{HasLabel, Goes, StateAt, RegionAt, Found, WalksRegion, WalksRegionBy, WalksState, low_open_region}
 use Rattle.chart_lowering_laws.proofs.InitialFirst.{others_in, NoneInitial, MostOne, both_in, none_in, joined_by, first_long, initial_threads, OneInitial}
-use Rattle.chart_lowering_laws.proofs.InitialFirst.{one_initial, most_one}
 use Rattle.chart_lowering_laws.proofs.StateTexts.{marked_by, marks_of_other, marks_of_initial, get_map, text_of_other, none_of_other, text_of_initial}
 use Rattle.chart_lowering_laws.proofs.StateTexts.{none_of_initial, behind_marks, labels_of}
 use Rattle.chart_lowering_laws.proofs.InitialStates.{rows_of, Initial, initial_of}

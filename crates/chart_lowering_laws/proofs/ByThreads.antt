@@ -4,7 +4,6 @@ use Rattle.std.proofs.Common.{option_map, Contains, refl, sym, ap, subst, ◌∙
 use Rattle.std.proofs.lemmas.Option.{none-some, same_Some, slice_get_within}
 use Rattle.sc_values.specs.declared.expression.Expr.{Expr}
 use Rattle.sc_values.specs.Runs.{Machine, Act, act_of}
-use Rattle.sc_graph.specs.Steps.{only_if}
 use Rattle.core_charts.specs.declared.region.Effect.{Effect}
 use Rattle.core_charts.specs.declared.region.Transition.{Transition}
 use Rattle.core_charts.specs.Tests.{terminations}
@@ -20,7 +19,7 @@ use Rattle.scl.specs.Block.{Block, End, Assign, Label, Goto, Pause, If, Fork, Br
 use Rattle.scl.specs.Labels.{settled}
 use Rattle.scl.specs.Places.{threads_of}
 use Rattle.scl.specs.Numbering.{Numbered}
-use Rattle.scl.specs.Meaning.{State, Doing, Away, Todo, Forked, Resting, Resuming, Finished, doing, step, machine, all_finished, is_ready, joined, after}
+use Rattle.scl.specs.Meaning.{State, Doing, Away, Todo, Forked, Resting, Resuming, Finished, doing, step, machine, all_finished, joined, after}
 use Rattle.scl.specs.Meaning.{change_of}
 use Rattle.scl.specs.Meaning.{access_of as access_of_thread}
 use Rattle.scl_graph_laws.specs.Alike.{Both}

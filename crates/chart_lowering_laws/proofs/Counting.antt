@@ -21,7 +21,7 @@ use Rattle.scl.specs.declared.statement.Statement.TheVariants as statement
 use Rattle.scl.specs.Numbering.{piece_of, pieces_of, in_row, all_branch_counts}
 use Rattle.chart_lowering.specs.declared.targets.Targets.{Targets}
 use Rattle.chart_lowering.specs.Lowering.{RegionPiece, StatePiece, label, goto, assignment, taken, tested, transitions, depth, simple, final, behind}
-use Rattle.chart_lowering.specs.Lowering.{superstate, branches, text_of, texts, numbers, is_wanted, body, body_from, targets, labels_in_initial}
+use Rattle.chart_lowering.specs.Lowering.{branches, text_of, texts, numbers, is_wanted, body, targets, labels_in_initial}
 use Rattle.chart_lowering.specs.Lowering.{labels_in_states, labels_in, label_at}
 use Rattle.chart_lowering.specs.Lowering.{region_piece as low_region, state_piece as low_state, piece_of_region as low_of_region}
 use Rattle.chart_lowering.specs.Lowering.{piece_of_state as low_of_state}

@@ -1,39 +1,22 @@
 -- Between two ticks the chart is entered exactly where its first thread is not away.
-use Rattle.std.proofs.Common.{◌≡◌, ◌≢◌, ℕ, zero, suc, ◌<◌, ◌⊎◌, inl, inr, ⊎_elim, Bool, true, false, ◌&&◌, if◌then◌else◌, nat_eq, Some, List, [], ◌∷◌, length}
-use Rattle.std.proofs.Common.{unwrap_or, Contains, refl, sym, ap, subst, ◌∙◌, eqb-true, arith}
-use Rattle.std.proofs.lemmas.List.{length-map}
+use Rattle.std.proofs.Common.{◌≡◌, ◌≢◌, ℕ, zero, suc, ◌<◌, ◌⊎◌, ⊎_elim, Bool, true, false, ◌&&◌, if◌then◌else◌, List, [], ◌∷◌, length}
+use Rattle.std.proofs.Common.{refl, sym, ap, subst, ◌∙◌, arith}
 use Rattle.std.specs.List.{list_all}
-use Rattle.sc_graph.specs.Tick.{Inputs, values_at_start}
-use Rattle.core_charts.specs.declared.region.Transition.{Transition}
-use Rattle.core_charts.specs.Tests.{terminations, closing_tests}
-use Rattle.chart_machine.specs.declared.standing.Standing.{Standing}
 use Rattle.chart_machine.specs.declared.standing.Standing.TheVariants as stand
 use Rattle.chart_machine.specs.declared.standing.Configuration.{Configuration}
 use Rattle.chart_machine.specs.declared.table.Table.{Table}
 use Rattle.chart_machine.specs.Table.{state_at, region_at}
 use Rattle.chart_machine.specs.Turns.{standing_of}
-use Rattle.chart_machine.specs.Steps.{moved}
-use Rattle.chart_machine.specs.Machine.{is_outside, guarded_first, woken, regions_at_start}
-use Rattle.chart_machine.specs.Machine.{start as chart_start}
-use Rattle.scl.specs.Labels.{settled}
+use Rattle.chart_machine.specs.Machine.{is_outside}
 use Rattle.scl.specs.Numbering.{Numbered}
-use Rattle.scl.specs.Meaning.{State, Doing, Away, Todo, Forked, Resting, Resuming, Finished, doing, is_ready, root_started, start}
-use Rattle.scl.specs.Meaning.{woken as doing_woken}
-use Rattle.chart_lowering_laws.specs.Layout.{Layout, LiesIn, IsSuper, IsRegionOf, Lowers}
-use Rattle.chart_lowering_laws.specs.Corresponds.{Live, HeldBy, Giving, Nothing, Ready, Turn, Past, giving_in, giving_of_root, given, fresh, first_standing}
-use Rattle.chart_lowering_laws.specs.Corresponds.{Fits, IsAtRoot, Corresponds}
+use Rattle.scl.specs.Meaning.{State, Away, doing}
+use Rattle.chart_lowering_laws.specs.Layout.{Layout, IsRegionOf, Lowers}
+use Rattle.chart_lowering_laws.specs.Corresponds.{Live, Giving, Nothing, Ready, Turn, Past, giving_of_root, given, fresh, first_standing}
+use Rattle.chart_lowering_laws.specs.Corresponds.{Fits, Corresponds}
 use Rattle.chart_lowering_laws.specs.Keeps.{AtRest}
-use Rattle.scl_graph_laws.proofs.Members.{contains_head, contains_none}
-use Rattle.chart_lowering_laws.proofs.NumberTests.{nat_same, same_test}
-use Rattle.chart_lowering_laws.proofs.Entering.{standing_in, put, moved_at, moved_length, opens_up, opened_in, reaches, any_reaches, reaches_member}
-use Rattle.chart_lowering_laws.proofs.Entering.{member_reaches, none_reaches, puts_top, or_either, or_first, or_second, and_each, and_both}
 use Rattle.chart_lowering_laws.proofs.Matching.{is_within}
 use Rattle.chart_lowering_laws.proofs.Structure.{given_top, given_in, giving_closed}
-use Rattle.chart_lowering_laws.proofs.Updating.{fresh_giving}
-use Rattle.chart_lowering_laws.proofs.Stepping.{number_within, unwrapped}
-use Rattle.chart_lowering_laws.proofs.Catching.{caught, Caught, not_ready}
-use Rattle.chart_lowering_laws.proofs.Woken.{not_live, standing_map, all_outside, outside_all, start_first, start_later, start_length, root_away}
-use Rattle.chart_lowering_laws.proofs.Woken.{giving_woken, root_giving}
+use Rattle.chart_lowering_laws.proofs.Woken.{not_live, all_outside, outside_all, root_away}
 
 module _ (k : Table) (p : Numbered) (l : Layout) (low : Lowers k p l) (c : Configuration) (s : State) (rest : AtRest k p l c s) where
   abbrev corr : Corresponds k p l c s

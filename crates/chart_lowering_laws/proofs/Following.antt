@@ -1,8 +1,7 @@
 -- A machine that follows another has its ends.
-use Rattle.std.proofs.Common.{◌≡◌, ◌≢◌, ℕ, ◌⊎◌, inl, inr, ⊎_elim, Bool, true, false, Option, Some, None, List, [], ◌∷◌, ◌++◌, nat_eq, refl, sym, ap, subst}
-use Rattle.std.proofs.Common.{◌∙◌, option_and_then, eqb-true}
+use Rattle.std.proofs.Common.{◌≡◌, ◌≢◌, ℕ, ◌⊎◌, inl, inr, ⊎_elim, Bool, true, false, Option, Some, None, List, [], ◌∷◌, ◌++◌, refl, sym, ap, subst}
+use Rattle.std.proofs.Common.{◌∙◌, option_and_then}
 use Rattle.std.proofs.lemmas.Option.{none-some, same_Some}
-use Rattle.std.proofs.lemmas.Bool.{eq-eqb}
 use Rattle.sc_values.specs.Runs.{Machine, Act, act_of, acts, acts_after, replay, IsOrdered, Ends}
 use Rattle.chart_lowering_laws.specs.Shown.{Move, Shown, Silent, move, moves, moves_after, all_acts, shown_acts, Showing, AreSilent}
 use Rattle.chart_lowering_laws.proofs.Waiting.{Waiting}

@@ -1,44 +1,23 @@
 -- Who gives the turn has forked, and so has each thread above one that is not away.
 use Rattle.chart_lowering_laws.proofs.OtherThreads.{is_forked}
-use Rattle.std.proofs.Common.{◌≡◌, ◌≢◌, ℕ, zero, suc, ◌<◌, ◌⊎◌, inl, inr, ⊎_elim, Bool, true, false, if◌then◌else◌, Option, Some, None, List, [], ◌∷◌, length}
-use Rattle.std.proofs.Common.{slice_get, unwrap_or, option_map, Contains, refl, sym, ap, subst, ◌∙◌, arith, nat_eq}
-use Rattle.std.proofs.lemmas.Option.{none-some, same_Some, slice_get_within}
-use Rattle.sc_values.specs.declared.expression.Expr.{Expr}
-use Rattle.sc_graph.specs.Steps.{Keep}
-use Rattle.core_charts.specs.declared.region.Transition.{Transition}
-use Rattle.core_charts.specs.Tests.{terminations}
+use Rattle.std.proofs.Common.{◌≡◌, ◌≢◌, ℕ, zero, suc, ◌<◌, ◌⊎◌, ⊎_elim, Bool, true, false, if◌then◌else◌, List, [], ◌∷◌}
+use Rattle.std.proofs.Common.{Contains, refl, sym, subst, ◌∙◌, arith, nat_eq}
 use Rattle.chart_machine.specs.declared.standing.Standing.{Standing}
 use Rattle.chart_machine.specs.declared.standing.Standing.TheVariants as stand
 use Rattle.chart_machine.specs.declared.standing.Configuration.{Configuration}
 use Rattle.chart_machine.specs.declared.table.Table.{Table}
 use Rattle.chart_machine.specs.Table.{state_at, region_at}
-use Rattle.chart_machine.specs.Turns.{standing_of, holder_of, itself, deeper}
-use Rattle.chart_machine.specs.Turns.{ForkedApart as RegionsApart, LiesIn as LiesUnder}
-use Rattle.scl.specs.Block.{Block, End, Assign, Label, Goto, Pause, If, Fork, Branches}
-use Rattle.scl.specs.Labels.{settled}
-use Rattle.scl.specs.Places.{threads_of}
-use Rattle.scl.specs.Places.{ForkedApart as ThreadsApart}
+use Rattle.chart_machine.specs.Turns.{standing_of}
+use Rattle.chart_machine.specs.Turns.{ForkedApart as RegionsApart}
+use Rattle.scl.specs.Block.{End, Assign, Label, Goto, Pause, If, Fork}
 use Rattle.scl.specs.Numbering.{Numbered}
-use Rattle.scl.specs.Meaning.{State, Doing, Away, Todo, Forked, Resting, Resuming, Finished, ThreadChange, doing}
-use Rattle.scl.specs.Meaning.{step, machine, all_finished, joined, after, change_of}
-use Rattle.chart_lowering_laws.specs.Layout.{Layout, LiesIn, IsRegionOf, Lowers, Behind}
-use Rattle.chart_lowering_laws.specs.Layout.{goes_on as leaves}
-use Rattle.chart_lowering_laws.specs.Corresponds.{Live, HeldBy, Giving, Nothing, Ready, Turn, Past, giving, giving_in, giving_of_root, given, Fits, IsAtRoot}
+use Rattle.scl.specs.Meaning.{State, Doing, Away, Todo, Forked, Resting, Resuming, Finished, doing}
+use Rattle.chart_lowering_laws.specs.Layout.{Layout, LiesIn, IsRegionOf, Lowers}
+use Rattle.chart_lowering_laws.specs.Corresponds.{Giving, Nothing, Ready, Turn, Past, giving, giving_in, giving_of_root, given, Fits}
 use Rattle.chart_lowering_laws.specs.Corresponds.{Corresponds}
-use Rattle.chart_lowering_laws.proofs.Waiting.{Waiting}
-use Rattle.chart_lowering_laws.specs.Follows.{Answers}
-use Rattle.chart_lowering_laws.specs.WhichShow.{region_shows, thread_shows, shows_doing, has_trigger}
 use Rattle.scl_graph_laws.proofs.Members.{contains_none, contains_cons}
-use Rattle.chart_lowering_laws.proofs.NumberTests.{same_or_not, nat_same}
-use Rattle.chart_lowering_laws.proofs.Matching.{around_less}
-use Rattle.chart_lowering_laws.proofs.LeadAlike.{is_there}
 use Rattle.chart_lowering_laws.proofs.Structure.{given_top, given_in}
-use Rattle.chart_lowering_laws.proofs.Stepping.{thread_within, set_doing_same}
-use Rattle.chart_lowering_laws.proofs.Joins.{InFork, in_fork, join_silently, root_joins, fork_branches}
-use Rattle.chart_lowering_laws.proofs.Finished.{all_have_finished}
-use Rattle.chart_lowering_laws.proofs.Apart.{apart, region_by}
 use Rattle.chart_lowering_laws.proofs.RegionsWait.{forks_around}
-use Rattle.chart_lowering_laws.proofs.Quieting.{quiet, AllQuiet, all_quiet}
 
 pub giving_turn : (d : Doing) → giving d ≡ Turn → is_forked d ≡ true
 giving_turn Away h = absurd (cc)

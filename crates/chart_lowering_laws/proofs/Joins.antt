@@ -19,10 +19,9 @@ use Rattle.scl.specs.Places.{threads_of}
 use Rattle.scl.specs.Numbering.{Numbered}
 use Rattle.scl.specs.Meaning.{State, Doing, Away, Todo, Forked, Finished, doing, all_finished, joined, forked, after, change_of, step}
 use Rattle.chart_lowering_laws.proofs.NumberTests.{nat_same}
-use Rattle.chart_lowering_laws.specs.Layout.{Layout, InRegion, TriesOut, Takes, Behind, Opens, IsSimple, IsFinal, IsSuper, LiesIn, IsRegionOf, Lowers}
+use Rattle.chart_lowering_laws.specs.Layout.{Layout, InRegion, Takes, Behind, Opens, IsSuper, LiesIn, IsRegionOf, Lowers}
 use Rattle.chart_lowering_laws.specs.Corresponds.{Live, HeldBy, Nothing, Ready, Turn, giving, giving_in, giving_of_root, given, fresh, Fits, IsAtRoot}
 use Rattle.chart_lowering_laws.specs.Corresponds.{Corresponds}
-use Rattle.scl_graph_laws.proofs.Members.{contains_head, contains_tail, contains_none, contains_cons}
 use Rattle.chart_lowering_laws.proofs.Matching.{Onward, is_within, acts_on, any_contains, fresh_enters}
 use Rattle.chart_lowering_laws.proofs.Structure.{given_top, given_in}
 use Rattle.chart_lowering_laws.proofs.Updating.{After}

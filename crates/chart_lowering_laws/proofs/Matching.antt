@@ -23,7 +23,7 @@ use Rattle.chart_machine.specs.Table.{state_at, region_at}
 use Rattle.chart_machine.specs.Turns.{numbered_from}
 use Rattle.chart_machine.specs.Steps.{to, written, truth, verdict, state_in, dropped, acts, taken, effected}
 use Rattle.chart_machine.specs.Steps.{change_of as region_change}
-use Rattle.scl.specs.Block.{Block, End, Assign, Label, Goto, Pause, If, Fork}
+use Rattle.scl.specs.Block.{Block, End, Assign, Pause, If, Fork}
 use Rattle.scl.specs.Labels.{before, settled}
 use Rattle.scl.specs.Numbering.{Numbered}
 use Rattle.scl.specs.Meaning.{Doing, Todo, ThreadChange, goes_on, chosen, first_step}
@@ -36,7 +36,7 @@ use Rattle.chart_lowering_laws.specs.Corresponds.{Live, HeldBy, ComesTo, Ready, 
 use Rattle.scl_graph_laws.proofs.Members.{contains_head, contains_tail, contains_none, contains_cons}
 use Rattle.chart_lowering_laws.proofs.NumberTests.{nat_differ, nat_same}
 use Rattle.chart_lowering_laws.proofs.Entering.{later, only, put, put_append, opened_in, not_opened, puts_opened}
-use Rattle.chart_lowering_laws.proofs.LeadAlike.{settled_step, is_there, acts_alike, takes_alike, tries_alike}
+use Rattle.chart_lowering_laws.proofs.LeadAlike.{settled_step, is_there, tries_alike}
 
 -- ---- what is dropped
 

@@ -5,7 +5,6 @@ use Rattle.sc_graph.specs.Tick.{Inputs}
 use Rattle.chart_machine.specs.declared.table.Table.{Table}
 use Rattle.chart_machine.specs.Machine as chart
 use Rattle.scl.specs.Numbering.{Numbered}
-use Rattle.scl.specs.Meaning.{State}
 use Rattle.scl.specs.Meaning as text
 use Rattle.scl_graph_laws.specs.Alike.{EndsAlike}
 use Rattle.chart_lowering_laws.specs.Layout.{Layout}

@@ -20,7 +20,7 @@ use Rattle.scl.specs.Numbering.{Numbered}
 use Rattle.scl.specs.Meaning.{State, Doing, Away, Todo, Forked, Resting, Resuming, Finished, doing, is_ready, root_started, start}
 use Rattle.scl.specs.Meaning.{woken as doing_woken}
 use Rattle.chart_lowering_laws.specs.Layout.{Layout, LiesIn, IsSuper, IsRegionOf, Lowers}
-use Rattle.chart_lowering_laws.specs.Corresponds.{Live, HeldBy, Giving, Nothing, Ready, Turn, Past, giving_in, giving_of_root, given, fresh, first_standing}
+use Rattle.chart_lowering_laws.specs.Corresponds.{Live, HeldBy, Giving, Nothing, Ready, Turn, Past, giving_in, giving_of_root, given, fresh}
 use Rattle.chart_lowering_laws.specs.Corresponds.{Fits, IsAtRoot, Corresponds}
 use Rattle.chart_lowering_laws.specs.Keeps.{AtRest}
 use Rattle.scl_graph_laws.proofs.Members.{contains_head, contains_none}
@@ -32,7 +32,7 @@ use Rattle.chart_lowering_laws.proofs.Structure.{given_top, given_in, giving_clo
 use Rattle.chart_lowering_laws.proofs.Updating.{fresh_giving}
 use Rattle.chart_lowering_laws.proofs.Stepping.{number_within, unwrapped}
 use Rattle.chart_lowering_laws.proofs.Catching.{caught, Caught, not_ready}
-use Rattle.chart_lowering_laws.proofs.Woken.{not_live, standing_map, all_outside, outside_all, start_first, start_later, start_length, root_away}
+use Rattle.chart_lowering_laws.proofs.Woken.{not_live, standing_map, all_outside, start_first, start_later, start_length}
 use Rattle.chart_lowering_laws.proofs.Woken.{giving_woken, root_giving}
 use Rattle.chart_lowering_laws.proofs.Entered.{fits_as, outside_nothing, away_if_outside, entered_if}
 

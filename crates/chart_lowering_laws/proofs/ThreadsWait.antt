@@ -24,12 +24,11 @@ use Rattle.chart_lowering_laws.proofs.Updating.{After}
 use Rattle.chart_lowering_laws.proofs.Showing.{test_shows, effect_shows}
 use Rattle.chart_lowering_laws.specs.Layout.{Layout, LiesIn, IsRegionOf, Lowers, Behind}
 use Rattle.chart_lowering_laws.specs.Layout.{goes_on as leaves}
-use Rattle.chart_lowering_laws.specs.Corresponds.{Live, HeldBy, Giving, Nothing, Ready, Turn, Past, giving, giving_in, giving_of_root, given, Fits, IsAtRoot}
+use Rattle.chart_lowering_laws.specs.Corresponds.{Live, HeldBy, Nothing, Ready, Turn, giving, giving_in, giving_of_root, given, IsAtRoot}
 use Rattle.chart_lowering_laws.specs.Corresponds.{Corresponds}
 use Rattle.chart_lowering_laws.proofs.Waiting.{Waiting}
 use Rattle.chart_lowering_laws.specs.Follows.{Answers}
 use Rattle.chart_lowering_laws.specs.WhichShow.{region_shows, thread_shows, shows_doing, has_trigger}
-use Rattle.scl_graph_laws.proofs.Members.{contains_none, contains_cons}
 use Rattle.chart_lowering_laws.proofs.NumberTests.{same_or_not, nat_same}
 use Rattle.chart_lowering_laws.proofs.Matching.{around_less}
 use Rattle.chart_lowering_laws.proofs.LeadAlike.{is_there}

@@ -1,54 +1,35 @@
 -- The whole chart: each of its states and regions has its row in the chart's table and its text in the lowering.
-use Rattle.std.proofs.Common.{◌≡◌, inl, suc, ◌+◌, List, map, refl, subst, Some, slice_get, unwrap_or, ℕ, zero, ◌<◌, ◌≤◌, inr, ⊎_elim, true, false}
-use Rattle.std.proofs.Common.{if◌then◌else◌, [], ◌∷◌, ◌++◌, length, count_by, Contains, sym, ap, ◌∙◌, arith}
+use Rattle.std.proofs.Common.{◌≡◌, inl, suc, ◌+◌, List, map, refl, subst, ℕ, zero, ◌<◌, ◌≤◌, true, false}
+use Rattle.std.proofs.Common.{if◌then◌else◌, [], ◌∷◌, ◌++◌, length, count_by, sym, ◌∙◌, arith}
 use Rattle.core_charts.specs.declared.features.Features.TheVariants as features
 use Rattle.core_charts.specs.Chart.{Chart}
 use Rattle.core_charts.specs.Rules.{IsChart, depth_limit, IsRegion, AreRegions}
 use Rattle.chart_machine.specs.declared.table.SubtreeRows.{SubtreeRows}
-use Rattle.chart_machine.specs.Table.{table, whole, side_by_side, states_in, regions_in, region_numbers, subtree_of_region, region_at, state_numbers, in_region}
-use Rattle.chart_machine.specs.Table.{past_states, with_region, regions_in_initial, inside_region, region_subtree, state_subtree, subtree_of_state, StatesRows}
+use Rattle.chart_machine.specs.Table.{table, whole, side_by_side, states_in, regions_in, region_numbers, subtree_of_region}
 use Rattle.scl.specs.declared.program.Scl.{Scl}
 use Rattle.scl.specs.declared.statement.Statement.{Statement}
 use Rattle.scl.specs.Rules.{KeepsRules}
-use Rattle.scl.specs.Block.{Block, Fork, End, Label}
-use Rattle.scl.specs.Numbering.{Piece, Numbers, numbered, piece_of, pieces_of, in_row, branches_from, Piece as TextPiece}
+use Rattle.scl.specs.Block.{Block, Fork, End}
+use Rattle.scl.specs.Numbering.{Piece, Numbers, numbered, piece_of, pieces_of, in_row, branches_from}
 use Rattle.scl_graph_laws.proofs.RunsKept.{keeps_scopes}
-use Rattle.scl_graph_laws.proofs.Segments.{stand_all, StandAt, stand_from, stand_first, stand_second}
-use Rattle.scl_graph_laws.proofs.Scopes.{KeepsScopes, Distinct, distinct_first}
-use Rattle.chart_lowering.specs.Lowering.{branches, lowered, piece_of_region as low_of_region, RegionPiece, StatePiece, label, label_name, texts, numbers}
-use Rattle.chart_lowering.specs.Lowering.{targets, labels_in_initial, labels_in_states, region_piece as low_region, state_piece as low_state}
-use Rattle.chart_lowering.specs.Lowering.{piece_of_state as low_of_state}
-use Rattle.chart_lowering_laws.proofs.Texts.{made, fork_piece, label_piece}
-use Rattle.chart_lowering_laws.proofs.Counting.{regions_count, threads_in, CountsState, state_counts}
-use Rattle.chart_lowering_laws.proofs.Finding.{MainPlace, main_whole, main_branch, label_found}
-use Rattle.chart_lowering_laws.proofs.Rows.{regions_rowed, Rowed, StateRowed, open_region, state_is_rowed}
-use Rattle.chart_lowering_laws.specs.Marks.{marks, Mark, initial_among, RegionMarks, StateMarks, marks_among, region_marks, state_marks, marks_of_region}
-use Rattle.chart_lowering_laws.proofs.Marking.{regions_marked, marks_of_state, StateMarked, low_states_same, state_is_marked}
-use Rattle.chart_lowering_laws.proofs.Walking.{Found, walk_side, HasLabel, Goes, StateAt, RegionAt, WalksRegion, WalksRegionBy, WalksState, WalksSide}
-use Rattle.chart_lowering_laws.proofs.Walking.{low_open_region, walk_state}
-use Rattle.std.proofs.lemmas.Option.{slice_get_within}
-use Rattle.std.proofs.lemmas.List.{length-map}
-use Rattle.chart_lowering_laws.specs.Layout.{InRegion}
+use Rattle.scl_graph_laws.proofs.Segments.{stand_all}
+use Rattle.scl_graph_laws.proofs.Scopes.{KeepsScopes}
+use Rattle.chart_lowering.specs.Lowering.{branches, lowered, piece_of_region as low_of_region}
+use Rattle.chart_lowering_laws.proofs.Texts.{made, fork_piece}
+use Rattle.chart_lowering_laws.proofs.Counting.{regions_count, CountsState, state_counts}
+use Rattle.chart_lowering_laws.proofs.Finding.{MainPlace, main_whole, main_branch}
+use Rattle.chart_lowering_laws.proofs.Rows.{regions_rowed, StateRowed, state_is_rowed}
+use Rattle.chart_lowering_laws.specs.Marks.{marks, Mark}
+use Rattle.chart_lowering_laws.proofs.Marking.{regions_marked, StateMarked, state_is_marked}
+use Rattle.chart_lowering_laws.proofs.Walking.{Found, walk_side, WalksRegion, WalksState, WalksSide}
+use Rattle.chart_lowering_laws.proofs.Walking.{walk_state}
 use Rattle.sc_graph.specs.declared.program.Variable.{Variable}
 use Rattle.sc_text.proofs.EachItem.{Each, each_of}
 use Rattle.core_charts.specs.declared.region.Region.{Region}
 use Rattle.core_charts.specs.declared.region.State.{State}
 use Rattle.core_charts.specs.declared.region.Region.TheViews.{out-Region, out-State}
-use Rattle.core_charts.specs.declared.region.Region.TheFolds.{fold_out-Region}
-use Rattle.chart_machine.specs.declared.table.RegionRow.{RegionRow}
 use Rattle.chart_machine.specs.declared.table.Table.{Table}
-use Rattle.chart_machine.specs.declared.table.TablePosition.{TablePosition}
-use Rattle.scl_graph_laws.proofs.Members.{contains_head, contains_tail}
-use Rattle.scl_graph_laws.proofs.Searching.{own_labels}
-use Rattle.chart_lowering_laws.proofs.Labels.{text_labels, own_made, label_first}
-use Rattle.chart_lowering_laws.proofs.OwnNames.{region_apart, numbers_long}
-use Rattle.chart_lowering.specs.declared.targets.Targets.{Targets}
-use Rattle.chart_lowering_laws.proofs.Passing.{Passed, pass, Front, front_of}
-use Rattle.chart_lowering_laws.proofs.InitialFirst.{others_in, NoneInitial, MostOne, both_in, none_in, joined_by, first_long, initial_threads, OneInitial}
 use Rattle.chart_lowering_laws.proofs.InitialFirst.{one_initial, most_one}
-use Rattle.chart_lowering_laws.proofs.StateTexts.{marked_by, marks_of_other, marks_of_initial, get_map, text_of_other, none_of_other, text_of_initial}
-use Rattle.chart_lowering_laws.proofs.StateTexts.{none_of_initial, behind_marks, labels_of}
-use Rattle.chart_lowering_laws.proofs.InitialStates.{rows_of, Initial, initial_of}
 use Rattle.chart_lowering_laws.proofs.Among.{walk_region}
 
 module _ (k : Table) (ms : List Mark) (root : Block) (keeps : KeepsScopes root) (top : List ℕ) where

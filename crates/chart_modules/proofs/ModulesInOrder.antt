@@ -8,7 +8,7 @@ use Rattle.sc_text.specs.declared.token.Token.{Token}
 use Rattle.sc_text.specs.declared.read_fault.ReadFault.{ReadFault}
 use Rattle.sc_text.specs.declared.read_fault.ReadFault.TheVariants as fault
 use Rattle.chart_modules.specs.declared.parts.Module.{Module}
-use Rattle.chart_modules.specs.Answer.{Answer, Good, Bad, next, Tells}
+use Rattle.chart_modules.specs.Answer.{Answer, Good, next, Tells}
 use Rattle.chart_modules.specs.Words.{begins}
 use Rattle.chart_modules.specs.Known.{known_in}
 use Rattle.chart_modules.specs.Uses.{Made, stands_for, used}

@@ -1,12 +1,12 @@
 -- What follows of what is good, and of a fault.
 use Rattle.std.proofs.Common.{◌≡◌, ℕ, ◌+◌, Bool, true, false, List, ◌∷◌, ◌++◌, [], drop, length, refl, sym, ◌∙◌, ap}
 use Rattle.std.specs.Prelude.{nat_le, if◌then◌else◌}
-use Rattle.grammar.specs.Read.{Outcome, Got, Failed, read}
+use Rattle.grammar.specs.Read.{Outcome, read}
 use Rattle.sc_text.specs.declared.token.Token.{Token}
 use Rattle.sc_text.specs.declared.read_fault.FaultKind.TheVariants as broken
 use Rattle.sc_text.specs.declared.read_fault.ReadFault.{ReadFault}
 use Rattle.sc_text.specs.declared.read_fault.ReadFault.TheVariants as fault
-use Rattle.sc_text.specs.Reading.{Stops, broken_by, place_of}
+use Rattle.sc_text.specs.Reading.{Stops, place_of}
 use Rattle.chart_drafts.specs.Phrase.{Gives}
 use Rattle.chart_modules.specs.declared.parts.ModuleUse.{ModuleUse}
 use Rattle.chart_modules.specs.declared.parts.ModuleHead.{ModuleHead}

@@ -2,7 +2,7 @@
 use Rattle.std.proofs.Common.{◌≡◌, ◌≤◌, ℕ, ℤ, pos, negsuc, Bool, true, false, IsTrue, List, [], ◌∷◌, ◌++◌, Some, None, length, refl, ap, sym, ◌∙◌, subst, arith}
 use Rattle.std.proofs.lemmas.Bool.Decides.{nat_tests}
 use Rattle.std.specs.Prelude.{not, ◌&&◌, nat_eq, nat_le, if◌then◌else◌, take, drop}
-use Rattle.std.specs.List.{slice_get, list_all}
+use Rattle.std.specs.List.{slice_get}
 use Rattle.grammar.proofs.Each.{Every}
 use Rattle.sc_text.specs.declared.language.Language.TheVariants as language
 use Rattle.sc_text.specs.declared.token.Token.{Token}
@@ -10,7 +10,6 @@ use Rattle.sc_text.specs.declared.token.TokenKind.{TokenKind}
 use Rattle.sc_text.specs.declared.token.TokenKind.TheVariants as token
 use Rattle.sc_text.specs.declared.read_fault.FaultKind.TheVariants as broken
 use Rattle.sc_text.specs.Tokens.{allows, number_limit, IsReserved}
-use Rattle.sc_text.specs.Parts.{IsNameIn}
 use Rattle.sc_text.proofs.WellTokens.{IsTextNumber, IsWellKind, IsWell}
 use Rattle.chart_modules.specs.Answer.{Answer, Good, Bad, next}
 use Rattle.chart_modules.specs.Well.{is_reserved, begins_well, is_natural, is_well, are_well, well_text}

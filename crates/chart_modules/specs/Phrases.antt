@@ -14,7 +14,7 @@ use Rattle.sc_text.specs.declared.sign.Sign.TheVariants as sign
 use Rattle.sc_text.specs.declared.token.Token.{Token}
 use Rattle.sc_text.specs.declared.token.TokenKind.{TokenKind}
 use Rattle.sc_text.specs.declared.token.TokenKind.TheVariants as token
-use Rattle.sc_text.specs.Classes.{Class, AName, Zero, Number, TheWord, TheSign}
+use Rattle.sc_text.specs.Classes.{Class, AName, Zero, Number, TheWord}
 use Rattle.sc_text.specs.Expression.{after, before}
 use Rattle.drafts.specs.declared.parts.Named.{Named}
 use Rattle.drafts.specs.Parts.{or_none}

@@ -29,7 +29,7 @@ use Rattle.abort_expansion.specs.Pieces.{RegionPiece, StatePiece, beside, togeth
 use Rattle.abort_expansion.specs.Superstates.{simple, stays, as_it_is, split, within}
 use Rattle.abort_expansion.specs.StateMap.{chart_state}
 use Rattle.abort_expansion.specs.Expansion.{region_piece, state_piece, piece_of_region, piece_of_state, places, region_places, expanded_states, states_among}
-use Rattle.abort_expansion.specs.Expansion.{made, width, superstate, inside_region, past_state}
+use Rattle.abort_expansion.specs.Expansion.{made, width, inside_region, past_state}
 use Rattle.abort_expansion.specs.Expansion.{expansion, expanded, state_map, whole}
 use Rattle.compiled_charts_laws.proofs.NumbersInRow.{numbers_from, more_numbers, number_at, none_among, map_same}
 

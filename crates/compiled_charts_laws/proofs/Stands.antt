@@ -10,7 +10,6 @@ use Rattle.sc_graph.specs.declared.control.Status.TheVariants as status
 use Rattle.sc_graph.specs.declared.program.Step.{Step}
 use Rattle.sc_graph.specs.Program.{Program, parent_of}
 use Rattle.sc_graph.specs.Control.{status_of}
-use Rattle.sc_graph.specs.Threads as threads
 use Rattle.sc_graph.specs.Valid.{IsFormed}
 use Rattle.tick_laws.proofs.Lists.{slice_get_there}
 use Rattle.core_charts.specs.declared.region.Effect.{Effect}

@@ -17,7 +17,7 @@ use Rattle.scl.specs.declared.statement.Statement.{Statement}
 use Rattle.scl.specs.declared.statement.Statement.TheVariants as statement
 use Rattle.scl.specs.Block.{Block, Fork}
 use Rattle.scl.specs.Places.{IsBranch, here, later}
-use Rattle.scl.specs.Numbering.{Counts, Numbers, Piece, piece_of, pieces_of, in_row, beyond, thread_body, branches_from, branch_counts, all_branch_counts}
+use Rattle.scl.specs.Numbering.{Counts, Numbers, Piece, piece_of, in_row, beyond, thread_body, branches_from, branch_counts}
 use Rattle.scl.specs.Numbering.{inside}
 use Rattle.scl_graph_laws.proofs.Segments.{StandAt, stand_from, stand_first, stand_second}
 use Rattle.scl_graph_laws.proofs.Scopes.{KeepsScopes}

@@ -1,19 +1,16 @@
 -- What a test comes to, and that it is one thing alone.
-use Rattle.std.proofs.Common.{◌≡◌, ◌≢◌, ◌∙◌, ◌↔◌, ◌⊎◌, ℕ, Option, Some, List, [], refl, ap, sym, subst, inl, inr}
+use Rattle.std.proofs.Common.{◌≡◌, ◌≢◌, ◌∙◌, ◌↔◌, ◌⊎◌, ℕ, List, [], refl, ap, sym, subst, inl, inr}
 use Rattle.std.specs.List.{concat}
-use Rattle.std.specs.Io.KnownBytes.{Appends}
 use Rattle.bytecode.specs.Image.{Image}
 use Rattle.trace_player.specs.declared.player.PlayFault.{PlayFault}
 use Rattle.trace_player.specs.declared.player.PlayFault.TheVariants as play_fault
 use Rattle.trace_player.specs.Trace.{End, Good, NoInputs, NoObject, lines_of}
-use Rattle.trace_player.specs.Trace as plain
 use Rattle.trace_player.proofs.OneTrace.{one_trace}
-use Rattle.state_traces.specs.Trace.{Trace, Plays, Leaves, no_words}
 use Rattle.controller_tests.specs.declared.difference.Difference.{Difference}
 use Rattle.controller_tests.specs.declared.outcome.Outcome.{Outcome}
 use Rattle.controller_tests.specs.declared.outcome.Outcome.TheVariants as outcome
 use Rattle.controller_tests.specs.Outcome.{EndsSo, IsOutcome, LacksTrace, MakesTrace, Misses, Passes, Stops}
-use Rattle.controller_tests.specs.Inside.Comparing.{ComparesTo, in_memory}
+use Rattle.controller_tests.specs.Inside.Comparing.{ComparesTo}
 use Rattle.controller_tests.proofs.Alike.{differ_not_same}
 
 -- ---- one outcome

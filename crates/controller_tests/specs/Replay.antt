@@ -4,7 +4,7 @@ use Rattle.sc_graph.specs.declared.control.Control.{Control}
 use Rattle.bytecode.specs.Image.{Image}
 use Rattle.trace_player.specs.Trace.{lines_of}
 use Rattle.simulation.specs.declared.history.Played.{Played}
-use Rattle.simulation.specs.History.{IsHistory, History, present}
+use Rattle.simulation.specs.History.{IsHistory, present}
 use Rattle.simulation.specs.Commands.{GivesNoTick}
 use Rattle.simulation.specs.Tree.{active_text}
 

@@ -5,7 +5,7 @@ use mir.Raw.{raw as bare}
 use mir.Val.{Val, vstruct, vcons, vnil, of_list}
 use base.Logic.{ent, guard, guard_i, never, via, fst∗, snd∗}
 use base.Fraction.{full_share}
-use base.Fml.{Lft, ftrue}
+use base.Fml.{ftrue}
 use types.Logic.{Logic, sem}
 use types.Kit.{Item, Goal, Seq, Step, step, ‵, given, ◌$◌, drop, learn, use1, fsplit, fjoin, fpick, fpack, feq_i, feq_l}
 use contract.Monad.{fact_use}

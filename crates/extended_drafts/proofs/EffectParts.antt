@@ -1,5 +1,5 @@
 -- What reading gives for each rule of effects.
-use Rattle.std.proofs.Common.{◌≡◌, ℕ, ◌-◌, true, false, Some, None, List, [], ◌∷◌, ◌++◌, length, drop, refl, sym, ◌∙◌, ap, subst}
+use Rattle.std.proofs.Common.{◌≡◌, ℕ, ◌-◌, true, false, List, [], ◌∷◌, ◌++◌, refl, sym, ◌∙◌, subst}
 use Rattle.grammar.specs.Grammar.{seq, either}
 use Rattle.grammar.specs.Read.{starts, read}
 use Rattle.sc_values.specs.declared.operator.BinaryOperator.{BinaryOperator}

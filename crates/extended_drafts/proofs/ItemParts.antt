@@ -1,8 +1,8 @@
 -- What reading gives for each rule of items.
-use Rattle.std.proofs.Common.{◌≡◌, ℕ, ◌-◌, true, false, Option, Some, None, List, [], ◌∷◌, length, drop, refl, sym, subst}
+use Rattle.std.proofs.Common.{◌≡◌, ℕ, ◌-◌, true, false, Option, Some, None, List, [], ◌∷◌, refl, sym, subst}
 use Rattle.sc_values.specs.declared.value.Kind.{Kind}
 use Rattle.sc_graph.specs.declared.program.Role.{Role}
-use Rattle.grammar.specs.Grammar.{seq, many}
+use Rattle.grammar.specs.Grammar.{seq}
 use Rattle.grammar.specs.Read.{starts, read}
 use Rattle.sc_text.specs.declared.sign.Sign.TheVariants as sign
 use Rattle.sc_text.specs.declared.token.Token.{Token}
@@ -12,18 +12,18 @@ use Rattle.sc_text.specs.Phrases.{Phrase}
 use Rattle.sc_text.specs.Expression.{text_tokens, after, expression}
 use Rattle.sc_text.specs.Reading.{Stops}
 use Rattle.sc_text.proofs.Shapes.{expression_is}
-use Rattle.sc_text.proofs.Steps.{one_taken, stops_as}
+use Rattle.sc_text.proofs.Steps.{stops_as}
 use Rattle.drafts.specs.declared.parts.Named.{Named}
 use Rattle.drafts.specs.declared.parts.TextExpression.{TextExpression}
 use Rattle.chart_drafts.specs.ChartText.{Grows, the_sign, roles, declared_role, declared_kind, name, last_name, placed}
 use Rattle.chart_drafts.specs.Phrase.{Gives}
-use Rattle.chart_drafts.proofs.Parts.{seq_gives, made_gives, made_stops, after_gives, after_stops_second, maybe_none, maybe_some, maybe_stops, left_read}
+use Rattle.chart_drafts.proofs.Parts.{seq_gives, made_gives, made_stops, maybe_none, maybe_some, maybe_stops, left_read}
 use Rattle.chart_drafts.proofs.Parts.{right_read, gives_as}
 use Rattle.extended_drafts.specs.declared.draft.ItemBody.{ItemBody}
 use Rattle.extended_drafts.specs.declared.draft.DraftItem.{DraftItem}
 use Rattle.extended_drafts.specs.Draft.{typed_body, signal_body, plain_item, worded_item}
-use Rattle.extended_drafts.specs.ExtendedText.{item_first, item_value, last_value, typed, signalled, bare_signal, plain_body, worded_body, plain, worded, item}
-use Rattle.extended_drafts.proofs.Shapes.{signalled_is, bare_signal_is, plain_is, item_is}
+use Rattle.extended_drafts.specs.ExtendedText.{item_value, last_value, typed, signalled, bare_signal, plain_body, worded_body, plain, worded, item}
+use Rattle.extended_drafts.proofs.Shapes.{signalled_is, bare_signal_is, plain_is}
 
 abbrev e0 : Grows Phrase
 e0 = expression 0

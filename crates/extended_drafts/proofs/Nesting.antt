@@ -30,7 +30,7 @@ use Rattle.extended_drafts.specs.declared.draft.DraftWay.{DraftWay}
 use Rattle.extended_drafts.specs.declared.draft.StateActions.{StateActions}
 use Rattle.extended_drafts.specs.declared.draft.DraftRows.{DraftRows}
 use Rattle.extended_drafts.specs.declared.draft.ExtendedDraft.{ExtendedDraft}
-use Rattle.extended_drafts.specs.Draft.{StateBody, no_rows, both_rows, gathered, body_of, actions_of, state_rows, state_with, region_with, draft_of}
+use Rattle.extended_drafts.specs.Draft.{no_rows, both_rows, gathered, body_of, actions_of, state_rows, state_with, region_with, draft_of}
 use Rattle.chart_drafts.specs.Draft.{state_of, region_of}
 use Rattle.extended_drafts.specs.ExtendedText.{item, entry, leaving, rowed, bare, nested, inside, simple, acting, body, state, region, within, parts, extended}
 use Rattle.extended_drafts.specs.ExtendedText.{extended_text}

@@ -1,5 +1,5 @@
 -- What reading gives for each rule of actions and transitions.
-use Rattle.std.proofs.Common.{◌≡◌, ℕ, ◌-◌, Bool, true, false, Option, Some, None, List, [], ◌∷◌, length, drop, refl, sym, subst, ap, ◌∙◌}
+use Rattle.std.proofs.Common.{◌≡◌, ℕ, ◌-◌, Bool, true, false, Option, Some, None, List, [], ◌∷◌, length, drop, refl, sym, subst, ◌∙◌}
 use Rattle.std.specs.Prelude.{◌||◌, option_map}
 use Rattle.grammar.specs.Grammar.{one, seq, either, maybe, many}
 use Rattle.grammar.specs.Read.{starts, read}
@@ -22,17 +22,16 @@ use Rattle.chart_drafts.specs.ChartText.{Grows, the_word, name, flag, placed, mo
 use Rattle.chart_drafts.specs.Phrase.{Gives}
 use Rattle.chart_drafts.proofs.Parts.{seq_gives, made_gives, made_stops, maybe_none, maybe_some, maybe_stops, left_read}
 use Rattle.chart_drafts.proofs.Parts.{right_read, gives_as}
-use Rattle.extended_drafts.specs.declared.draft.DraftEntry.{DraftEntry}
 use Rattle.extended_drafts.specs.declared.draft.DraftCount.{DraftCount}
 use Rattle.extended_drafts.specs.declared.draft.DraftDelay.{DraftDelay}
 use Rattle.extended_drafts.specs.declared.draft.DraftLead.{DraftLead}
 use Rattle.extended_drafts.specs.declared.draft.DraftWay.{DraftWay}
 use Rattle.extended_drafts.specs.Draft.{entry_of, count_of, delay_of, hold_of, or_next, way_of, delayed, ended}
-use Rattle.extended_drafts.specs.ExtendedText.{outcome, last_effects, entry, entry_first, some_count, counted, some_delay, at_once, waiting, pause}
+use Rattle.extended_drafts.specs.ExtendedText.{outcome, last_effects, entry, some_count, counted, some_delay, at_once, waiting, pause}
 use Rattle.extended_drafts.specs.ExtendedText.{pause_first, tested, termination, transition}
 use Rattle.extended_drafts.specs.Inside.{IsPutting, put_way}
 use Rattle.extended_drafts.proofs.Putting.{put_none}
-use Rattle.extended_drafts.proofs.Shapes.{entry_is, some_count_is, at_once_is, either_is, termination_is, transition_is}
+use Rattle.extended_drafts.proofs.Shapes.{some_count_is, at_once_is, either_is, termination_is, transition_is}
 
 abbrev e0 : Grows Phrase
 e0 = expression 0

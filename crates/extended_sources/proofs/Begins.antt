@@ -14,7 +14,7 @@ use Rattle.std.proofs.Math.Seq.{take-append_seam, drop-append_seam}
 use Rattle.sc_text.proofs.Rows.{Stops, no_longer}
 use Rattle.block_comments.specs.declared.part.Part.TheVariants as part
 use Rattle.block_comments.specs.Comments as clear
-use Rattle.block_comments.specs.Comments.{space, unclosed, behind, shown, cleared, without_comments, begins_comment, TakesComment}
+use Rattle.block_comments.specs.Comments.{unclosed, behind, shown, cleared, without_comments, begins_comment, TakesComment}
 use Rattle.extended_sources.specs.FirstWord.{extended, BeginsExtended}
 use Rattle.extended_sources.specs.Inside.{PassesFront, PassesNoFront}
 use Rattle.extended_sources.proofs.Clearing.{plain_first, Shown, stays, opening, marked, shown_first, blank_is, line_stays, line_ends, still_stops}

@@ -1,6 +1,5 @@
 -- What private functions alone say of themselves. It is proved, and no public contract rests on what it means.
 use Rattle.std.specs.Prelude.{ℕ, ◌<◌, ◌≤◌, ◌↔◌, List, length, drop}
-use Rattle.block_comments.specs.Comments.{without_comments}
 use Rattle.sc_text.specs.FirstToken.{IsNext}
 use Rattle.extended_sources.specs.FirstWord.{extended, BeginsExtended}
 

@@ -1,5 +1,5 @@
 -- Where points stand in a text, and rows of nodes that do what stands at their points.
-use Rattle.std.proofs.Common.{◌≡◌, ℕ, zero, suc, Some, None, List, [], ◌∷◌, ◌++◌, length, slice_get, refl, sym, ap, subst, ◌∙◌}
+use Rattle.std.proofs.Common.{◌≡◌, ℕ, zero, suc, Some, List, [], ◌∷◌, ◌++◌, length, slice_get, refl, ap, subst, ◌∙◌}
 use Rattle.sc_graph.specs.declared.program.Node.{Node}
 use Rattle.graph_origins.specs.declared.origin.NodeOrigin.{NodeOrigin}
 use Rattle.graph_origins.specs.Points.{Point}

@@ -1,11 +1,7 @@
 -- Each node of the graph of a text does what stands at its point.
-use Rattle.std.proofs.Common.{◌≡◌, ℕ, suc, ◌+◌, Some, List, [], ◌∷◌, ◌++◌, length, map, refl, sym, ap, subst, ◌∙◌, append_assoc}
+use Rattle.std.proofs.Common.{◌≡◌, ℕ, suc, ◌+◌, List, [], ◌∷◌, ◌++◌, map, refl, sym, ap, subst, ◌∙◌, append_assoc}
 use Rattle.std.proofs.lemmas.List.{append-nil}
 use Rattle.sc_values.specs.declared.expression.Expr.{Expr}
-use Rattle.sc_graph.specs.declared.program.Node.{Node}
-use Rattle.sc_graph.specs.declared.program.Step.TheVariants as step
-use Rattle.sc_values.specs.Expr.{postorder}
-use Rattle.sc_values.specs.Assignment.{assignment_of}
 use Rattle.scl.specs.declared.program.Scl.{Scl}
 use Rattle.scl.specs.declared.statement.Statement.{Statement}
 use Rattle.scl.specs.declared.statement.Statement.TheOpen.{Statement-F}
@@ -22,7 +18,7 @@ use Rattle.graph_origins.specs.declared.origin.NodeOrigin.{NodeOrigin}
 use Rattle.graph_origins.specs.declared.origin.NodeOrigin.TheVariants as node
 use Rattle.graph_origins.specs.Points.{Point, Ends, in_branches, in_row, points, points_of, text_points}
 use Rattle.graph_origins.specs.Origins.{Piece, behind_branches, behind_row, below_branches, below_row, node_origins, own_row, piece, piece_of, thread}
-use Rattle.graph_origins.specs.Laws.{OriginsTellNodes, TellsNodes}
+use Rattle.graph_origins.specs.Laws.{OriginsTellNodes}
 use Rattle.graph_origins.proofs.Standing.{AllDone, StandAt, done_append, done_at, done_length, reach, reach_append, stand_behind, stand_first, stand_whole}
 
 -- of a piece of text its points, its origins, and its nodes fit together

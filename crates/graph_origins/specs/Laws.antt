@@ -10,7 +10,7 @@ use Rattle.scl.specs.Numbering.{numbered}
 use Rattle.scl_graph.specs.Graph.{assigns, program_of}
 use Rattle.graph_origins.specs.declared.origin.NodeOrigin.{NodeOrigin}
 use Rattle.graph_origins.specs.declared.origin.NodeOrigin.TheVariants as node
-use Rattle.graph_origins.specs.Points.{Point, Assigns, Marks, Jumps, Pauses, Tests, Forks, Ends, text_points}
+use Rattle.graph_origins.specs.Points.{Point, Assigns, Pauses, Tests, Forks, Ends, text_points}
 use Rattle.graph_origins.specs.Origins.{node_origins}
 
 -- the step of the only node of a point, or of its first one, but for where it leads

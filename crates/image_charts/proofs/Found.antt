@@ -1,5 +1,5 @@
 -- What was found of a text and an image.
-use Rattle.std.proofs.Common.{◌≡◌, ◌≢◌, ◌∙◌, ℕ, true, Option, List, ◌++◌, String, Global, map, string_bytes, refl, ap}
+use Rattle.std.proofs.Common.{◌≡◌, ◌≢◌, ◌∙◌, ℕ, true, Option, List, ◌++◌, map, refl, ap}
 use Rattle.std.specs.Prelude.{Result, Ok, Err, OnOk}
 use Rattle.std.specs.Str.{IsUtf8}
 use Rattle.json.specs.Print.{quoted}
@@ -9,12 +9,9 @@ use Rattle.core_charts.specs.Chart.{Chart}
 use Rattle.chart_reader.specs.Read.{IsRead}
 use Rattle.author_states.specs.Author.{AuthorsStates}
 use Rattle.bytecode.specs.Image.{Image}
-use Rattle.compiler.specs.Charts.{ChartLacksImage}
-use Rattle.compiler.specs.declared.fault.CompileFault.{CompileFault}
 use Rattle.node_states.specs.Active.{active_states}
 use Rattle.state_paths.specs.Paths.{paths_of}
 use Rattle.compiled_charts.specs.Compiled.{CompiledChart, IsCompiledChart}
-use Rattle.command_files.specs.FaultText.{shown_name}
 use Rattle.command_files.specs.declared.fault.LoadFault.{LoadFault}
 use Rattle.command_files.specs.declared.fault.LoadFault.TheVariants as fault
 use Rattle.state_traces.specs.Lines.{paths_at, states_member}

@@ -7,7 +7,7 @@ use Rattle.bytecode.specs.Image.{Image}
 use Rattle.command_files.specs.declared.fault.LoadFault.{LoadFault}
 use Rattle.command_files.specs.declared.fault.LoadFault.TheVariants as load
 use Rattle.command_files.specs.Counting.{files_failed}
-use Rattle.command_files.specs.Standing.{AreAsWritten, BytesLackSource}
+use Rattle.command_files.specs.Standing.{AreAsWritten}
 use Rattle.image_charts.specs.Charts.{IsNotChartOf, NamedStates}
 use Rattle.image_charts.specs.Written.{IsNoTextBeside, IsTextBeside, TellsOf}
 

@@ -1,5 +1,5 @@
 -- The first member that gives nothing, and why its line gives none.
-use Rattle.std.proofs.Common.{◌≡◌, ℕ, List, Bool, true, false, cond, Option, Some, is_some, ap}
+use Rattle.std.proofs.Common.{◌≡◌, ℕ, List, Bool, true, false, cond, Some, is_some, ap}
 use Rattle.serde_json.specs.Data.{Data, Members, member}
 use Rattle.sc_graph.specs.declared.program.Variable.{Variable}
 use Rattle.trace_lines.specs.Line.{IsObjectOf, given}

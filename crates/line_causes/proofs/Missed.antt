@@ -1,5 +1,5 @@
 -- Inputs that a line does not name.
-use Rattle.std.proofs.Common.{◌≡◌, ℕ, Bool, true, false, List, Option, Some, None, inl, refl, sym, ap, subst}
+use Rattle.std.proofs.Common.{◌≡◌, ℕ, Bool, true, false, List, Option, inl, refl}
 use Rattle.sc_graph.specs.declared.program.Variable.{Variable}
 use Rattle.line_causes.specs.declared.cause.Cause.{Cause}
 use Rattle.line_causes.specs.Met.{IsMetOn}

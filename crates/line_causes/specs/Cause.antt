@@ -1,11 +1,10 @@
 -- Why a line gives no inputs: it is too long, or no JSON object; or the first of its members that gives nothing names no
 -- input, or has a value that the input's kind does not take.
 use Rattle.std.specs.Prelude.{ℕ, ◌≡◌, ◌<◌, ◌&&◌, Bool, false, is_some, if◌then◌else◌, Option, Some, None, option_map, List, length, string_bytes}
-use Rattle.std.specs.Cmp.Lexicographic.{pointwise}
 use Rattle.serde_json.specs.Data.{Num, unsigned, negative, float, Data, null, boolean, number, string, array, object, Members, no_members, member}
 use Rattle.sc_values.specs.declared.value.Kind.{Kind}
 use Rattle.sc_graph.specs.declared.program.Variable.{Variable}
-use Rattle.trace_lines.specs.Line.{IsObjectOf, given, input_of, value_of}
+use Rattle.trace_lines.specs.Line.{IsObjectOf, given, input_of}
 use Rattle.trace_lines.specs.Lines.{line_limit}
 use Rattle.line_causes.specs.declared.cause.Cause.{Cause}
 use Rattle.line_causes.specs.declared.cause.Cause.TheVariants as cause

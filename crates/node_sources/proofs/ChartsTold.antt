@@ -1,5 +1,5 @@
 -- Each node of the program of a chart comes from an element that has a place.
-use Rattle.std.proofs.Common.{◌≡◌, ℕ, ◌<◌, Option, Some, None, IsSome, is_some, List}
+use Rattle.std.proofs.Common.{◌≡◌, ℕ, ◌<◌, Option, Some, IsSome, is_some, List}
 use Rattle.std.proofs.Common.{map, length, slice_get, refl, sym, ap, subst, ◌∙◌, arith}
 use Rattle.core_charts.specs.declared.features.Features.TheVariants as features
 use Rattle.core_charts.specs.Chart.{Chart}

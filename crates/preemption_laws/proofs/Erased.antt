@@ -1,8 +1,7 @@
 -- A run of a core chart without its looks is one of the machine that waits; and it is admissible, if the run's log is ordered, in which looks count as
 -- steps without access.
-use Rattle.std.proofs.Common.{◌≡◌, ◌≢◌, ℕ, zero, suc, ◌⊎◌, inl, inr, ⊎_elim, Bool, true, false, not, nat_le, if◌then◌else◌, Option, Some, None}
-use Rattle.std.proofs.Common.{option_and_then, unwrap_or, List, [], ◌∷◌, map, length, slice_get, refl, sym, ap, ap₂, subst, ◌∙◌, arith}
-use Rattle.std.proofs.lemmas.Bool.{le-leb}
+use Rattle.std.proofs.Common.{◌≡◌, ◌≢◌, ℕ, zero, suc, ◌⊎◌, inl, inr, ⊎_elim, Bool, true, false, not, if◌then◌else◌, Option, Some, None}
+use Rattle.std.proofs.Common.{option_and_then, List, [], ◌∷◌, refl, sym, ap, ap₂, subst, ◌∙◌, arith}
 use Rattle.sc_values.specs.Access.{no_access}
 use Rattle.sc_values.specs.Runs.{Machine, replay, Act, act_of, acts, acts_after, IsAdmissible, IsOrdered, Ends}
 use Rattle.core_charts.specs.declared.region.Transition.{Transition}
@@ -10,7 +9,7 @@ use Rattle.chart_machine.specs.declared.standing.Standing.{Standing}
 use Rattle.chart_machine.specs.declared.standing.Standing.TheVariants as at
 use Rattle.chart_machine.specs.declared.standing.Configuration.{Configuration}
 use Rattle.chart_machine.specs.declared.table.Table.{Table}
-use Rattle.chart_machine.specs.Turns.{standing_of, is_enabled, ForkedApart}
+use Rattle.chart_machine.specs.Turns.{standing_of, ForkedApart}
 use Rattle.chart_machine.specs.Steps.{step, access_of}
 use Rattle.scl_graph_laws.specs.Alike.{EndsAlike}
 use Rattle.scl_graph_laws.proofs.Searching.{unlike}
@@ -19,7 +18,7 @@ use Rattle.chart_lowering_laws.specs.Shown.{AreSilent, move, moves, moves_after,
 use Rattle.chart_lowering_laws.proofs.Following.{follows_ends}
 use Rattle.chart_machine_laws.proofs.LyingIn.{apart_inside}
 use Rattle.preemption_laws.specs.Looks.{Looks}
-use Rattle.preemption_laws.specs.Waiting.{is_waiting, waiting_at, still, wait_step, wait_access, waiting_machine}
+use Rattle.preemption_laws.specs.Waiting.{is_waiting, still, wait_step, wait_access, waiting_machine}
 use Rattle.preemption_laws.proofs.CoreWaits.{goes_on_still, Looks_on, fails_on, holds_on, looks_on}
 use Rattle.preemption_laws.proofs.Ground.{Ground}
 use Rattle.preemption_laws.proofs.SoundCores.{core_still}

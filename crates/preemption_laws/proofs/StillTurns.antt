@@ -17,7 +17,6 @@ use Rattle.tick_laws.proofs.Lists.{list_all_at}
 use Rattle.chart_lowering_laws.proofs.Finished.{each_all}
 use Rattle.abort_expansion_laws.specs.CoreRows.{own}
 use Rattle.abort_expansion_laws.proofs.InsideAround.{inside_around}
-use Rattle.abort_expansion_laws.proofs.Leaving.{at_number}
 use Rattle.reaction_laws.proofs.ApartTogether.{Through, through, IsOpen, open_guarding, open_within}
 use Rattle.reaction_laws.proofs.MovesInside.{LeadIn}
 use Rattle.preemption_laws.specs.Looks.{Looks}

@@ -1,5 +1,5 @@
 -- What a run leaves, step by step.
-use Rattle.std.proofs.Common.{◌≡◌, ◌⊎◌, ℕ, List, Option, Some, None, Result, Ok, Err, OnOk, IfErr, inl, inr, string_bytes}
+use Rattle.std.proofs.Common.{◌≡◌, ◌⊎◌, ℕ, List, Option, Some, None, Result, Ok, Err, OnOk, IfErr, inl, inr}
 use Rattle.bytecode.specs.Image.{Image}
 use Rattle.command_files.specs.declared.fault.LoadFault.{LoadFault}
 use Rattle.command_files.specs.declared.fault.LoadFault.TheVariants as load
@@ -13,7 +13,7 @@ use Rattle.ruled_runs.specs.declared.fault.RuledFault.{RuledFault}
 use Rattle.ruled_runs.specs.declared.fault.RuledFault.TheVariants as fault
 use Rattle.ruled_runs.specs.Inside.Held.{PlaysAndKeeps, PlaysAndLoses, RefusesKeeping, RefusesPlaying}
 use Rattle.ruled_runs.specs.Places.{BeginsAt, BeginsIn, IsKept, IsNotKept, LacksPlaceIn}
-use Rattle.ruled_runs.specs.Runs.{LacksPlace, LosesPlace, RefusesRun, RunsBy, StopsAt}
+use Rattle.ruled_runs.specs.Runs.{LosesPlace, RefusesRun, RunsBy}
 
 -- ---- from a place on
 

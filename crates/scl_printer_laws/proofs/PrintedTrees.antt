@@ -5,7 +5,6 @@ use Rattle.sc_values.specs.declared.value.Kind.{Kind}
 use Rattle.sc_values.specs.declared.operation.Operation.{Operation}
 use Rattle.sc_values.specs.declared.expression.Expr.{Expr}
 use Rattle.sc_values.specs.declared.expression.Expr.TheOpen as tree
-use Rattle.sc_values.specs.declared.expression.Expr.TheOpen.{Expr-F}
 use Rattle.sc_values.specs.declared.expression.Expr.TheViews.{roll-Expr}
 use Rattle.sc_values.specs.declared.expression.Expr.TheFolds.{fold-roll-Expr}
 use Rattle.sc_values.specs.Expr.{postorder}

@@ -8,7 +8,6 @@ use Rattle.ruled_runs.specs.Failing as run_failing
 use Rattle.std.specs.Option.{is_some}
 use Rattle.ruled_runs.specs.Places.{IsKept}
 use Rattle.ruled_runs.specs.Runs.{RefusesRun, RunsBy}
-use Rattle.trace_player.specs.declared.player.PlayFault.{PlayFault}
 use Rattle.trace_player.specs.declared.player.PlayFault.TheVariants as play_fault
 use Rattle.sct_command.specs.Failing.{files_failed, reads_failed, writes_failed}
 use Rattle.sct_command.specs.Running.{RefusesUnder, fault_of_run, line_rules}

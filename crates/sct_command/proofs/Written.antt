@@ -3,7 +3,6 @@ use Rattle.std.proofs.Common.{◌≡◌, ◌∙◌, ℕ, ◌+◌, List, Option, 
 use Rattle.command_files.specs.Counting as files_count
 use Rattle.command_files.specs.declared.fault.LoadFault.{LoadFault}
 use Rattle.sct_command.specs.declared.fault.Fault.{Fault}
-use Rattle.sct_command.specs.declared.fault.Fault.TheVariants as fault
 use Rattle.sct_command.specs.Failing.{files_failed}
 use Rattle.sct_command.specs.Writing.{RefusesMade, RefusesToWrite, Writes, WritesMade}
 

@@ -5,7 +5,7 @@ use Rattle.std.proofs.Common.{refl, ap, sym, arith, append_assoc, codes}
 use Rattle.std.specs.Prelude.{Result, Ok, Err, OnOk}
 use Rattle.std.specs.List.{position_or_len, before_first, after_first}
 use Rattle.simulation.specs.Pieces.{is_between, onto_piece, pieces}
-use Rattle.simulation.specs.Tree.{active_text, mark, set_in, state_line}
+use Rattle.simulation.specs.Tree.{mark, set_in}
 use Rattle.simulation.proofs.Split.{whole, cut, pieces_by}
 
 -- there is always a piece

@@ -1,7 +1,6 @@
 -- Which warnings the line of a place allows.
 use Rattle.std.specs.Prelude.{ℕ, ◌+◌, nat_eq, Bool, false, ◌&&◌, ◌||◌, List, [], ◌∷◌, ◌++◌, codes}
 use Rattle.std.specs.List.{starts_with}
-use Rattle.diagnostics.specs.LinesColumns.{is_line_feed}
 use Rattle.chart_warnings.specs.declared.warning.Warning.{Warning}
 use Rattle.chart_warnings.specs.Codes.{code}
 use Rattle.warning_texts.specs.Lines.{line_of}

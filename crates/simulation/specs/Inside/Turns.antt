@@ -6,7 +6,7 @@ use Rattle.trace_player.specs.declared.player.PlayFault.{PlayFault}
 use Rattle.trace_player.specs.declared.player.PlayFault.TheVariants as play_fault
 use Rattle.simulation.specs.History.{History}
 use Rattle.simulation.specs.Commands.{Answers}
-use Rattle.simulation.specs.Lines.{AnswersAll, StopsAtLine}
+use Rattle.simulation.specs.Lines.{StopsAtLine}
 
 -- of what is ahead a line was taken, and this answer to it was written
 pub record AnswersNext (h next : History) (now after old new : Option (List ℕ)) : Type 0 where

@@ -1,5 +1,5 @@
-use Rattle.std.proofs.Common.{◌≡◌, ◌↔◌, IsTrue, rules}
-use Rattle.core_charts.specs.declared.region.Region.TheViews.{out-Region, out-State}
+use Rattle.std.proofs.Common.{◌≡◌, ◌↔◌, rules}
+use Rattle.core_charts.specs.declared.region.Region.TheViews.{out-Region}
 use Rattle.chart_printer.proofs.Same.{regions_same, states_same}
 use Rattle.chart_printer.proofs.same_charts.+comparing.Goals as goal
 
