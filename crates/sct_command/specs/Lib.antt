@@ -4,7 +4,7 @@ pub mod Explaining
 pub mod Failing
 pub mod FaultText
 pub mod Inside
-pub mod Keeping
+pub mod StoredImage
 pub mod Running
 pub mod Simulating
 pub mod Sources
