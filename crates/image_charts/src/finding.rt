@@ -67,10 +67,19 @@ fn beside(
 {
     let compiled = match compile_chart(alloc, chart) {
         Ok(compiled) => compiled,
-        Err(fault) => return Err(LoadFault::Program(fault)),
+        Err(fault) => {
+            drop(authors);
+            return Err(LoadFault::Program(fault));
+        }
     };
-    compare(alloc, name, compiled.image().image(), image.image())?;
-    Ok(ChartStates::of(alloc, chart, compiled, authors)?)
+    match compare(alloc, name, compiled.image().image(), image.image()) {
+        Ok(()) => Ok(ChartStates::of(alloc, chart, compiled, authors)?),
+        Err(fault) => {
+            drop(compiled);
+            drop(authors);
+            Err(fault)
+        }
+    }
 }
 
 /// What is told of the chart that this source spells, which is of the file of this name, where this is its image: its
@@ -89,8 +98,10 @@ pub(crate) fn chart_of(
 {
     let chart = match chart_in(alloc, source) {
         Ok(chart) => chart,
-        Err(fault) => return Err(LoadFault::Text(fault)),
+        Err(fault) => {
+            drop(authors);
+            return Err(LoadFault::Text(fault));
+        }
     };
-    let states = beside(alloc, name, &chart, image, authors)?;
-    Ok(states)
+    beside(alloc, name, &chart, image, authors)
 }

@@ -49,8 +49,13 @@ impl ChartStates {
             ≡ told_by authors (record { compiled = compiled; paths = paths_of chart.now })) }
     {
         let written = Written::of(alloc, chart, compiled, authors)?;
-        let shown = quoted_all(alloc, written.paths())?;
-        Ok(ChartStates { written, shown })
+        match quoted_all(alloc, written.paths()) {
+            Ok(shown) => Ok(ChartStates { written, shown }),
+            Err(error) => {
+                drop(written);
+                Err(error)
+            }
+        }
     }
 
     /// The image of the chart.

@@ -1,13 +1,14 @@
 //! The states that the author of a text wrote: of a chart its own; of an extended chart those for which states of the
 //! chart stand to which it is reduced.
 
-ghost use Rattle.std.specs.Prelude.{◌≡◌, IfOk, map, string_bytes};
+ghost use Rattle.std.specs.Prelude.{◌≡◌, IfOk, length, map, string_bytes};
 ghost use Rattle.image_charts.specs.Written.{told_by, told_of_author};
 ghost use Rattle.state_paths.specs.Paths.{paths_of};
 
 use author_states::AuthorStates;
 use compiled_charts::Compiled;
 use core_charts::Chart;
+use sqlite_items::Items;
 use state_paths::paths_of;
 use std::alloc::{AllocError, Global};
 use std::marker::Model;
@@ -40,11 +41,14 @@ impl Written {
             ≡ told_by authors (record { compiled = compiled; paths = paths_of chart.now })) }
     {
         match authors {
-            Some(states) => Ok(Written::of_author(alloc, compiled, states)?),
-            None => {
-                let paths = paths_of(alloc, chart)?;
-                Ok(Written { compiled, paths })
-            }
+            Some(states) => Written::of_author(alloc, compiled, states),
+            None => match paths_of(alloc, chart) {
+                Ok(paths) => Ok(Written { compiled, paths }),
+                Err(error) => {
+                    drop(compiled);
+                    Err(error)
+                }
+            },
         }
     }
 
@@ -57,15 +61,39 @@ impl Written {
     ) -> Result<Written, AllocError>
         ensures { IfOk result (λ written. written ≡ told_of_author states compiled) }
     {
-        let nodes = states.past(alloc, compiled.nodes())?;
-        let paths = states.into_paths();
-        let Ok(count) = u32::try_from(paths.len()) else {
-            return Err(AllocError);
-        };
-        Ok(Written {
-            compiled: compiled.standing_for(count, nodes),
-            paths,
-        })
+        match states.past(alloc, compiled.nodes()) {
+            Ok(nodes) => Written::standing_for(compiled, nodes, states.into_paths()),
+            Err(error) => {
+                drop(compiled);
+                drop(states);
+                Err(error)
+            }
+        }
+    }
+
+    // A compiled chart, whose nodes stand for the states of these paths. Err: no memory holds so many.
+    fn standing_for(
+        compiled: Compiled,
+        nodes: Items<Option<u32>>,
+        paths: Vec<String>,
+    ) -> Result<Written, AllocError>
+        ensures { IfOk result (λ written. written ≡ record {
+          compiled = record { image = compiled.image; states = length paths.items; nodes = nodes };
+          paths = map string_bytes paths.items;
+        }) }
+    {
+        match u32::try_from(paths.len()) {
+            Ok(count) => Ok(Written {
+                compiled: compiled.standing_for(count, nodes),
+                paths,
+            }),
+            Err(_) => {
+                drop(compiled);
+                drop(nodes);
+                drop(paths);
+                Err(AllocError)
+            }
+        }
     }
 
     /// The compiled chart.

@@ -101,29 +101,55 @@ pub(crate) fn react<'x>(
         control,
     } = place;
     let lines = next_number(lines);
-    match said_by(alloc, rules, program, interface, line_room, line)? {
+    let said = match said_by(alloc, rules, program, interface, line_room, line) {
+        Ok(said) => said,
+        Err(_) => {
+            drop(control);
+            drop(room);
+            return Err(PlayFault::Memory);
+        }
+    };
+    match said {
         Said::Gives(inputs) => {
             let ticks = next_number(ticks);
             let (control, steps, room) = tick(room, control, &inputs);
-            interface.write_line(shown, ticks, steps, control.variables.as_slice())?;
-            let place = RunPlace {
-                lines,
-                ticks,
-                control,
-            };
-            Ok((place, room))
+            match interface.write_line(shown, ticks, steps, control.variables.as_slice()) {
+                Ok(()) => Ok((
+                    RunPlace {
+                        lines,
+                        ticks,
+                        control,
+                    },
+                    room,
+                )),
+                Err(_) => {
+                    drop(control);
+                    drop(room);
+                    Err(PlayFault::Memory)
+                }
+            }
         }
         Said::Lacks(bad) => {
             if !rules.skips {
+                drop(control);
+                drop(room);
                 return Err(fault_of(bad, lines));
             }
-            write_answer(alloc, shown, bad, lines)?;
-            let place = RunPlace {
-                lines,
-                ticks,
-                control,
-            };
-            Ok((place, room))
+            match write_answer(alloc, shown, bad, lines) {
+                Ok(()) => Ok((
+                    RunPlace {
+                        lines,
+                        ticks,
+                        control,
+                    },
+                    room,
+                )),
+                Err(_) => {
+                    drop(control);
+                    drop(room);
+                    Err(PlayFault::Memory)
+                }
+            }
         }
     }
 }

@@ -58,15 +58,33 @@ pub(crate) fn react<'x, W: Words>(
 {
     let inputs = match interface.read_line_in(alloc, line_room, line) {
         Ok(inputs) => inputs,
-        Err(LineFault::Memory) => return Err(PlayFault::Memory),
-        Err(LineFault::NotJson) => return Err(PlayFault::NotJson(number)),
-        Err(LineFault::Input) => return Err(PlayFault::Input(number)),
+        Err(LineFault::Memory) => {
+            drop(control);
+            drop(room);
+            return Err(PlayFault::Memory);
+        }
+        Err(LineFault::NotJson) => {
+            drop(control);
+            drop(room);
+            return Err(PlayFault::NotJson(number));
+        }
+        Err(LineFault::Input) => {
+            drop(control);
+            drop(room);
+            return Err(PlayFault::Input(number));
+        }
     };
     let (control, steps, room) = match tick(room, control, &inputs) {
         Ok(ticked) => ticked,
         Err(BeginFault::Memory) => return Err(PlayFault::Memory),
         Err(BeginFault::Input) => return Err(PlayFault::Input(number)),
     };
-    write_line(alloc, interface, words, shown, number, steps, &control)?;
-    Ok((control, room))
+    match write_line(alloc, interface, words, shown, number, steps, &control) {
+        Ok(()) => Ok((control, room)),
+        Err(_) => {
+            drop(control);
+            drop(room);
+            Err(PlayFault::Memory)
+        }
+    }
 }

@@ -61,7 +61,7 @@ impl<'a, 'x, W: Words> LinePlayer for Telling<'a, 'x, W> {
         } = self;
         let mut line_room = line_room;
         let ticks = next_number(ticks);
-        let (control, room) = react(
+        match react(
             alloc,
             interface,
             &mut line_room,
@@ -71,16 +71,21 @@ impl<'a, 'x, W: Words> LinePlayer for Telling<'a, 'x, W> {
             ticks,
             line,
             shown,
-        )?;
-        Ok(Telling {
-            alloc,
-            interface,
-            words,
-            line_room,
-            room,
-            ticks,
-            control,
-        })
+        ) {
+            Ok((control, room)) => Ok(Telling {
+                alloc,
+                interface,
+                words,
+                line_room,
+                room,
+                ticks,
+                control,
+            }),
+            Err(fault) => {
+                drop(line_room);
+                Err(fault)
+            }
+        }
     }
 }
 
@@ -99,17 +104,22 @@ impl<'a, 'x, W: Words> Telling<'a, 'x, W> {
         ensures control { IfOk result (λ p. p.control ≡ initial verified.now.program) }
         ensures rests { IfOk result (λ p. Rests verified.now.program p.control) }
     {
-        let room = TickSpace::of(alloc, verified)?;
         let control = Control::initial(alloc, verified.image().program())?;
-        Ok(Telling {
-            alloc,
-            interface,
-            words,
-            line_room: LineRoom::new(alloc),
-            room,
-            ticks: 0,
-            control,
-        })
+        match TickSpace::of(alloc, verified) {
+            Ok(room) => Ok(Telling {
+                alloc,
+                interface,
+                words,
+                line_room: LineRoom::new(alloc),
+                room,
+                ticks: 0,
+                control,
+            }),
+            Err(error) => {
+                drop(control);
+                Err(error)
+            }
+        }
     }
 
     // The number of the last tick.

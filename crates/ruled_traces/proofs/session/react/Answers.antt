@@ -6,11 +6,11 @@ use Rattle.ruled_traces.specs.Inside.Faults.{Says}
 use Rattle.ruled_traces.proofs.Made.{makes_tick}
 use Rattle.ruled_traces.proofs.session.react.Goals as goal
 
-pub returns-in_ok-write_line-in-Gives-clause-makes : goal.returns-in_ok-write_line-in-Gives-clause-makes
-returns-in_ok-write_line-in-Gives-clause-makes c =
+pub returns-in-Ok-write_line-clause-makes : goal.returns-in-Ok-write_line-clause-makes
+returns-in-Ok-write_line-clause-makes c =
     let inputs = c.in-Gives.inputs in
     let says : Gives c.args.rules c.args.program.now c.args.line.now inputs =
-    subst (Says c.args.rules c.args.program.now c.args.line.now) c.in-Gives.is c.in_ok-inputs.ensures in
+    subst (Says c.args.rules c.args.program.now c.args.line.now) c.in-Gives.is c.in-Ok.ensures in
     let reacts : Reacts c.args.room inputs c.args.place.control c.tick-control.result.0 c.tick-control.result.1 = search rules in
     let shown : c.write_line.new.line.items
     ≡ tick_line c.next_number-ticks.result c.tick-control.result.1 (outputs_of c.args.interface.now c.tick-control.result.0.variables) = search rules in
