@@ -30,8 +30,9 @@ fn image_of_source(alloc: Global, source: &[u8]) -> Result<Vec<u8>, LoadFault>
     ensures fault { IfErr result (λ fault. BytesLackImage source.now fault) }
 {
     let verified = compile_bytes(alloc, source)?;
-    let bytes = encode(alloc, verified.image())?;
-    Ok(bytes)
+    let encoded = encode(alloc, verified.image());
+    drop(verified);
+    Ok(encoded?)
 }
 
 /// The valid image that these bytes spell, in either version of the layout. Err: they spell none, or why it is not

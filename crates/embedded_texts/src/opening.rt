@@ -7,16 +7,17 @@ ghost use Rattle.command_files.specs.Sources.{BytesLackCompiled, BytesLackImage,
 ghost use Rattle.embedded_machine.specs.Opened.{no_states};
 ghost use Rattle.embedded_machine.specs.Ticks.{SpellValid};
 ghost use Rattle.embedded_texts.specs.Texts.{AreOfChart, AreStatesOf, IsNoImageOf, IsOpenedAuthored, IsOpenedSource};
-ghost use Rattle.embedded_texts.specs.Texts.{IsOpenedText};
+ghost use Rattle.embedded_texts.specs.Texts.{IsOpenedText, told_by};
 
 use crate::images::verified_image;
+use author_states::AuthorStates;
 use author_texts::{Authored, authored_source};
 use chart_reader::read_chart;
 use command_files::{LoadFault, compile_bytes, text_of};
 use compiler::CompileFault;
 use embedded_machine::{Opened, StateTable};
 use sc_text::{Language, language_of};
-use std::alloc::Global;
+use std::alloc::{AllocError, Global};
 
 /// What these bytes spell as an image, in either version of the layout; nothing is known of a chart. Err: they spell
 /// none, or why it is not valid; or memory was refused.
@@ -49,10 +50,32 @@ fn opened_authored(alloc: Global, authored: Authored) -> Result<Opened, LoadFaul
     ensures fault { IfErr result (BytesLackImage (string_bytes authored.source)) }
 {
     let Authored { source, states } = authored;
-    let reduced = opened_source(alloc, source.as_bytes())?;
-    let nodes = states.past(alloc, reduced.states().nodes())?;
-    let named = StateTable::named(nodes, states.into_paths());
-    Ok(reduced.with_states(named))
+    let opened = opened_source(alloc, source.as_bytes());
+    drop(source);
+    match opened {
+        Ok(reduced) => Ok(with_authors(alloc, reduced, states)?),
+        Err(fault) => {
+            drop(states);
+            Err(fault)
+        }
+    }
+}
+
+// The same image, with the states of its author.
+fn with_authors(alloc: Global, reduced: Opened, states: AuthorStates) -> Result<Opened, AllocError>
+    ensures { IfOk result (λ o. o ≡ told_by states reduced) }
+{
+    match states.past(alloc, reduced.states().nodes()) {
+        Ok(nodes) => {
+            let named = StateTable::named(nodes, states.into_paths());
+            Ok(reduced.with_states(named))
+        }
+        Err(error) => {
+            drop(reduced);
+            drop(states);
+            Err(error)
+        }
+    }
 }
 
 // The image of what this source spells, with the states of its chart.
@@ -61,9 +84,22 @@ fn opened_source(alloc: Global, bytes: &[u8]) -> Result<Opened, LoadFault>
     ensures fault { IfErr result (BytesLackCompiled bytes.now) }
 {
     let verified = compile_bytes(alloc, bytes)?;
+    match states_of_bytes(alloc, bytes) {
+        Ok(states) => Ok(Opened::of(verified, states)),
+        Err(fault) => {
+            drop(verified);
+            Err(fault)
+        }
+    }
+}
+
+// The states of the chart that these bytes spell; none where they spell a program.
+fn states_of_bytes(alloc: Global, bytes: &[u8]) -> Result<StateTable, LoadFault>
+    ensures states { IfOk result (AreStatesOf bytes.now) }
+    ensures fault { IfErr result (BytesLackCompiled bytes.now) }
+{
     let text = text_of(bytes)?;
-    let states = states_of(alloc, text)?;
-    Ok(Opened::of(verified, states))
+    states_of(alloc, text)
 }
 
 // The states of the chart that a text spells; none where it spells a program. Err: the first fault of the chart's
