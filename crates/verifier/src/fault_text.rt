@@ -35,8 +35,22 @@ impl fmt::Display for Broken {
     ghost output = { λ broken. Some (fault_text broken) };
 
     fn fmt<W: fmt::Write>(&self, f: &mut fmt::Formatter<W>) -> fmt::Result {
-        write!(f, "E{} ", self.rule.fault_number())?;
-        match self.place {
+        write!(f, "E{} {}", self.rule.fault_number(), Named(self.place))
+    }
+}
+
+// A place, by what it is and its number.
+#[derive(Clone, Copy)]
+struct Named(Place);
+
+impl fmt::Display for Named {
+    ghost use Rattle.std.specs.Prelude.{Some};
+    ghost use Rattle.verifier.specs.FaultText.{place_text};
+
+    ghost output = { λ named. Some (place_text named.0) };
+
+    fn fmt<W: fmt::Write>(&self, f: &mut fmt::Formatter<W>) -> fmt::Result {
+        match self.0 {
             Place::Image => write!(f, "image"),
             Place::Variable(variable) => write!(f, "variable {variable}"),
             Place::Thread(thread) => write!(f, "thread {thread}"),

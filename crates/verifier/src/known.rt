@@ -1,6 +1,8 @@
 //! What is made once of an image for all rules.
 
 ghost use Rattle.std.specs.Prelude.{◌≡◌, IfOk};
+ghost use Rattle.sc_graph.specs.Links.{Tells};
+ghost use Rattle.sc_graph.specs.Program.{kinds};
 ghost use Rattle.verifier.specs.Inside.Known.{KnownOf};
 
 use crate::extremes::Extremes;
@@ -27,12 +29,38 @@ impl Known {
         ensures { IfOk result (KnownOf program.now tables.now) }
     {
         let users = Users::of(alloc, program)?;
-        Ok(Known {
-            links: Links::of(alloc, program)?,
-            kinds: kinds_of(alloc, program)?,
-            extremes: Extremes::of(alloc, program, tables, &users)?,
-            users,
-        })
+        match Extremes::of(alloc, program, tables, &users) {
+            Ok(extremes) => Known::with(alloc, program, users, extremes),
+            Err(error) => {
+                drop(users);
+                Err(error)
+            }
+        }
+    }
+
+    // What is to be known of a program whose variables have these users, of which these are chosen.
+    fn with(
+        alloc: Global,
+        program: &Program,
+        users: Users,
+        extremes: Extremes,
+    ) -> Result<Known, AllocError>
+        ensures told { IfOk result (λ k. Tells program.now k.links × (k.kinds ≡ kinds program.now)) }
+        ensures given { IfOk result (λ k. (k.users ≡ users) × (k.extremes ≡ extremes)) }
+    {
+        match links_and_kinds(alloc, program) {
+            Ok((links, kinds)) => Ok(Known {
+                links,
+                kinds,
+                users,
+                extremes,
+            }),
+            Err(error) => {
+                drop(users);
+                drop(extremes);
+                Err(error)
+            }
+        }
     }
 
     /// The links alone.
@@ -41,10 +69,27 @@ impl Known {
     {
         let Known {
             links,
-            kinds: _,
-            users: _,
-            extremes: _,
+            kinds,
+            users,
+            extremes,
         } = self;
+        drop(kinds);
+        drop(users);
+        drop(extremes);
         links
+    }
+}
+
+// The links of a program, and the kinds of its variables.
+fn links_and_kinds(alloc: Global, program: &Program) -> Result<(Links, Items<Kind>), AllocError>
+    ensures { IfOk result (λ both. Tells program.now both.0 × (both.1 ≡ kinds program.now)) }
+{
+    let links = Links::of(alloc, program)?;
+    match kinds_of(alloc, program) {
+        Ok(kinds) => Ok((links, kinds)),
+        Err(error) => {
+            drop(links);
+            Err(error)
+        }
     }
 }

@@ -1,11 +1,13 @@
 //! All rules in order, and the lowest that an image breaks.
 
-ghost use Rattle.std.specs.Prelude.{◌≡◌, IfErr, IfOk, MatchOption, ◌≢◌, Err};
+ghost use Rattle.std.specs.Prelude.{◌≡◌, ◌≢◌, Err, IfErr, IfOk, MatchOption, None, Some};
+ghost use Rattle.sc_graph.specs.Links.{Tells};
 ghost use Rattle.sc_graph.specs.Valid.{IsValid};
 ghost use Rattle.verifier.specs.Verdict.{IsLowestBroken, KeepsBelow, KeptAt, fault_number};
 ghost use Rattle.verifier.specs.Inside.Faults.{IsFault};
 ghost use Rattle.verifier.specs.Inside.Known.{KnownOf};
 ghost use Rattle.verifier.specs.declared.rule.Broken.{Broken};
+ghost use Rattle.verifier.specs.declared.rule.Refusal.{Refusal};
 ghost use Rattle.verifier.specs.declared.rule.Refusal.TheVariants as refusal;
 ghost use Rattle.verifier.specs.declared.rule.Rule.TheVariants as named;
 
@@ -22,7 +24,7 @@ use crate::size::size_fault;
 use crate::verified::Verified;
 use crate::weights::weight_fault;
 use bytecode::Image;
-use sc_graph::{Place, Program, Tables};
+use sc_graph::{Links, Place, Program, Tables};
 use std::alloc::{AllocError, Global};
 
 /// Verifies an image, and gives it where it is valid. `Broken`: the lowest rule that it breaks, and
@@ -39,7 +41,11 @@ pub fn verify(alloc: Global, image: Image) -> Result<Verified, Refusal>
 {
     match Known::of(alloc, image.program(), image.tables()) {
         Ok(known) => verify_by(alloc, image, known),
-        Err(_refused) => Err(refusal_without_memory(image.program(), image.tables())),
+        Err(_refused) => {
+            let refusal = refusal_without_memory(image.program(), image.tables());
+            drop(image);
+            Err(refusal)
+        }
     }
 }
 
@@ -53,10 +59,45 @@ fn verify_by(alloc: Global, image: Image, known: Known) -> Result<Verified, Refu
     ensures memory { result ≡ Err refusal.Memory → KeepsBelow image.program image.tables (fault_number named.Code) }
     ensures accepted { IsValid image.program image.tables → (broken : Broken) → result ≢ Err (refusal.Broken broken) }
 {
-    match lowest_broken(alloc, image.program(), image.tables(), &known) {
-        Ok(None) => Ok(Verified::known(image, known.into_links())),
-        Ok(Some(broken)) => Err(Refusal::Broken(broken)),
-        Err(_refused) => Err(Refusal::Memory),
+    let refusal = refusal_by(alloc, image.program(), image.tables(), &known);
+    verified_unless(refusal, image, known.into_links())
+}
+
+// Why a program with its tables is refused, by what is known of it. None: it is valid.
+fn refusal_by(alloc: Global, program: &Program, tables: &Tables, known: &Known) -> Option<Refusal>
+    requires { KnownOf program.now tables.now known.now }
+    ensures valid { result ≡ None → IsValid program.now tables.now }
+    ensures broken { (broken : Broken) → result ≡ Some (refusal.Broken broken)
+        → IsLowestBroken program.now tables.now broken }
+    ensures memory { result ≡ Some refusal.Memory → KeepsBelow program.now tables.now (fault_number named.Code) }
+    ensures accepted { IsValid program.now tables.now → (broken : Broken) → result ≢ Some (refusal.Broken broken) }
+{
+    match lowest_broken(alloc, program, tables, known) {
+        Ok(None) => None,
+        Ok(Some(broken)) => Some(Refusal::Broken(broken)),
+        Err(_refused) => Some(Refusal::Memory),
+    }
+}
+
+// The image with the links of its program, unless it is refused.
+fn verified_unless(
+    refusal: Option<Refusal>,
+    image: Image,
+    links: Links,
+) -> Result<Verified, Refusal>
+    requires valid { refusal ≡ None → IsValid image.program image.tables }
+    requires links { Tells image.program links }
+    ensures verified { IfOk result (λ v. v ≡ image) }
+    ensures valid { IfOk result (λ _. refusal ≡ None) }
+    ensures refused { (r : Refusal) → result ≡ Err r → refusal ≡ Some r }
+{
+    match refusal {
+        None => Ok(Verified::known(image, links)),
+        Some(refusal) => {
+            drop(image);
+            drop(links);
+            Err(refusal)
+        }
     }
 }
 

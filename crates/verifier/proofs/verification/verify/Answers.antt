@@ -8,16 +8,16 @@ use Rattle.verifier.proofs.verification.verify.Goals as goal
 
 pub returns-in-Err-clause-broken : goal.returns-in-Err-clause-broken
 returns-in-Err-clause-broken c = λ broken e.
-    let same : c.refusal_without_memory.result ≡ refusal.Broken broken = cc e in
+    let same : c.refusal_without_memory-refusal.result ≡ refusal.Broken broken = cc e in
     subst (λ (p : Program). IsLowestBroken p c.args.image.tables broken) c.program-in-Err.ensures
     (subst (λ (q : Tables). IsLowestBroken c.program-in-Err.result.now q broken) c.tables-in-Err.ensures.value
-    (c.refusal_without_memory.ensures.broken broken same))
+    (c.refusal_without_memory-refusal.ensures.broken broken same))
 
 pub returns-in-Err-clause-accepted : goal.returns-in-Err-clause-accepted
 returns-in-Err-clause-accepted c = λ valid broken e.
-    let same : c.refusal_without_memory.result ≡ refusal.Broken broken = cc e in
+    let same : c.refusal_without_memory-refusal.result ≡ refusal.Broken broken = cc e in
     let lowest : IsLowestBroken c.args.image.program c.args.image.tables broken =
     subst (λ (p : Program). IsLowestBroken p c.args.image.tables broken) c.program-in-Err.ensures
     (subst (λ (q : Tables). IsLowestBroken c.program-in-Err.result.now q broken) c.tables-in-Err.ensures.value
-    (c.refusal_without_memory.ensures.broken broken same)) in
+    (c.refusal_without_memory-refusal.ensures.broken broken same)) in
     lowest.breaks (kept_of_valid c.args.image.program c.args.image.tables valid broken.rule broken.place)

@@ -2,12 +2,12 @@ use Rattle.std.proofs.Common.{ℕ, ◌≡◌, ◌≤◌, ◌+◌, List, length, 
 use Rattle.verifier.specs.Inside.Each.{EachOf}
 use Rattle.program_edges.specs.Extremes.{StandFor}
 use Rattle.verifier.proofs.Each.{each_none, each_more}
-use Rattle.verifier.proofs.extremes.extremes_of_all.Goals as goal
+use Rattle.verifier.proofs.extremes.put_extremes.Goals as goal
 
 pub loop-x-init : goal.loop-x-init
 loop-x-init c =
     let P : List ℕ → List ℕ → Type 0 = StandFor c.args.program.now c.args.tables.now.priorities c.args.extreme in
-    subst (λ (made : List (List ℕ)). EachOf P 0 c.args.users.now made) (sym c.new-lists.ensures) (each_none P c.args.users.now)
+    subst (λ (made : List (List ℕ)). EachOf P 0 c.args.users.now made) (sym c.requires) (each_none P c.args.users.now)
 
 pub loop-x-preserved : goal.loop-x-preserved
 loop-x-preserved c =
