@@ -6,7 +6,7 @@ ghost use Rattle.value_passes.specs.Clocks.{noting, timed_by, timed_transition, 
 ghost use Rattle.value_passes.specs.Clocks.{one_more, clock_region, with_clocks};
 ghost use Rattle.value_passes.specs.Inside.{clock_state, fill_timed};
 
-use crate::copies::{put_copied_effects, refused};
+use crate::copies::put_copied_effects;
 use chart_elements::next;
 use core_charts::{Effect, Transition, copied_effects};
 use extended_charts::{
@@ -25,8 +25,13 @@ pub fn with_clocks(alloc: Global, chart: ExtendedChart) -> Result<ExtendedChart,
     ensures { IfOk result (λ made. made ≡ with_clocks chart) }
 {
     let mut chart = chart;
-    put_clocks(alloc, &mut chart)?;
-    Ok(chart)
+    match put_clocks(alloc, &mut chart) {
+        Ok(()) => Ok(chart),
+        Err(error) => {
+            drop(chart);
+            Err(error)
+        }
+    }
 }
 
 // The chart is behind a reference, so that no `?` has to drop its parts.
@@ -128,11 +133,16 @@ fn put_region(
     ensures { OnOk result (made.new ≡ made.old ++ (timed_region region.now).made now at ∷ []) }
 {
     let mut states = Items::new(alloc);
-    put_states(alloc, now, at, region.states.as_slice(), &mut states)?;
-    made.push(ExtendedRegion {
-        name: region.name,
-        states,
-    })
+    match put_states(alloc, now, at, region.states.as_slice(), &mut states) {
+        Ok(()) => made.push(ExtendedRegion {
+            name: region.name,
+            states,
+        }),
+        Err(error) => {
+            drop(states);
+            Err(error)
+        }
+    }
 }
 
 #[cycle(timed)]
@@ -167,7 +177,10 @@ fn put_state(
     let mut timed = bare(alloc, state);
     match fill_timed(alloc, now, at, state, &mut timed) {
         Ok(()) => made.push(timed),
-        Err(error) => refused(timed, error),
+        Err(error) => {
+            drop(timed);
+            Err(error)
+        }
     }
 }
 
@@ -239,27 +252,33 @@ pub(crate) fn put_timed(
     ensures { OnOk result (made.new ≡ made.old ++ map (timed_by reading.now) transitions.now) }
 {
     for transition in transitions {
-        made.push(timed_by(alloc, reading, transition)?)?;
+        put_timed_by(alloc, reading, transition, made)?;
     }
     Ok(())
 }
 
-fn timed_by(
+fn put_timed_by(
     alloc: Global,
     reading: &Reading,
     transition: &Transition,
-) -> Result<Transition, AllocError>
-    ensures { IfOk result (λ made. made ≡ timed_by reading.now transition.now) }
+    made: &mut Items<Transition>,
+) -> Result<(), AllocError>
+    ensures { OnOk result (made.new ≡ made.old ++ timed_by reading.now transition.now ∷ []) }
 {
     let trigger = reading.replaced_trigger(alloc, &transition.trigger)?;
-    let effects = copied_effects(alloc, transition.effects.as_slice())?;
-    Ok(Transition {
-        kind: transition.kind,
-        immediate: transition.immediate,
-        trigger,
-        effects,
-        target: transition.target,
-    })
+    match copied_effects(alloc, transition.effects.as_slice()) {
+        Ok(effects) => made.push(Transition {
+            kind: transition.kind,
+            immediate: transition.immediate,
+            trigger,
+            effects,
+            target: transition.target,
+        }),
+        Err(error) => {
+            drop(trigger);
+            Err(error)
+        }
+    }
 }
 
 /// The variable becomes one more. Err: memory was refused.
@@ -267,11 +286,16 @@ pub(crate) fn one_more(alloc: Global, now: VariableId) -> Result<Effect, AllocEr
     ensures { IfOk result (λ made. made ≡ one_more now) }
 {
     let before = Boxed::new(alloc, Expr::Load(now))?;
-    let one = Boxed::new(alloc, Expr::Literal(Value::Int(1)))?;
-    Ok(Effect {
-        variable: now,
-        value: Expr::Binary(BinaryOperator::Add, before, one),
-    })
+    match Boxed::new(alloc, Expr::Literal(Value::Int(1))) {
+        Ok(one) => Ok(Effect {
+            variable: now,
+            value: Expr::Binary(BinaryOperator::Add, before, one),
+        }),
+        Err(error) => {
+            drop(before);
+            Err(error)
+        }
+    }
 }
 
 // Puts the region that adds 1 to the time in each tick but the first.
@@ -282,12 +306,13 @@ fn put_clock_region(
 ) -> Result<(), AllocError>
     ensures { OnOk result (made.new ≡ made.old ++ clock_region now ∷ []) }
 {
-    let tick = clock_state(alloc, now)?;
-    let states = alone(alloc, tick)?;
-    made.push(ExtendedRegion {
-        name: plain("clock__1"),
-        states,
-    })
+    match alone(alloc, clock_state(alloc, now)?) {
+        Ok(states) => made.push(ExtendedRegion {
+            name: plain("clock__1"),
+            states,
+        }),
+        Err(error) => Err(error),
+    }
 }
 
 fn clock_state(alloc: Global, now: VariableId) -> Result<ExtendedState, AllocError>

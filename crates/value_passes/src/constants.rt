@@ -7,7 +7,6 @@ ghost use Rattle.extended_charts.specs.Reading.{replaced};
 ghost use Rattle.value_passes.specs.Constants.{valued_region, valued_state, valued_chart, without_constants};
 ghost use Rattle.value_passes.specs.Inside.{fill_valued, fill_chart};
 
-use crate::copies::refused;
 use core_charts::{Effect, Transition};
 use extended_charts::{
     Constant, During, ExtendedChart, ExtendedRegion, ExtendedState, Reading, bare,
@@ -42,8 +41,13 @@ fn valued_chart(
         counts: Items::new(alloc),
         regions: Items::new(alloc),
     };
-    fill_chart(alloc, reading, chart, &mut valued)?;
-    Ok(valued)
+    match fill_chart(alloc, reading, chart, &mut valued) {
+        Ok(()) => Ok(valued),
+        Err(error) => {
+            drop(valued);
+            Err(error)
+        }
+    }
 }
 
 // The chart that is filled is behind a reference, so that no `?` has to drop its parts.
@@ -73,8 +77,13 @@ fn named_values(alloc: Global, chart: &ExtendedChart) -> Result<Items<Option<Val
         ≡ named_values chart.now.variables chart.now.befores chart.now.constants) }
 {
     let mut made = Items::new(alloc);
-    put_named_values(chart, &mut made)?;
-    Ok(made)
+    match put_named_values(chart, &mut made) {
+        Ok(()) => Ok(made),
+        Err(error) => {
+            drop(made);
+            Err(error)
+        }
+    }
 }
 
 fn put_named_values(
@@ -119,9 +128,23 @@ fn put_valued_counts(
     ensures { OnOk result (made.new ≡ made.old ++ map (replaced reading.now) counts.now) }
 {
     for condition in counts {
-        made.push(reading.replaced(alloc, condition)?)?;
+        put_valued_count(alloc, reading, condition, made)?;
     }
     Ok(())
+}
+
+fn put_valued_count(
+    alloc: Global,
+    reading: &Reading,
+    condition: &Expr,
+    made: &mut Items<Expr>,
+) -> Result<(), AllocError>
+    ensures { OnOk result (made.new ≡ made.old ++ replaced reading.now condition.now ∷ []) }
+{
+    match reading.replaced(alloc, condition) {
+        Ok(valued) => made.push(valued),
+        Err(error) => Err(error),
+    }
 }
 
 fn put_valued_effects(
@@ -133,18 +156,26 @@ fn put_valued_effects(
     ensures { OnOk result (made.new ≡ made.old ++ map (valued_effect reading.now) effects.now) }
 {
     for effect in effects {
-        made.push(valued_effect(alloc, reading, effect)?)?;
+        put_valued_effect(alloc, reading, effect, made)?;
     }
     Ok(())
 }
 
-fn valued_effect(alloc: Global, reading: &Reading, effect: &Effect) -> Result<Effect, AllocError>
-    ensures { IfOk result (λ made. made ≡ valued_effect reading.now effect.now) }
+fn put_valued_effect(
+    alloc: Global,
+    reading: &Reading,
+    effect: &Effect,
+    made: &mut Items<Effect>,
+) -> Result<(), AllocError>
+    ensures { OnOk result (made.new ≡ made.old ++ valued_effect reading.now effect.now ∷ []) }
 {
-    Ok(Effect {
-        variable: effect.variable,
-        value: reading.replaced(alloc, &effect.value)?,
-    })
+    match reading.replaced(alloc, &effect.value) {
+        Ok(value) => made.push(Effect {
+            variable: effect.variable,
+            value,
+        }),
+        Err(error) => Err(error),
+    }
 }
 
 fn valued_effects(
@@ -155,8 +186,13 @@ fn valued_effects(
     ensures { IfOk result (λ made. made ≡ map (valued_effect reading.now) effects.now) }
 {
     let mut made = Items::new(alloc);
-    put_valued_effects(alloc, reading, effects, &mut made)?;
-    Ok(made)
+    match put_valued_effects(alloc, reading, effects, &mut made) {
+        Ok(()) => Ok(made),
+        Err(error) => {
+            drop(made);
+            Err(error)
+        }
+    }
 }
 
 fn put_valued_durings(
@@ -168,21 +204,31 @@ fn put_valued_durings(
     ensures { OnOk result (made.new ≡ made.old ++ map (valued_during reading.now) durings.now) }
 {
     for during in durings {
-        made.push(valued_during(alloc, reading, during)?)?;
+        put_valued_during(alloc, reading, during, made)?;
     }
     Ok(())
 }
 
-fn valued_during(alloc: Global, reading: &Reading, during: &During) -> Result<During, AllocError>
-    ensures { IfOk result (λ made. made ≡ valued_during reading.now during.now) }
+fn put_valued_during(
+    alloc: Global,
+    reading: &Reading,
+    during: &During,
+    made: &mut Items<During>,
+) -> Result<(), AllocError>
+    ensures { OnOk result (made.new ≡ made.old ++ valued_during reading.now during.now ∷ []) }
 {
     let trigger = reading.replaced_trigger(alloc, &during.trigger)?;
-    let effects = valued_effects(alloc, reading, during.effects.as_slice())?;
-    Ok(During {
-        immediate: during.immediate,
-        trigger,
-        effects,
-    })
+    match valued_effects(alloc, reading, during.effects.as_slice()) {
+        Ok(effects) => made.push(During {
+            immediate: during.immediate,
+            trigger,
+            effects,
+        }),
+        Err(error) => {
+            drop(trigger);
+            Err(error)
+        }
+    }
 }
 
 fn put_valued_transitions(
@@ -194,27 +240,33 @@ fn put_valued_transitions(
     ensures { OnOk result (made.new ≡ made.old ++ map (valued_transition reading.now) transitions.now) }
 {
     for transition in transitions {
-        made.push(valued_transition(alloc, reading, transition)?)?;
+        put_valued_transition(alloc, reading, transition, made)?;
     }
     Ok(())
 }
 
-fn valued_transition(
+fn put_valued_transition(
     alloc: Global,
     reading: &Reading,
     transition: &Transition,
-) -> Result<Transition, AllocError>
-    ensures { IfOk result (λ made. made ≡ valued_transition reading.now transition.now) }
+    made: &mut Items<Transition>,
+) -> Result<(), AllocError>
+    ensures { OnOk result (made.new ≡ made.old ++ valued_transition reading.now transition.now ∷ []) }
 {
     let trigger = reading.replaced_trigger(alloc, &transition.trigger)?;
-    let effects = valued_effects(alloc, reading, transition.effects.as_slice())?;
-    Ok(Transition {
-        kind: transition.kind,
-        immediate: transition.immediate,
-        trigger,
-        effects,
-        target: transition.target,
-    })
+    match valued_effects(alloc, reading, transition.effects.as_slice()) {
+        Ok(effects) => made.push(Transition {
+            kind: transition.kind,
+            immediate: transition.immediate,
+            trigger,
+            effects,
+            target: transition.target,
+        }),
+        Err(error) => {
+            drop(trigger);
+            Err(error)
+        }
+    }
 }
 
 // Puts what is made of regions behind others.
@@ -243,11 +295,16 @@ fn put_region(
     ensures { OnOk result (made.new ≡ made.old ++ valued_region reading.now region.now ∷ []) }
 {
     let mut states = Items::new(alloc);
-    put_states(alloc, reading, region.states.as_slice(), &mut states)?;
-    made.push(ExtendedRegion {
-        name: region.name,
-        states,
-    })
+    match put_states(alloc, reading, region.states.as_slice(), &mut states) {
+        Ok(()) => made.push(ExtendedRegion {
+            name: region.name,
+            states,
+        }),
+        Err(error) => {
+            drop(states);
+            Err(error)
+        }
+    }
 }
 
 #[cycle(inside)]
@@ -277,7 +334,10 @@ fn put_state(
     let mut valued = bare(alloc, state);
     match fill_valued(alloc, reading, state, &mut valued) {
         Ok(()) => made.push(valued),
-        Err(error) => refused(valued, error),
+        Err(error) => {
+            drop(valued);
+            Err(error)
+        }
     }
 }
 

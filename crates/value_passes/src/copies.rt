@@ -1,9 +1,10 @@
-//! Copies of effects, and a state that was not filled.
+//! Copies of effects, and states that make nothing.
 
-ghost use Rattle.std.specs.Prelude.{◌≡◌, ◌++◌, Err, OnOk};
+ghost use Rattle.std.specs.Prelude.{◌≡◌, [], ◌∷◌, ◌++◌, OnOk};
+ghost use Rattle.extended_charts.specs.Making.{passing};
 
 use core_charts::{Effect, copied_effects};
-use extended_charts::ExtendedState;
+use extended_charts::{ExtendedState, passing};
 use sqlite_items::Items;
 use std::alloc::{AllocError, Global};
 
@@ -15,12 +16,24 @@ pub(crate) fn put_copied_effects(
 ) -> Result<(), AllocError>
     ensures { OnOk result (made.new ≡ made.old ++ effects.now) }
 {
-    made.append(copied_effects(alloc, effects)?)
+    match copied_effects(alloc, effects) {
+        Ok(copies) => made.append(copies),
+        Err(error) => Err(error),
+    }
 }
 
-/// Lets a state go that was not filled. So it is dropped in one place.
-pub(crate) fn refused(_state: ExtendedState, error: AllocError) -> Result<(), AllocError>
-    ensures { result ≡ Err error }
+/// Puts the state of this place, which goes on: at once, or in the next tick. Err: memory was refused.
+pub(crate) fn put_passing(
+    alloc: Global,
+    immediate: bool,
+    place: u32,
+    target: u32,
+    made: &mut Items<ExtendedState>,
+) -> Result<(), AllocError>
+    ensures { OnOk result (made.new ≡ made.old ++ passing immediate place [] target ∷ []) }
 {
-    Err(error)
+    match passing(alloc, immediate, place, Items::new(alloc), target) {
+        Ok(state) => made.push(state),
+        Err(error) => Err(error),
+    }
 }

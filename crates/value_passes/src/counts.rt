@@ -1,22 +1,23 @@
 //! Counts: in how many ticks a condition was true since a state was entered.
 
 ghost use Rattle.std.specs.Prelude.{◌≡◌, [], ◌∷◌, ◌++◌, IfOk, OnOk, map};
-ghost use Rattle.value_passes.specs.Clocks.{timed_by};
+ghost use Rattle.value_passes.specs.Clocks.{one_more, timed_by};
 ghost use Rattle.extended_charts.specs.declared.reading.Reading.TheVariants as reading;
 ghost use Rattle.value_passes.specs.Counts.{total_of, entered_of, next_count, own_variables, count_variables};
 ghost use Rattle.value_passes.specs.Counts.{asked_in, asked_by, telling, tellings};
 ghost use Rattle.value_passes.specs.Counts.{counted_region, counted_state, beginnings, none_yet, counting_ways};
 ghost use Rattle.value_passes.specs.Counts.{counting, all_counting, count_states, count_region, with_counts};
 ghost use Rattle.value_passes.specs.Inside.{fill_counted, anew};
+ghost use Rattle.extended_charts.specs.Durings.{ways_on};
 
 use crate::clocks::{one_more, put_timed};
-use crate::copies::{put_copied_effects, refused};
+use crate::copies::{put_copied_effects, put_passing};
 use chart_elements::next;
 use core_charts::{Effect, Transition, TransitionKind};
 use extended_charts::{
     Declared, ExtendedChart, ExtendedRegion, ExtendedState, Reading, alone, bare, copy, count,
-    count_variable, emission, has_some, is_count, local, made_state, passing, put_all_passing,
-    put_ways_on, reset, sum, variable,
+    count_variable, emission, has_some, is_count, local, made_state, put_all_passing, put_ways_on,
+    reset, sum, variable,
 };
 use sc_graph::VariableId;
 use sc_text::{numbered, plain};
@@ -30,8 +31,13 @@ pub fn with_counts(alloc: Global, chart: ExtendedChart) -> Result<ExtendedChart,
     ensures { IfOk result (λ made. made ≡ with_counts chart) }
 {
     let mut chart = chart;
-    put_counts(alloc, &mut chart)?;
-    Ok(chart)
+    match put_counts(alloc, &mut chart) {
+        Ok(()) => Ok(chart),
+        Err(error) => {
+            drop(chart);
+            Err(error)
+        }
+    }
 }
 
 // The chart is behind a reference, so that no `?` has to drop its parts.
@@ -126,7 +132,10 @@ fn put_telling(
     match asked {
         Some(x) => {
             let entered = entered_of(count_variable(first, counts, x)?)?;
-            made.push(emission(alloc, entered)?)
+            match emission(alloc, entered) {
+                Ok(effect) => made.push(effect),
+                Err(error) => Err(error),
+            }
         }
         None => Ok(()),
     }
@@ -176,11 +185,16 @@ fn put_region(
     ensures { OnOk result (made.new ≡ made.old ++ counted_region first counts region.now ∷ []) }
 {
     let mut states = Items::new(alloc);
-    put_states(alloc, first, counts, region.states.as_slice(), &mut states)?;
-    made.push(ExtendedRegion {
-        name: region.name,
-        states,
-    })
+    match put_states(alloc, first, counts, region.states.as_slice(), &mut states) {
+        Ok(()) => made.push(ExtendedRegion {
+            name: region.name,
+            states,
+        }),
+        Err(error) => {
+            drop(states);
+            Err(error)
+        }
+    }
 }
 
 #[cycle(counted)]
@@ -213,7 +227,10 @@ fn put_state(
     let mut counted = bare(alloc, state);
     match fill_counted(alloc, first, counts, state, &mut counted) {
         Ok(()) => made.push(counted),
-        Err(error) => refused(counted, error),
+        Err(error) => {
+            drop(counted);
+            Err(error)
+        }
     }
 }
 
@@ -283,20 +300,27 @@ fn none_yet(total: VariableId) -> Effect
     }
 }
 
-// The way on where the state was entered: none is counted.
-fn anew(alloc: Global, count: VariableId, target: u32) -> Result<Transition, AllocError>
-    ensures { IfOk result (λ made. made ≡ anew count target) }
+// Puts the way on where the state was entered: none is counted.
+fn put_anew(
+    alloc: Global,
+    count: VariableId,
+    target: u32,
+    made: &mut Items<Transition>,
+) -> Result<(), AllocError>
+    ensures { OnOk result (made.new ≡ made.old ++ anew count target ∷ []) }
 {
     let entered = entered_of(count)?;
     let total = total_of(count)?;
-    let effects = alone(alloc, none_yet(total))?;
-    Ok(Transition {
-        kind: TransitionKind::Go,
-        immediate: true,
-        trigger: Some(Expr::Load(entered)),
-        effects,
-        target,
-    })
+    match alone(alloc, none_yet(total)) {
+        Ok(effects) => made.push(Transition {
+            kind: TransitionKind::Go,
+            immediate: true,
+            trigger: Some(Expr::Load(entered)),
+            effects,
+            target,
+        }),
+        Err(error) => Err(error),
+    }
 }
 
 // Puts the ways on of a count: none is counted where the state was entered, and else this tick, where the condition is
@@ -310,27 +334,45 @@ fn put_counting_ways(
 ) -> Result<(), AllocError>
     ensures { OnOk result (made.new ≡ made.old ++ counting_ways count condition.now target) }
 {
-    made.push(anew(alloc, count, target)?)?;
-    let total = total_of(count)?;
-    let counted = alone(alloc, one_more(alloc, total)?)?;
+    put_anew(alloc, count, target, made)?;
     let trigger = Some(condition.copied(alloc)?);
-    put_ways_on(alloc, &trigger, counted.as_slice(), target, made)
+    put_counted_ways(alloc, count, &trigger, target, made)
 }
 
-// The state of this place, which counts and leads to the place behind it.
-fn counting(
+fn put_counted_ways(
+    alloc: Global,
+    count: VariableId,
+    trigger: &Option<Expr>,
+    target: u32,
+    made: &mut Items<Transition>,
+) -> Result<(), AllocError>
+    ensures { OnOk result
+        (made.new ≡ made.old ++ ways_on trigger.now (one_more (total_of count) ∷ []) target) }
+{
+    let counted = alone(alloc, one_more(alloc, total_of(count)?)?)?;
+    put_ways_on(alloc, trigger, counted.as_slice(), target, made)
+}
+
+// Puts the state of this place, which counts and leads to the place behind it.
+fn put_counting(
     alloc: Global,
     place: u32,
     count: VariableId,
     condition: &Expr,
-) -> Result<ExtendedState, AllocError>
-    ensures { IfOk result (λ made. made ≡ counting place count condition.now) }
+    made: &mut Items<ExtendedState>,
+) -> Result<(), AllocError>
+    ensures { OnOk result (made.new ≡ made.old ++ counting place count condition.now ∷ []) }
 {
     let behind = next(place)?;
     let name = numbered("step__", place as u64);
     let mut ways = Items::new(alloc);
-    put_counting_ways(alloc, count, condition, behind, &mut ways)?;
-    Ok(made_state(alloc, name, place == 0, Items::new(alloc), ways))
+    match put_counting_ways(alloc, count, condition, behind, &mut ways) {
+        Ok(()) => made.push(made_state(alloc, name, place == 0, Items::new(alloc), ways)),
+        Err(error) => {
+            drop(ways);
+            Err(error)
+        }
+    }
 }
 
 fn put_all_counting(
@@ -345,7 +387,7 @@ fn put_all_counting(
     let mut place = first_place;
     let mut variable = first;
     for condition in counts {
-        made.push(counting(alloc, place, variable, condition)?)?;
+        put_counting(alloc, place, variable, condition, made)?;
         place = next(place)?;
         variable = next_count(variable)?;
     }
@@ -365,7 +407,21 @@ fn put_count_states(
     let last = sum(behind, count(counts)?)?;
     put_all_passing(alloc, 0, begun, made)?;
     put_all_counting(alloc, behind, first, counts, made)?;
-    made.push(passing(alloc, false, last, Items::new(alloc), 0)?)
+    put_passing(alloc, false, last, 0, made)
+}
+
+// Puts the states that count, and those before them that do what is done as a tick begins.
+fn put_all_count_states(
+    alloc: Global,
+    first: VariableId,
+    counts: &[Expr],
+    made: &mut Items<ExtendedState>,
+) -> Result<(), AllocError>
+    ensures { OnOk result (made.new ≡ made.old ++ count_states (beginnings first counts.now) first counts.now) }
+{
+    let mut begun = Items::new(alloc);
+    put_beginnings(first, counts, &mut begun)?;
+    put_count_states(alloc, begun.as_slice(), first, counts, made)
 }
 
 // Puts the region that counts.
@@ -377,12 +433,15 @@ fn put_count_region(
 ) -> Result<(), AllocError>
     ensures { OnOk result (made.new ≡ made.old ++ count_region first counts.now ∷ []) }
 {
-    let mut begun = Items::new(alloc);
-    put_beginnings(first, counts, &mut begun)?;
     let mut states = Items::new(alloc);
-    put_count_states(alloc, begun.as_slice(), first, counts, &mut states)?;
-    made.push(ExtendedRegion {
-        name: plain("counts__1"),
-        states,
-    })
+    match put_all_count_states(alloc, first, counts, &mut states) {
+        Ok(()) => made.push(ExtendedRegion {
+            name: plain("counts__1"),
+            states,
+        }),
+        Err(error) => {
+            drop(states);
+            Err(error)
+        }
+    }
 }

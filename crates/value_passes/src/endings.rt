@@ -1,22 +1,25 @@
 //! During actions of superstates that are left by `join`: they end when what is inside has ended.
 
-ghost use Rattle.std.specs.Prelude.{◌≡◌, [], ◌∷◌, ◌++◌, IfOk, OnOk, map};
+ghost use Rattle.std.specs.Prelude.{◌≡◌, ◌+◌, [], ◌∷◌, ◌++◌, IfOk, OnOk, false, length, map};
 ghost use Rattle.value_passes.specs.Endings.{is_ending, telling, body, body_region, tested, first_states};
 ghost use Rattle.value_passes.specs.Endings.{ending_states, ending_region, endings_in, all_regions, all_states};
 ghost use Rattle.value_passes.specs.Endings.{beginning, left_durings, inside, left_transitions, all_at_once};
 ghost use Rattle.value_passes.specs.Endings.{ending_in_region, ending_in_state, endings_told, with_endings};
 ghost use Rattle.extended_charts.specs.declared.extended.ExtendedRegion.TheViews.{out-ExtendedState};
 ghost use Rattle.extended_charts.specs.Holds.{ended};
+ghost use Rattle.extended_charts.specs.Durings.{immediate_ones};
+ghost use Rattle.extended_charts.specs.Making.{always, one};
+ghost use Rattle.core_charts.specs.declared.region.TransitionKind.TheVariants as kind;
 ghost use Rattle.value_passes.specs.Inside.{deeper, fill_ending};
 
 use crate::beginnings::{all_at_once, is_joined};
-use crate::copies::{put_copied_effects, refused};
+use crate::copies::{put_copied_effects, put_passing};
 use chart_elements::next;
 use core_charts::{Effect, Transition, TransitionKind, copied_transitions};
 use extended_charts::{
     Declared, During, ExtendedChart, ExtendedRegion, ExtendedState, alone, always, bare, condition,
-    count, ended, has_some, local, made_state, one, passing, put_copied_durings,
-    put_immediate_ones, put_steps, put_untested, reset, sum, variable,
+    count, ended, has_some, local, made_state, one, put_copied_durings, put_immediate_ones,
+    put_steps, put_untested, reset, sum, variable,
 };
 use sc_graph::VariableId;
 use sc_text::{numbered, plain};
@@ -30,8 +33,13 @@ pub fn with_endings(alloc: Global, chart: ExtendedChart) -> Result<ExtendedChart
     ensures { IfOk result (λ made. made ≡ with_endings chart) }
 {
     let mut chart = chart;
-    put_endings(alloc, &mut chart)?;
-    Ok(chart)
+    match put_endings(alloc, &mut chart) {
+        Ok(()) => Ok(chart),
+        Err(error) => {
+            drop(chart);
+            Err(error)
+        }
+    }
 }
 
 // The chart is behind a reference, so that no `?` has to drop its parts.
@@ -69,7 +77,34 @@ fn telling(done: VariableId) -> Effect
     }
 }
 
-// The state that has the regions, and is left when these have ended and the trigger is true.
+// The way out of the state that has the regions: when these have ended and the trigger is true.
+fn join(
+    alloc: Global,
+    done: VariableId,
+    trigger: Option<Expr>,
+) -> Result<Items<Transition>, AllocError>
+    ensures { IfOk result (λ made. made
+        ≡ record (always false (telling done ∷ []) 1) { kind = kind.Join; trigger = trigger } ∷ []) }
+{
+    match alone(alloc, telling(done)) {
+        Ok(effects) => {
+            let out = Transition {
+                kind: TransitionKind::Join,
+                immediate: false,
+                trigger,
+                effects,
+                target: 1,
+            };
+            alone(alloc, out)
+        }
+        Err(error) => {
+            drop(trigger);
+            Err(error)
+        }
+    }
+}
+
+// The state that has the regions.
 fn body(
     alloc: Global,
     done: VariableId,
@@ -78,11 +113,13 @@ fn body(
 ) -> Result<ExtendedState, AllocError>
     ensures { IfOk result (λ made. made ≡ body done trigger regions) }
 {
-    let mut join = always(false, alone(alloc, telling(done))?, 1);
-    join.kind = TransitionKind::Join;
-    join.trigger = trigger;
-    let transitions = alone(alloc, join)?;
-    Ok(made_state(alloc, plain("body__1"), true, regions, transitions))
+    match join(alloc, done, trigger) {
+        Ok(ways) => Ok(made_state(alloc, plain("body__1"), true, regions, ways)),
+        Err(error) => {
+            drop(regions);
+            Err(error)
+        }
+    }
 }
 
 fn put_body_region(
@@ -96,29 +133,45 @@ fn put_body_region(
 {
     let body = body(alloc, done, trigger, regions)?;
     let mut states = alone(alloc, body)?;
-    states.push(ended(alloc))?;
-    made.push(ExtendedRegion {
-        name: plain("body__1"),
-        states,
-    })
+    match states.push(ended(alloc)) {
+        Ok(()) => made.push(ExtendedRegion {
+            name: plain("body__1"),
+            states,
+        }),
+        Err(error) => {
+            drop(states);
+            Err(error)
+        }
+    }
 }
 
-// The state of this place: on to the end where what is inside has ended, and else elsewhere.
-fn tested(
+// Puts the state of this place: on to the end where what is inside has ended, and else elsewhere.
+fn put_tested(
     alloc: Global,
     done: VariableId,
     place: u32,
     end: u32,
     other: u32,
-) -> Result<ExtendedState, AllocError>
-    ensures { IfOk result (λ made. made ≡ tested done place end other) }
+    made: &mut Items<ExtendedState>,
+) -> Result<(), AllocError>
+    ensures { OnOk result (made.new ≡ made.old ++ tested done place end other ∷ []) }
 {
-    let mut ends = always(true, Items::new(alloc), end);
-    ends.trigger = Some(Expr::Load(done));
-    let mut transitions = alone(alloc, ends)?;
-    transitions.push(always(true, Items::new(alloc), other))?;
     let name = numbered("step__", place as u64);
-    Ok(made_state(alloc, name, place == 0, Items::new(alloc), transitions))
+    let ends = Transition {
+        kind: TransitionKind::Go,
+        immediate: true,
+        trigger: Some(Expr::Load(done)),
+        effects: Items::new(alloc),
+        target: end,
+    };
+    let mut ways = alone(alloc, ends)?;
+    match ways.push(always(true, Items::new(alloc), other)) {
+        Ok(()) => made.push(made_state(alloc, name, place == 0, Items::new(alloc), ways)),
+        Err(error) => {
+            drop(ways);
+            Err(error)
+        }
+    }
 }
 
 // Puts what is done in the tick of the entry.
@@ -135,7 +188,7 @@ fn put_first_states(
     put_steps(alloc, 0, first, made)?;
     if at_once {
         let place = count(first)?;
-        made.push(tested(alloc, done, place, end, next(place)?)?)
+        put_tested(alloc, done, place, end, next(place)?, made)
     } else {
         Ok(())
     }
@@ -156,10 +209,28 @@ fn put_ending_states(
     let last = sum(again, count(all)?)?;
     let end = next(last)?;
     put_first_states(alloc, done, end, first, at_once, made)?;
-    made.push(passing(alloc, false, wait, Items::new(alloc), again)?)?;
+    put_passing(alloc, false, wait, again, made)?;
     put_steps(alloc, again, all, made)?;
-    made.push(tested(alloc, done, last, end, wait)?)?;
+    put_tested(alloc, done, last, end, wait, made)?;
     made.push(ended(alloc))
+}
+
+// Puts the states that make these actions, in the tick of the entry those that are immediate.
+fn put_acting(
+    alloc: Global,
+    done: VariableId,
+    durings: &[During],
+    at_once: bool,
+    made: &mut Items<ExtendedState>,
+) -> Result<(), AllocError>
+    ensures { OnOk result (made.new ≡ made.old ++ ending_states done (length (immediate_ones durings.now) + one at_once)
+        (immediate_ones durings.now) durings.now at_once) }
+{
+    let mut immediate = Items::new(alloc);
+    put_immediate_ones(alloc, durings, &mut immediate)?;
+    let first = immediate.as_slice();
+    let wait = sum(count(first)?, one(at_once))?;
+    put_ending_states(alloc, done, wait, first, durings, at_once, made)
 }
 
 fn put_ending_region(
@@ -171,16 +242,17 @@ fn put_ending_region(
 ) -> Result<(), AllocError>
     ensures { OnOk result (made.new ≡ made.old ++ ending_region done durings.now at_once ∷ []) }
 {
-    let mut immediate = Items::new(alloc);
-    put_immediate_ones(alloc, durings, &mut immediate)?;
-    let first = immediate.as_slice();
-    let wait = sum(count(first)?, one(at_once))?;
     let mut states = Items::new(alloc);
-    put_ending_states(alloc, done, wait, first, durings, at_once, &mut states)?;
-    made.push(ExtendedRegion {
-        name: plain("during__1"),
-        states,
-    })
+    match put_acting(alloc, done, durings, at_once, &mut states) {
+        Ok(()) => made.push(ExtendedRegion {
+            name: plain("during__1"),
+            states,
+        }),
+        Err(error) => {
+            drop(states);
+            Err(error)
+        }
+    }
 }
 
 // Whether a state with these actions is left by a termination.
@@ -244,7 +316,10 @@ fn put_left_transitions(
     if ends {
         put_untested(alloc, transitions, made)
     } else {
-        made.append(copied_transitions(alloc, transitions)?)
+        match copied_transitions(alloc, transitions) {
+            Ok(copies) => made.append(copies),
+            Err(error) => Err(error),
+        }
     }
 }
 
@@ -308,11 +383,16 @@ fn put_region(
     ensures { OnOk result (made.new ≡ made.old ++ (ending_in_region region.now).made x ∷ []) }
 {
     let mut states = Items::new(alloc);
-    put_states(alloc, x, region.states.as_slice(), &mut states)?;
-    made.push(ExtendedRegion {
-        name: region.name,
-        states,
-    })
+    match put_states(alloc, x, region.states.as_slice(), &mut states) {
+        Ok(()) => made.push(ExtendedRegion {
+            name: region.name,
+            states,
+        }),
+        Err(error) => {
+            drop(states);
+            Err(error)
+        }
+    }
 }
 
 #[cycle(ending)]
@@ -345,7 +425,10 @@ fn put_state(
     let mut changed = bare(alloc, state);
     match fill_ending(alloc, x, state, &mut changed) {
         Ok(()) => made.push(changed),
-        Err(error) => refused(changed, error),
+        Err(error) => {
+            drop(changed);
+            Err(error)
+        }
     }
 }
 

@@ -1,12 +1,13 @@
 //! Initial values: where a variable has one other than `false` and 0, states set them before all regions.
 
-ghost use Rattle.std.specs.Prelude.{◌≡◌, ◌++◌, IfOk, OnOk};
+ghost use Rattle.std.specs.Prelude.{◌≡◌, [], ◌∷◌, ◌++◌, IfOk, OnOk, codes, false};
+ghost use Rattle.extended_charts.specs.Making.{all_passing, made_state};
 ghost use Rattle.value_passes.specs.Initial.{is_default, setting, settings, framed, with_settings};
 
 use core_charts::Effect;
 use extended_charts::{
-    Declared, ExtendedChart, ExtendedRegion, has_some, literal, made_state, put_all_passing,
-    variable,
+    Declared, ExtendedChart, ExtendedRegion, ExtendedState, has_some, literal, made_state,
+    put_all_passing, variable,
 };
 use sc_graph::VariableId;
 use sc_text::plain;
@@ -21,8 +22,13 @@ pub fn with_settings(alloc: Global, chart: ExtendedChart) -> Result<ExtendedChar
     ensures { IfOk result (λ made. made ≡ with_settings chart) }
 {
     let mut chart = chart;
-    put_settings(alloc, &mut chart)?;
-    Ok(chart)
+    match put_settings(alloc, &mut chart) {
+        Ok(()) => Ok(chart),
+        Err(error) => {
+            drop(chart);
+            Err(error)
+        }
+    }
 }
 
 // The chart is behind a reference, so that no `?` has to drop its parts.
@@ -58,8 +64,10 @@ fn put_setting(
 {
     match initial {
         Some(value) if !is_default(value) => {
-            let value = literal(alloc, value)?;
-            made.push(Effect { variable, value })
+            match literal(alloc, value) {
+                Ok(value) => made.push(Effect { variable, value }),
+                Err(error) => Err(error),
+            }
         }
         _ => Ok(()),
     }
@@ -74,6 +82,22 @@ fn is_default(value: Value) -> bool
     }
 }
 
+// Puts the states that make these assignments, and behind them the one that takes the regions.
+fn put_framing(
+    alloc: Global,
+    settings: &[Effect],
+    regions: &mut Items<ExtendedRegion>,
+    made: &mut Items<ExtendedState>,
+) -> Result<(), AllocError>
+    ensures made { OnOk result
+        (made.new ≡ made.old ++ all_passing 0 settings.now ++ made_state (codes "whole__1") false regions.old [] ∷ []) }
+    ensures none { OnOk result (regions.new ≡ []) }
+{
+    put_all_passing(alloc, 0, settings, made)?;
+    let inside = mem::replace(regions, Items::new(alloc));
+    made.push(made_state(alloc, plain("whole__1"), false, inside, Items::new(alloc)))
+}
+
 // Puts these assignments before regions, where there are some.
 fn frame(
     alloc: Global,
@@ -86,11 +110,14 @@ fn frame(
         return Ok(());
     }
     let mut states = Items::new(alloc);
-    put_all_passing(alloc, 0, settings, &mut states)?;
-    let inside = mem::replace(regions, Items::new(alloc));
-    states.push(made_state(alloc, plain("whole__1"), false, inside, Items::new(alloc)))?;
-    regions.push(ExtendedRegion {
-        name: plain("whole__1"),
-        states,
-    })
+    match put_framing(alloc, settings, regions, &mut states) {
+        Ok(()) => regions.push(ExtendedRegion {
+            name: plain("whole__1"),
+            states,
+        }),
+        Err(error) => {
+            drop(states);
+            Err(error)
+        }
+    }
 }

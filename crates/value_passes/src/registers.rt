@@ -1,13 +1,14 @@
 //! What variables were at the end of the tick before.
 
-ghost use Rattle.std.specs.Prelude.{◌≡◌, [], ◌∷◌, ◌++◌, IfOk, OnOk, slice_get};
+ghost use Rattle.std.specs.Prelude.{◌≡◌, [], ◌∷◌, ◌++◌, ◌+◌, IfOk, OnOk, length, slice_get};
 ghost use Rattle.value_passes.specs.Registers.{kind_of, initial_of, before_variables, registers, storing, handing};
 ghost use Rattle.value_passes.specs.Registers.{ring, register_states, register_region, with_registers};
 
+use crate::copies::put_passing;
 use chart_elements::next;
 use core_charts::Effect;
 use extended_charts::{
-    Declared, ExtendedChart, ExtendedRegion, ExtendedState, copy, count, has_some, local, passing,
+    Declared, ExtendedChart, ExtendedRegion, ExtendedState, copy, count, has_some, local,
     put_all_passing, sum, variable,
 };
 use sc_graph::VariableId;
@@ -22,8 +23,13 @@ pub fn with_registers(alloc: Global, chart: ExtendedChart) -> Result<ExtendedCha
     ensures { IfOk result (λ made. made ≡ with_registers chart) }
 {
     let mut chart = chart;
-    put_registers(alloc, &mut chart)?;
-    Ok(chart)
+    match put_registers(alloc, &mut chart) {
+        Ok(()) => Ok(chart),
+        Err(error) => {
+            drop(chart);
+            Err(error)
+        }
+    }
 }
 
 // The chart is behind a reference, so that no `?` has to drop its parts.
@@ -160,14 +166,28 @@ fn put_register_states(
 ) -> Result<(), AllocError>
     ensures { OnOk result (made.new ≡ made.old ++ register_states variables befores.now) }
 {
-    let count = count(befores)?;
-    let first = variable(variables)? as usize;
-    let registers = first + befores.len();
+    let first = variable(variables)?;
     let mut stored = Items::new(alloc);
-    put_storing(registers, befores, &mut stored)?;
+    put_storing(first as usize + befores.len(), befores, &mut stored)?;
+    put_handing_ring(alloc, first, befores, stored.as_slice(), made)
+}
+
+// Puts the states that store, and hand over to the variables from this one on.
+fn put_handing_ring(
+    alloc: Global,
+    first: VariableId,
+    befores: &[VariableId],
+    stored: &[Effect],
+    made: &mut Items<ExtendedState>,
+) -> Result<(), AllocError>
+    ensures { OnOk result (made.new ≡ made.old
+        ++ ring (length befores.now) stored.now (handing first (first + length befores.now) befores.now)) }
+{
+    let count = count(befores)?;
+    let before = first as usize;
     let mut handed = Items::new(alloc);
-    put_handing(first, registers, befores, &mut handed)?;
-    put_ring(alloc, count, stored.as_slice(), handed.as_slice(), made)
+    put_handing(before, before + befores.len(), befores, &mut handed)?;
+    put_ring(alloc, count, stored, handed.as_slice(), made)
 }
 
 fn put_ring(
@@ -182,7 +202,7 @@ fn put_ring(
     let behind = next(count)?;
     let last = sum(behind, count)?;
     put_all_passing(alloc, 0, stored, made)?;
-    made.push(passing(alloc, false, count, Items::new(alloc), behind)?)?;
+    put_passing(alloc, false, count, behind, made)?;
     put_all_passing(alloc, behind, handed, made)?;
-    made.push(passing(alloc, true, last, Items::new(alloc), 0)?)
+    put_passing(alloc, true, last, 0, made)
 }
