@@ -5,6 +5,7 @@ ghost use Rattle.entry_passes.specs.Exits.{integer, set, is_at, departure, depar
 ghost use Rattle.entry_passes.specs.Exits.{led_out, left_by, left_transitions, left_behind};
 ghost use Rattle.entry_passes.specs.Inside.{led_to};
 
+use crate::copies::put_copied_effects;
 use crate::leaving::Leaving;
 use chart_elements::next;
 use core_charts::{Effect, Transition, TransitionKind, copied_effects, copied_trigger};
@@ -15,14 +16,18 @@ use sc_values::{BinaryOperator, Expr, Value};
 use sqlite_items::{Boxed, Items};
 use std::alloc::{AllocError, Global};
 
-/// The variable becomes this number. Err: no int has it.
-pub(crate) fn set(variable: VariableId, number: u32) -> Result<Effect, AllocError>
-    ensures { IfOk result (λ made. made ≡ set variable number) }
+/// Puts that the variable becomes this number. Err: no int has it, or memory was refused.
+pub(crate) fn put_set(
+    variable: VariableId,
+    number: u32,
+    made: &mut Items<Effect>,
+) -> Result<(), AllocError>
+    ensures { OnOk result (made.new ≡ made.old ++ set variable number ∷ []) }
 {
-    Ok(Effect {
-        variable,
-        value: integer(number)?,
-    })
+    match integer(number) {
+        Ok(value) => made.push(Effect { variable, value }),
+        Err(error) => Err(error),
+    }
 }
 
 fn integer(number: u32) -> Result<Expr, AllocError>
@@ -34,13 +39,24 @@ fn integer(number: u32) -> Result<Expr, AllocError>
     }
 }
 
+fn boxed_integer(alloc: Global, number: u32) -> Result<Boxed<Expr>, AllocError>
+    ensures { IfOk result (λ made. made ≡ integer number) }
+{
+    Boxed::new(alloc, integer(number)?)
+}
+
 /// Whether the variable is this number. Err: memory was refused, or no int has it.
 pub(crate) fn is_at(alloc: Global, variable: VariableId, number: u32) -> Result<Expr, AllocError>
     ensures { IfOk result (λ made. made ≡ is_at variable number) }
 {
     let noted = Boxed::new(alloc, Expr::Load(variable))?;
-    let number = Boxed::new(alloc, integer(number)?)?;
-    Ok(Expr::Binary(BinaryOperator::Equal, noted, number))
+    match boxed_integer(alloc, number) {
+        Ok(number) => Ok(Expr::Binary(BinaryOperator::Equal, noted, number)),
+        Err(error) => {
+            drop(noted);
+            Err(error)
+        }
+    }
 }
 
 // First these effects, then those.
@@ -48,8 +64,13 @@ fn joined(alloc: Global, first: &[Effect], then: &[Effect]) -> Result<Items<Effe
     ensures { IfOk result (λ made. made ≡ first.now ++ then.now) }
 {
     let mut made = copied_effects(alloc, first)?;
-    made.append(copied_effects(alloc, then)?)?;
-    Ok(made)
+    match put_copied_effects(alloc, then, &mut made) {
+        Ok(()) => Ok(made),
+        Err(error) => {
+            drop(made);
+            Err(error)
+        }
+    }
 }
 
 // These exit actions, behind which the variable notes nothing more.
@@ -61,28 +82,39 @@ fn departing(
     ensures { IfOk result (λ made. made ≡ exit.now ++ set variable 0 ∷ []) }
 {
     let mut effects = copied_effects(alloc, exit)?;
-    effects.push(set(variable, 0)?)?;
-    Ok(effects)
+    match put_set(variable, 0, &mut effects) {
+        Ok(()) => Ok(effects),
+        Err(error) => {
+            drop(effects);
+            Err(error)
+        }
+    }
 }
 
-fn departure(
+fn put_departure(
     alloc: Global,
     variable: VariableId,
     number: u32,
     target: u32,
     exit: &[Effect],
-) -> Result<Transition, AllocError>
-    ensures { IfOk result (λ made. made ≡ departure variable number target exit.now) }
+    made: &mut Items<Transition>,
+) -> Result<(), AllocError>
+    ensures { OnOk result (made.new ≡ made.old ++ departure variable number target exit.now ∷ []) }
 {
     let trigger = is_at(alloc, variable, number)?;
-    let effects = departing(alloc, variable, exit)?;
-    Ok(Transition {
-        kind: TransitionKind::Go,
-        immediate: true,
-        trigger: Some(trigger),
-        effects,
-        target,
-    })
+    match departing(alloc, variable, exit) {
+        Ok(effects) => made.push(Transition {
+            kind: TransitionKind::Go,
+            immediate: true,
+            trigger: Some(trigger),
+            effects,
+            target,
+        }),
+        Err(error) => {
+            drop(trigger);
+            Err(error)
+        }
+    }
 }
 
 fn put_departures(
@@ -96,7 +128,7 @@ fn put_departures(
 {
     let mut number = 1;
     for exit in exits {
-        made.push(departure(alloc, variable, number, target, exit.as_slice())?)?;
+        put_departure(alloc, variable, number, target, exit.as_slice(), made)?;
         number = next(number)?;
     }
     made.push(always(true, Items::new(alloc), target))
@@ -121,14 +153,14 @@ fn put_leaving(
         (made.new ≡ made.old ++ behind place (departures leaving.now.variable 1 onward leaving.now.exits) ∷ []) }
 {
     let mut transitions = Items::new(alloc);
-    put_departures(
-        alloc,
-        leaving.variable,
-        onward,
-        leaving.exits.as_slice(),
-        &mut transitions,
-    )?;
-    made.push(behind(alloc, place, transitions))
+    let exits = leaving.exits.as_slice();
+    match put_departures(alloc, leaving.variable, onward, exits, &mut transitions) {
+        Ok(()) => made.push(behind(alloc, place, transitions)),
+        Err(error) => {
+            drop(transitions);
+            Err(error)
+        }
+    }
 }
 
 // Puts the state of this place that makes these effects and those of the transition, and goes to its target.
@@ -143,8 +175,10 @@ fn put_last(
         (made.new ≡ made.old ++ way_out place [] (own.now ++ transition.now.effects) transition.now.target) }
 {
     let effects = joined(alloc, own, transition.effects.as_slice())?;
-    let transitions = alone(alloc, always(true, effects, transition.target))?;
-    made.push(behind(alloc, place, transitions))
+    match alone(alloc, always(true, effects, transition.target)) {
+        Ok(transitions) => made.push(behind(alloc, place, transitions)),
+        Err(error) => Err(error),
+    }
 }
 
 // Puts the states from this place on that make what is left, then these effects and those of the transition, and go to
@@ -199,17 +233,25 @@ fn put_ways_out(
     Ok(())
 }
 
-// The transition that leads to the first of the states behind, which make what it makes.
-fn led_to(alloc: Global, place: u32, transition: &Transition) -> Result<Transition, AllocError>
-    ensures { IfOk result (λ made. made ≡ led_to place transition.now) }
+// Puts the transition that leads to the first of the states behind, which make what it makes.
+fn put_led_to(
+    alloc: Global,
+    place: u32,
+    transition: &Transition,
+    made: &mut Items<Transition>,
+) -> Result<(), AllocError>
+    ensures { OnOk result (made.new ≡ made.old ++ led_to place transition.now ∷ []) }
 {
-    Ok(Transition {
-        kind: transition.kind,
-        immediate: transition.immediate,
-        trigger: copied_trigger(alloc, &transition.trigger)?,
-        effects: Items::new(alloc),
-        target: place,
-    })
+    match copied_trigger(alloc, &transition.trigger) {
+        Ok(trigger) => made.push(Transition {
+            kind: transition.kind,
+            immediate: transition.immediate,
+            trigger,
+            effects: Items::new(alloc),
+            target: place,
+        }),
+        Err(error) => Err(error),
+    }
 }
 
 fn put_led_out(
@@ -224,27 +266,37 @@ fn put_led_out(
     let states = length_of(leavings)?;
     let mut place = first;
     for transition in transitions {
-        made.push(led_to(alloc, place, transition)?)?;
+        put_led_to(alloc, place, transition, made)?;
         place = sum(place, states)?;
     }
     Ok(())
 }
 
-fn left_by(alloc: Global, own: &[Effect], transition: &Transition) -> Result<Transition, AllocError>
-    ensures { IfOk result (λ made. made ≡ left_by own.now transition.now) }
+fn put_left_by(
+    alloc: Global,
+    own: &[Effect],
+    transition: &Transition,
+    made: &mut Items<Transition>,
+) -> Result<(), AllocError>
+    ensures { OnOk result (made.new ≡ made.old ++ left_by own.now transition.now ∷ []) }
 {
     let trigger = copied_trigger(alloc, &transition.trigger)?;
-    let effects = joined(alloc, own, transition.effects.as_slice())?;
-    Ok(Transition {
-        kind: transition.kind,
-        immediate: transition.immediate,
-        trigger,
-        effects,
-        target: transition.target,
-    })
+    match joined(alloc, own, transition.effects.as_slice()) {
+        Ok(effects) => made.push(Transition {
+            kind: transition.kind,
+            immediate: transition.immediate,
+            trigger,
+            effects,
+            target: transition.target,
+        }),
+        Err(error) => {
+            drop(trigger);
+            Err(error)
+        }
+    }
 }
 
-fn put_left_by(
+fn put_all_left_by(
     alloc: Global,
     own: &[Effect],
     transitions: &[Transition],
@@ -253,7 +305,7 @@ fn put_left_by(
     ensures { OnOk result (made.new ≡ made.old ++ map (left_by own.now) transitions.now) }
 {
     for transition in transitions {
-        made.push(left_by(alloc, own, transition)?)?;
+        put_left_by(alloc, own, transition, made)?;
     }
     Ok(())
 }
@@ -273,7 +325,7 @@ pub(crate) fn put_left_transitions(
     if has_some(leavings) {
         put_led_out(alloc, place, leavings, transitions, made)
     } else {
-        put_left_by(alloc, own, transitions, made)
+        put_all_left_by(alloc, own, transitions, made)
     }
 }
 

@@ -3,6 +3,7 @@
 ghost use Rattle.std.specs.Prelude.{◌≡◌, ◌+◌, [], ◌∷◌, ◌++◌, IfOk, OnOk, map, slice_get, unwrap_or};
 ghost use Rattle.entry_passes.specs.Entry.{width, entrances, nowhere, led, standing, entering, laid, all_laid};
 ghost use Rattle.entry_passes.specs.Entry.{entered, without_entry};
+ghost use Rattle.extended_charts.specs.declared.extended.ExtendedRegion.TheViews.{out-ExtendedState};
 
 use core_charts::{Effect, Region, State, Transition, copied_effects};
 use extended_charts::{ExtendedRegion, ExtendedState, alone, always, has_some, sum};
@@ -15,8 +16,13 @@ pub fn without_entry(alloc: Global, regions: &[ExtendedRegion]) -> Result<Items<
     ensures { IfOk result (λ made. made ≡ map without_entry regions.now) }
 {
     let mut made = Items::new(alloc);
-    put_regions(alloc, regions, &mut made)?;
-    Ok(made)
+    match put_regions(alloc, regions, &mut made) {
+        Ok(()) => Ok(made),
+        Err(error) => {
+            drop(made);
+            Err(error)
+        }
+    }
 }
 
 // Puts what is made of regions behind others.
@@ -42,14 +48,18 @@ fn put_region(
 ) -> Result<(), AllocError>
     ensures { OnOk result (made.new ≡ made.old ++ without_entry region.now ∷ []) }
 {
-    let mut at = Items::new(alloc);
-    put_entrances(region.states.as_slice(), &mut at)?;
+    let at = entrances(alloc, region.states.as_slice())?;
     let mut states = Items::new(alloc);
-    put_states(alloc, at.as_slice(), region.states.as_slice(), &mut states)?;
-    made.push(Region {
-        name: region.name,
-        states,
-    })
+    match put_states(alloc, at.as_slice(), region.states.as_slice(), &mut states) {
+        Ok(()) => made.push(Region {
+            name: region.name,
+            states,
+        }),
+        Err(error) => {
+            drop(states);
+            Err(error)
+        }
+    }
 }
 
 // Puts what stands for the states of a region behind others.
@@ -101,16 +111,39 @@ fn put_standing(
     ensures { OnOk result (made.new ≡ made.old ++ standing at.now (entered state.now) ∷ []) }
 {
     let mut regions = Items::new(alloc);
-    put_regions(alloc, state.regions.as_slice(), &mut regions)?;
     let mut transitions = Items::new(alloc);
-    put_led(alloc, at, state.transitions.as_slice(), &mut transitions)?;
-    made.push(State {
-        name: state.name,
-        is_initial: state.is_initial && !has_some(state.entry.as_slice()),
-        is_final: state.is_final,
-        regions,
-        transitions,
-    })
+    match put_inside(alloc, at, state, &mut regions, &mut transitions) {
+        Ok(()) => made.push(State {
+            name: state.name,
+            is_initial: state.is_initial && !has_some(state.entry.as_slice()),
+            is_final: state.is_final,
+            regions,
+            transitions,
+        }),
+        Err(error) => {
+            drop(regions);
+            drop(transitions);
+            Err(error)
+        }
+    }
+}
+
+// Puts what is in it: its regions and its transitions.
+#[cycle(entered)]
+fn put_inside(
+    alloc: Global,
+    at: &[u32],
+    state: &ExtendedState,
+    regions: &mut Items<Region>,
+    transitions: &mut Items<Transition>,
+) -> Result<(), AllocError>
+    ensures regions { OnOk result
+        (regions.new ≡ regions.old ++ map without_entry (out-ExtendedState state.now).regions) }
+    ensures transitions { OnOk result
+        (transitions.new ≡ transitions.old ++ map (led at.now) (out-ExtendedState state.now).transitions) }
+{
+    put_regions(alloc, state.regions.as_slice(), regions)?;
+    put_all_led(alloc, at, state.transitions.as_slice(), transitions)
 }
 
 // Puts the step state of this number and place, where there are entry actions.
@@ -128,14 +161,17 @@ fn put_entering(
         return Ok(());
     }
     let behind = sum(place, 1)?;
-    let transitions = alone(alloc, always(true, copied_effects(alloc, entry)?, behind))?;
-    made.push(State {
-        name: numbered("enter__", number as u64),
-        is_initial,
-        is_final: false,
-        regions: Items::new(alloc),
-        transitions,
-    })
+    let effects = copied_effects(alloc, entry)?;
+    match alone(alloc, always(true, effects, behind)) {
+        Ok(transitions) => made.push(State {
+            name: numbered("enter__", number as u64),
+            is_initial,
+            is_final: false,
+            regions: Items::new(alloc),
+            transitions,
+        }),
+        Err(error) => Err(error),
+    }
 }
 
 #[tactic(auto, using(crate::proofs::Folded::state_entered))]
@@ -146,6 +182,19 @@ fn width(state: &ExtendedState) -> u32
         2
     } else {
         1
+    }
+}
+
+fn entrances(alloc: Global, states: &[ExtendedState]) -> Result<Items<u32>, AllocError>
+    ensures { IfOk result (λ at. at ≡ entrances (map entered states.now) 0) }
+{
+    let mut made = Items::new(alloc);
+    match put_entrances(states, &mut made) {
+        Ok(()) => Ok(made),
+        Err(error) => {
+            drop(made);
+            Err(error)
+        }
     }
 }
 
@@ -171,7 +220,7 @@ fn entrance(at: &[u32], target: u32) -> u32
 }
 
 // Puts transitions as they stand, to where their targets are entered.
-fn put_led(
+fn put_all_led(
     alloc: Global,
     at: &[u32],
     transitions: &[Transition],
@@ -180,9 +229,24 @@ fn put_led(
     ensures { OnOk result (made.new ≡ made.old ++ map (led at.now) transitions.now) }
 {
     for transition in transitions {
-        let mut copy = transition.copied(alloc)?;
-        copy.target = entrance(at, transition.target);
-        made.push(copy)?;
+        put_led(alloc, at, transition, made)?;
     }
     Ok(())
+}
+
+fn put_led(
+    alloc: Global,
+    at: &[u32],
+    transition: &Transition,
+    made: &mut Items<Transition>,
+) -> Result<(), AllocError>
+    ensures { OnOk result (made.new ≡ made.old ++ led at.now transition.now ∷ []) }
+{
+    match transition.copied(alloc) {
+        Ok(mut copy) => {
+            copy.target = entrance(at, transition.target);
+            made.push(copy)
+        }
+        Err(error) => Err(error),
+    }
 }

@@ -5,11 +5,11 @@ ghost use Rattle.entry_passes.specs.Exits.{noted, parting, own_note, left_region
 ghost use Rattle.entry_passes.specs.Exits.{all_states, all_behind, with_behind, all_inside, outer_regions, with_exits};
 ghost use Rattle.entry_passes.specs.Inside.{note_of, own_leavings, own_transitions, fill_left};
 
-use crate::departures::{put_left_behind, put_left_transitions, set};
+use crate::copies::put_copied_effects;
+use crate::departures::{put_left_behind, put_left_transitions, put_set};
 use crate::leaving::{
     Leaving, has_exit, have_exits, inside, notes, put_state_leavings, state_inside,
 };
-use crate::refusals::refused;
 use core_charts::{Effect, Transition, copied_effects};
 use extended_charts::{
     ExtendedChart, ExtendedRegion, ExtendedState, bare, count, has_some, one, put_integers, sum,
@@ -28,8 +28,13 @@ pub fn with_exits(alloc: Global, chart: ExtendedChart) -> Result<ExtendedChart, 
     ensures { IfOk result (λ made. made ≡ with_exits chart) }
 {
     let mut chart = chart;
-    put_exits(alloc, &mut chart)?;
-    Ok(chart)
+    match put_exits(alloc, &mut chart) {
+        Ok(()) => Ok(chart),
+        Err(error) => {
+            drop(chart);
+            Err(error)
+        }
+    }
 }
 
 // The chart is behind a reference, so that no `?` has to drop its parts.
@@ -54,7 +59,7 @@ fn put_noted(
     ensures { OnOk result (made.new ≡ made.old ++ noted own number exit.now) }
 {
     match own {
-        Some(x) if has_some(exit) => made.push(set(x, number)?),
+        Some(x) if has_some(exit) => put_set(x, number, made),
         _ => Ok(()),
     }
 }
@@ -68,8 +73,13 @@ fn parting(
     ensures { IfOk result (λ made. made ≡ parting own exit.now) }
 {
     let mut made = copied_effects(alloc, exit)?;
-    put_noted(own, 0, exit, &mut made)?;
-    Ok(made)
+    match put_noted(own, 0, exit, &mut made) {
+        Ok(()) => Ok(made),
+        Err(error) => {
+            drop(made);
+            Err(error)
+        }
+    }
 }
 
 fn own_note(x: u32, notes: bool) -> Result<Option<VariableId>, AllocError>
@@ -111,10 +121,16 @@ fn leavings_of(alloc: Global, x: u32, state: &ExtendedState) -> Result<Items<Lea
     ensures { IfOk result (λ made. made ≡ own_leavings x state.now) }
 {
     let mut made = Items::new(alloc);
-    if state.is_own {
-        put_state_leavings(alloc, x, state, &mut made)?;
+    if !state.is_own {
+        return Ok(made);
     }
-    Ok(made)
+    match put_state_leavings(alloc, x, state, &mut made) {
+        Ok(()) => Ok(made),
+        Err(error) => {
+            drop(made);
+            Err(error)
+        }
+    }
 }
 
 // How many regions note where they are.
@@ -175,11 +191,16 @@ fn put_region(
     ensures { OnOk result (made.new ≡ made.old ++ (left_region region.now).made own x ∷ []) }
 {
     let mut states = Items::new(alloc);
-    put_with_behind(alloc, own, x, region.states.as_slice(), &mut states)?;
-    made.push(ExtendedRegion {
-        name: region.name,
-        states,
-    })
+    match put_with_behind(alloc, own, x, region.states.as_slice(), &mut states) {
+        Ok(()) => made.push(ExtendedRegion {
+            name: region.name,
+            states,
+        }),
+        Err(error) => {
+            drop(states);
+            Err(error)
+        }
+    }
 }
 
 // Puts the states of a region, and what stands behind them.
@@ -194,8 +215,13 @@ fn put_with_behind(
     ensures { OnOk result (made.new ≡ made.old ++ with_behind own first (map left_state states.now)) }
 {
     let mut behind = Items::new(alloc);
-    put_states(alloc, own, first, states, made, &mut behind)?;
-    made.append(behind)
+    match put_states(alloc, own, first, states, made, &mut behind) {
+        Ok(()) => made.append(behind),
+        Err(error) => {
+            drop(behind);
+            Err(error)
+        }
+    }
 }
 
 // Puts the states of a region, and elsewhere what stands behind them.
@@ -241,7 +267,10 @@ fn put_state(
     let mut left = bare(alloc, state);
     match fill_left(alloc, own, number, x, place, state, &mut left) {
         Ok(()) => made.push(left),
-        Err(error) => refused(left, error),
+        Err(error) => {
+            drop(left);
+            Err(error)
+        }
     }
 }
 
@@ -259,8 +288,7 @@ fn fill_left(
     ensures { OnOk result (left.new ≡ fill_left own number x place state.now left.old) }
 {
     put_noted(own, number, state.exit.as_slice(), &mut left.entry)?;
-    left.entry
-        .append(copied_effects(alloc, state.entry.as_slice())?)?;
+    put_copied_effects(alloc, state.entry.as_slice(), &mut left.entry)?;
     put_regions(alloc, x, state.regions.as_slice(), &mut left.regions)?;
     put_transitions(alloc, own, x, place, state, &mut left.transitions)
 }
@@ -277,15 +305,20 @@ fn put_transitions(
     ensures { OnOk result (made.new ≡ made.old ++ own_transitions own x place state.now) }
 {
     let leavings = leavings_of(alloc, x, state)?;
-    let parting = parting(alloc, own, state.exit.as_slice())?;
-    put_left_transitions(
-        alloc,
-        place,
-        leavings.as_slice(),
-        parting.as_slice(),
-        state.transitions.as_slice(),
-        made,
-    )
+    match parting(alloc, own, state.exit.as_slice()) {
+        Ok(parting) => put_left_transitions(
+            alloc,
+            place,
+            leavings.as_slice(),
+            parting.as_slice(),
+            state.transitions.as_slice(),
+            made,
+        ),
+        Err(error) => {
+            drop(leavings);
+            Err(error)
+        }
+    }
 }
 
 // Puts what stands behind a state, from this place on.
@@ -301,15 +334,20 @@ fn put_own_behind(
     ensures { OnOk result (made.new ≡ made.old ++ (left_state state.now).behind own x place) }
 {
     let leavings = leavings_of(alloc, x, state)?;
-    let parting = parting(alloc, own, state.exit.as_slice())?;
-    put_left_behind(
-        alloc,
-        place,
-        leavings.as_slice(),
-        parting.as_slice(),
-        state.transitions.as_slice(),
-        made,
-    )
+    match parting(alloc, own, state.exit.as_slice()) {
+        Ok(parting) => put_left_behind(
+            alloc,
+            place,
+            leavings.as_slice(),
+            parting.as_slice(),
+            state.transitions.as_slice(),
+            made,
+        ),
+        Err(error) => {
+            drop(leavings);
+            Err(error)
+        }
+    }
 }
 
 // Puts it, and tells the place behind it.

@@ -5,22 +5,23 @@ ghost use Rattle.entry_passes.specs.Histories.{asks, entering, noted, led, own_p
 ghost use Rattle.entry_passes.specs.Histories.{all_regions, all_states, recalling};
 ghost use Rattle.entry_passes.specs.Histories.{made_region, past_region, past_state, with_histories};
 ghost use Rattle.entry_passes.specs.Inside.{fill_past};
+ghost use Rattle.extended_charts.specs.Making.{region};
 
-use crate::departures::set;
+use crate::copies::put_copied_effects;
+use crate::departures::put_set;
 use crate::recalls::{
     Kept, asking_count, is_by_history, is_recalled, put_kept_in, put_variables, recalled_among,
     region_count, state_count,
 };
-use crate::refusals::refused;
 use crate::resuming::put_resuming;
 use chart_elements::next;
-use core_charts::{Effect, Transition, copied_effects};
+use core_charts::{Effect, Transition};
 use extended_charts::{
     ExtendedChart, ExtendedRegion, ExtendedState, bare, copy, count, has_some, put_copied_durings,
     reset, sum, variable,
 };
 use sc_graph::VariableId;
-use sc_values::{Expr, Value};
+use sc_values::{Expr, Name, Value};
 use sqlite_items::Items;
 use std::alloc::{AllocError, Global};
 
@@ -49,8 +50,13 @@ pub fn with_histories(alloc: Global, chart: ExtendedChart) -> Result<ExtendedCha
     ensures { IfOk result (λ made. made ≡ with_histories chart) }
 {
     let mut chart = chart;
-    put_histories(alloc, &mut chart)?;
-    Ok(chart)
+    match put_histories(alloc, &mut chart) {
+        Ok(()) => Ok(chart),
+        Err(error) => {
+            drop(chart);
+            Err(error)
+        }
+    }
 }
 
 // The chart is behind a reference, so that no `?` has to drop its parts.
@@ -113,23 +119,34 @@ fn put_noted(own: Option<Past>, place: u32, made: &mut Items<Effect>) -> Result<
     ensures { OnOk result (made.new ≡ made.old ++ noted own place) }
 {
     match own {
-        Some(past) => made.push(set(past.last, next(place)?)?),
+        Some(past) => put_set(past.last, next(place)?, made),
         None => Ok(()),
     }
 }
 
-fn led(alloc: Global, at: Standing, transition: &Transition) -> Result<Transition, AllocError>
-    ensures { IfOk result (λ made. made ≡ led at transition.now) }
+fn put_led(
+    alloc: Global,
+    at: Standing,
+    transition: &Transition,
+    made: &mut Items<Transition>,
+) -> Result<(), AllocError>
+    ensures { OnOk result (made.new ≡ made.old ++ led at transition.now ∷ []) }
 {
-    let mut made = transition.copied(alloc)?;
-    if is_by_history(at.count, transition) {
-        made.effects.push(asks(at.asked))?;
-        made.target = transition.target - at.count;
+    let mut copy = transition.copied(alloc)?;
+    if !is_by_history(at.count, transition) {
+        return made.push(copy);
     }
-    Ok(made)
+    copy.target = transition.target - at.count;
+    match copy.effects.push(asks(at.asked)) {
+        Ok(()) => made.push(copy),
+        Err(error) => {
+            drop(copy);
+            Err(error)
+        }
+    }
 }
 
-fn put_led(
+fn put_all_led(
     alloc: Global,
     at: Standing,
     transitions: &[Transition],
@@ -138,7 +155,7 @@ fn put_led(
     ensures { OnOk result (made.new ≡ made.old ++ map (led at) transitions.now) }
 {
     for transition in transitions {
-        made.push(led(alloc, at, transition)?)?;
+        put_led(alloc, at, transition, made)?;
     }
     Ok(())
 }
@@ -218,12 +235,42 @@ fn put_region(
 {
     let states = region.states.as_slice();
     let recalled = recalled_among(alloc, count(states)?, states)?;
+    put_made_region(
+        alloc,
+        own,
+        recalled.as_slice(),
+        x,
+        region.name,
+        states,
+        made,
+    )
+}
+
+// Puts a region in which transitions go to these places by history.
+#[cycle(past)]
+fn put_made_region(
+    alloc: Global,
+    own: Option<Past>,
+    recalled: &[u32],
+    x: u32,
+    name: Name,
+    states: &[ExtendedState],
+    made: &mut Items<ExtendedRegion>,
+) -> Result<(), AllocError>
+    ensures { OnOk result (made.new ≡ made.old
+        ++ region name (made_region own recalled.now x (map past_state states.now)) ∷ []) }
+{
     let mut inside = Items::new(alloc);
-    put_made(alloc, own, recalled.as_slice(), x, states, &mut inside)?;
-    made.push(ExtendedRegion {
-        name: region.name,
-        states: inside,
-    })
+    match put_made(alloc, own, recalled, x, states, &mut inside) {
+        Ok(()) => made.push(ExtendedRegion {
+            name,
+            states: inside,
+        }),
+        Err(error) => {
+            drop(inside);
+            Err(error)
+        }
+    }
 }
 
 // Puts the states of a region in which transitions go to these places by history.
@@ -287,7 +334,10 @@ fn put_state(
     past.is_initial = begins(at.own, state.is_initial);
     match fill_past(alloc, at, is_recalled, place, x, state, &mut past) {
         Ok(()) => made.push(past),
-        Err(error) => refused(past, error),
+        Err(error) => {
+            drop(past);
+            Err(error)
+        }
     }
 }
 
@@ -307,10 +357,8 @@ fn fill_past(
     let history = history_of(at.asked, is_recalled)?;
     put_noted(at.own, place, &mut past.entry)?;
     put_entering(at.asked, is_recalled, &mut past.entry)?;
-    past.entry
-        .append(copied_effects(alloc, state.entry.as_slice())?)?;
-    past.exit
-        .append(copied_effects(alloc, state.exit.as_slice())?)?;
+    put_copied_effects(alloc, state.entry.as_slice(), &mut past.entry)?;
+    put_copied_effects(alloc, state.exit.as_slice(), &mut past.exit)?;
     put_copied_durings(alloc, state.during.as_slice(), &mut past.during)?;
     put_regions(
         alloc,
@@ -319,7 +367,7 @@ fn fill_past(
         state.regions.as_slice(),
         &mut past.regions,
     )?;
-    put_led(
+    put_all_led(
         alloc,
         at,
         state.transitions.as_slice(),

@@ -1,6 +1,6 @@
 //! Which regions note in which of their states they are, and what is left of them as a superstate around them is left.
 
-ghost use Rattle.std.specs.Prelude.{◌≡◌, ◌++◌, IfOk, OnOk, map};
+ghost use Rattle.std.specs.Prelude.{◌≡◌, [], ◌∷◌, ◌++◌, IfOk, OnOk, map};
 ghost use Rattle.extended_charts.specs.Making.{has_some};
 ghost use Rattle.entry_passes.specs.Exits.{left_region, left_state, exits_of, notes, notes_in};
 ghost use Rattle.entry_passes.specs.Exits.{leavings_in, leavings_among, own_leaving};
@@ -50,10 +50,23 @@ fn put_exits(
 {
     for state in states {
         if has_exit(state) {
-            made.push(copied_effects(alloc, state.exit.as_slice())?)?;
+            put_exit(alloc, state.exit.as_slice(), made)?;
         }
     }
     Ok(())
+}
+
+fn put_exit(
+    alloc: Global,
+    exit: &[Effect],
+    made: &mut Items<Items<Effect>>,
+) -> Result<(), AllocError>
+    ensures { OnOk result (made.new ≡ made.old ++ exit.now ∷ []) }
+{
+    match copied_effects(alloc, exit) {
+        Ok(copies) => made.push(copies),
+        Err(error) => Err(error),
+    }
 }
 
 // How many of these regions, and of those in them, note where they are.
@@ -177,6 +190,11 @@ fn put_own_leaving(
     }
     let variable = variable(x as usize)?;
     let mut exits = Items::new(alloc);
-    put_exits(alloc, states, &mut exits)?;
-    made.push(Leaving { variable, exits })
+    match put_exits(alloc, states, &mut exits) {
+        Ok(()) => made.push(Leaving { variable, exits }),
+        Err(error) => {
+            drop(exits);
+            Err(error)
+        }
+    }
 }

@@ -2,13 +2,13 @@
 //! actions.
 #![tactic(auto)]
 
+mod copies;
 mod departures;
 mod entry;
 mod exits;
 mod histories;
 mod leaving;
 mod recalls;
-mod refusals;
 mod resuming;
 
 pub use entry::without_entry;

@@ -70,8 +70,13 @@ pub(crate) fn recalled_among(
     ensures { IfOk result (λ made. made ≡ recalled_among count (map past_state states.now)) }
 {
     let mut made = Items::new(alloc);
-    put_recalled_among(count, states, &mut made)?;
-    Ok(made)
+    match put_recalled_among(count, states, &mut made) {
+        Ok(()) => Ok(made),
+        Err(error) => {
+            drop(made);
+            Err(error)
+        }
+    }
 }
 
 /// Whether one goes to this place.
@@ -139,8 +144,13 @@ fn put_region_kept(
 {
     let states = region.states.as_slice();
     let recalled = recalled_among(alloc, count(states)?, states)?;
-    put_asking(recalled.as_slice(), made)?;
-    put_kept_among(alloc, recalled.as_slice(), states, made)
+    match put_asking(recalled.as_slice(), made) {
+        Ok(()) => put_kept_among(alloc, recalled.as_slice(), states, made),
+        Err(error) => {
+            drop(recalled);
+            Err(error)
+        }
+    }
 }
 
 #[cycle(keeping)]

@@ -1,6 +1,7 @@
 //! Where a region begins that goes on where it was: in a state that leads to each of the others.
 
-ghost use Rattle.std.specs.Prelude.{◌≡◌, Some, ◌++◌, IfOk, OnOk, map};
+ghost use Rattle.std.specs.Prelude.{◌≡◌, [], ◌∷◌, ◌++◌, IfOk, OnOk, Some, map, true};
+ghost use Rattle.extended_charts.specs.Making.{always};
 ghost use Rattle.entry_passes.specs.Histories.{was_at, resumption, initial_among, resumptions, resuming, past_state};
 ghost use Rattle.entry_passes.specs.Inside.{own_resumption};
 
@@ -18,22 +19,14 @@ use std::alloc::{AllocError, Global};
 fn was_at(alloc: Global, past: Past, place: u32) -> Result<Expr, AllocError>
     ensures { IfOk result (λ made. made ≡ was_at past place) }
 {
-    let history = Boxed::new(alloc, Expr::Load(past.history))?;
     let last = Boxed::new(alloc, is_at(alloc, past.last, next(place)?)?)?;
-    Ok(Expr::Binary(BinaryOperator::And, history, last))
-}
-
-fn resumption(alloc: Global, past: Past, place: u32) -> Result<Transition, AllocError>
-    ensures { IfOk result (λ made. made ≡ resumption past place) }
-{
-    let trigger = was_at(alloc, past, place)?;
-    Ok(Transition {
-        kind: TransitionKind::Go,
-        immediate: true,
-        trigger: Some(trigger),
-        effects: Items::new(alloc),
-        target: place,
-    })
+    match Boxed::new(alloc, Expr::Load(past.history)) {
+        Ok(history) => Ok(Expr::Binary(BinaryOperator::And, history, last)),
+        Err(error) => {
+            drop(last);
+            Err(error)
+        }
+    }
 }
 
 // Puts one to the state of this place, where it is not the initial one.
@@ -47,9 +40,17 @@ fn put_resumption(
     ensures { OnOk result (made.new ≡ made.old ++ own_resumption past place is_initial) }
 {
     if is_initial {
-        Ok(())
-    } else {
-        made.push(resumption(alloc, past, place)?)
+        return Ok(());
+    }
+    match was_at(alloc, past, place) {
+        Ok(trigger) => made.push(Transition {
+            kind: TransitionKind::Go,
+            immediate: true,
+            trigger: Some(trigger),
+            effects: Items::new(alloc),
+            target: place,
+        }),
+        Err(error) => Err(error),
     }
 }
 
@@ -96,9 +97,28 @@ fn put_resuming_state(
     let name = numbered("resume__", count(states)? as u64);
     let initial = initial_among(states)?;
     let mut ways = Items::new(alloc);
-    put_resumptions(alloc, past, states, &mut ways)?;
-    ways.push(always(true, Items::new(alloc), initial))?;
-    made.push(made_state(alloc, name, true, Items::new(alloc), ways))
+    match put_ways(alloc, past, initial, states, &mut ways) {
+        Ok(()) => made.push(made_state(alloc, name, true, Items::new(alloc), ways)),
+        Err(error) => {
+            drop(ways);
+            Err(error)
+        }
+    }
+}
+
+// Puts its ways on: behind those to where the region was, the one to the state of this place.
+fn put_ways(
+    alloc: Global,
+    past: Past,
+    initial: u32,
+    states: &[ExtendedState],
+    made: &mut Items<Transition>,
+) -> Result<(), AllocError>
+    ensures { OnOk result (made.new ≡ made.old
+        ++ (resumptions past 0 (map past_state states.now) ++ always true [] initial ∷ [])) }
+{
+    put_resumptions(alloc, past, states, made)?;
+    made.push(always(true, Items::new(alloc), initial))
 }
 
 /// Puts where the region begins, if not in its initial state. Err: memory was refused.

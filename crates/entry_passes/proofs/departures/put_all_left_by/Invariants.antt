@@ -1,6 +1,6 @@
 use Rattle.std.proofs.Common.{◌≡◌, ◌++◌, map, drop}
 use Rattle.entry_passes.specs.Exits.{left_by}
-use Rattle.entry_passes.proofs.departures.put_left_by.Given as goal
+use Rattle.entry_passes.proofs.departures.put_all_left_by.Given as goal
 
 abbrev pub invariant-loop-transition : goal.invariant-loop-transition
 invariant-loop-transition l =

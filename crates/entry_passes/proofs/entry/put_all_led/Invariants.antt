@@ -1,6 +1,6 @@
 use Rattle.std.proofs.Common.{◌≡◌, ◌++◌, map, drop}
 use Rattle.entry_passes.specs.Entry.{led}
-use Rattle.entry_passes.proofs.entry.put_led.Given as goal
+use Rattle.entry_passes.proofs.entry.put_all_led.Given as goal
 
 abbrev pub invariant-loop-transition : goal.invariant-loop-transition
 invariant-loop-transition l =
