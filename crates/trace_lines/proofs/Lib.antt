@@ -10,4 +10,4 @@ pub mod Shown
 pub mod Standing
 pub mod Turns
 pub mod AddedInputs
-pub mod Keeping
+pub mod KeptLines

@@ -10,7 +10,7 @@ use sqlite_items::Items;
 use std::alloc::{AllocError, Global};
 
 // So many lines are kept.
-const SLOTS: usize = 64;
+const SLOTS: usize = 256;
 
 // A line of more bytes is not kept.
 const LONGEST_KEPT: usize = 256;
@@ -68,19 +68,34 @@ fn word_at(line: &[u8], at: usize) -> u64
 }
 
 fn mixed_with(mixed: u64, word: u64) -> u64 {
-    (mixed.rotate_left(23) ^ word).wrapping_mul(MIXER)
+    (mixed.rotate_left(43) ^ word).wrapping_mul(MIXER)
 }
 
-// A number to tell lines apart by, made of all bytes of those that have eight.
+// The bytes of a line of fewer than eight.
+fn short_word(line: &[u8]) -> u64 {
+    let mut word = 0;
+    for byte in line {
+        word = word << 8 | *byte as u64;
+    }
+    word
+}
+
+// The last eight bytes of a line, or all where it has fewer.
+fn last_word(line: &[u8]) -> u64 {
+    if line.len() < 8 {
+        short_word(line)
+    } else {
+        word_at(line, line.len() - 8)
+    }
+}
+
+// A number whose highest bits tell lines apart: each byte has a bearing on them.
 fn mixed(line: &[u8]) -> u64 {
     let mut mixed = line.len() as u64;
     for word in 0..line.len() / 8 {
         mixed = mixed_with(mixed, word_at(line, word * 8));
     }
-    if line.len() >= 8 {
-        mixed = mixed_with(mixed, word_at(line, line.len() - 8));
-    }
-    mixed
+    mixed_with(mixed, last_word(line))
 }
 
 /// Where a line is kept, if it is.
@@ -90,7 +105,7 @@ pub(crate) fn slot_of(line: &[u8]) -> usize
     if line.len() > LONGEST_KEPT {
         return 0;
     }
-    (mixed(line) >> 32) as usize % SLOTS
+    (mixed(line) >> 56) as usize % SLOTS
 }
 
 fn is_same(bytes: &[u8], line: &[u8]) -> bool

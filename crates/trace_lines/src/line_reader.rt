@@ -14,7 +14,7 @@ use sqlite_items::Items;
 use std::alloc::{AllocError, Global};
 use std::marker::Model;
 
-/// Reads the lines of an input for an interface. It keeps up to 64 lines of up to 256 bytes with what they give to the
+/// Reads the lines of an input for an interface. It keeps up to 256 lines of up to 256 bytes with what they give to the
 /// inputs, so that a line which comes again is only compared. Contracts see the variables of the program.
 #[derive(Drop)]
 pub struct LineReader<'i, 'a> {

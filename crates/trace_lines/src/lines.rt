@@ -61,16 +61,20 @@ pub struct Lines {
     piece: Vec<u8>,
     from: usize,
     to: usize,
+    // where the first line feed stands among the bytes from `from` to `to`
+    feed: Option<usize>,
 }
 
 impl Model for Lines {
-    ghost use Rattle.std.specs.Prelude.{◌≤◌, ◌<◌, ℕ, List, length, slice_range};
+    ghost use Rattle.std.specs.Prelude.{◌≡◌, ◌≤◌, ◌<◌, ℕ, List, length, position, slice_range};
+    ghost use Rattle.trace_lines.specs.Lines.{is_feed};
 
     ghost Value = { List ℕ };
 
     ghost view = { λ l. slice_range l.piece.items l.from l.to };
 
-    ghost invariant = { λ l. (l.from ≤ l.to) × (l.to ≤ length l.piece.items) × (0 < length l.piece.items) };
+    ghost invariant = { λ l. (l.from ≤ l.to) × (l.to ≤ length l.piece.items) × (0 < length l.piece.items)
+        × (l.feed ≡ position is_feed (slice_range l.piece.items l.from l.to)) };
 }
 
 impl Lines {
@@ -82,6 +86,7 @@ impl Lines {
             piece: vec![in alloc; 0; PIECE]?,
             from: 0,
             to: 0,
+            feed: None,
         })
     }
 
@@ -93,10 +98,11 @@ impl Lines {
         ensures rest { OnOk result (self.new ≡ after_line self.old) }
     {
         let held = &self.piece[self.from..self.to];
-        match feed_in(held) {
+        match self.feed {
             Some(before) => {
                 line.extend_from_slice(&held[..before])?;
                 self.from += before + 1;
+                self.feed = feed_in(&self.piece[self.from..self.to]);
                 Ok(true)
             }
             None => {
@@ -119,9 +125,12 @@ impl Lines {
             → StaysOpen (R.progress source.old) (R.progress source.new)) }
         ensures not_behind { IsNotReadBehind (R.progress source.old) (R.progress source.new) }
     {
-        let read = source.read(&mut self.piece)?;
         self.from = 0;
+        self.to = 0;
+        self.feed = None;
+        let read = source.read(&mut self.piece)?;
         self.to = read;
+        self.feed = feed_in(&self.piece[self.from..self.to]);
         Ok(read > 0)
     }
 
@@ -129,7 +138,7 @@ impl Lines {
     pub fn has_line(&self) -> bool
         ensures { result ≡ has_feed self.now }
     {
-        feed_in(&self.piece[self.from..self.to]).is_some()
+        self.feed.is_some()
     }
 
     /// Makes `line` the next line, without its line feed, and says how it ends; None at the end of the

@@ -1,6 +1,7 @@
 //! The output line of a tick.
 
 ghost use Rattle.std.specs.Prelude.{◌≡◌, ◌++◌, OnOk};
+ghost use Rattle.std.specs.Fmt.{decimal};
 ghost use Rattle.serde_json.specs.Written.{compact_text};
 ghost use Rattle.trace_lines.specs.Output.{data_of};
 ghost use Rattle.trace_lines.specs.Inside.Rows.{data_at, rows_text, line_by};
@@ -16,6 +17,18 @@ fn write_integer<I: Integer>(line: &mut Vec<u8>, integer: I) -> Result<(), Alloc
 {
     let mut buffer = Buffer::new();
     line.extend_from_slice(buffer.format(integer).as_bytes())
+}
+
+// Puts a count behind a line, in decimal. One of a single digit, as most are, needs no buffer.
+#[tactic(auto, using(std::proofs::lemmas::Fmt::decimal_digit))]
+fn write_count(line: &mut Vec<u8>, count: u64) -> Result<(), AllocError>
+    ensures { OnOk result (line.new.items ≡ line.old.items ++ decimal count) }
+{
+    if count < 10 {
+        line.push(b'0' + count as u8)?;
+        return Ok(());
+    }
+    write_integer(line, count)
 }
 
 // Puts a value behind a line.
@@ -65,7 +78,7 @@ pub(crate) fn write_line(
     line.extend_from_slice(b"{\"out\":{")?;
     write_rows(line, rows, values)?;
     line.extend_from_slice(b"},\"steps\":")?;
-    write_integer(line, steps)?;
+    write_count(line, steps)?;
     line.extend_from_slice(b",\"tick\":")?;
     write_integer(line, tick)?;
     line.extend_from_slice(b"}\n")

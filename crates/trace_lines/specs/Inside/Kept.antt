@@ -8,7 +8,7 @@ use Rattle.trace_lines.specs.Line.{IsObjectOf, inputs_of}
 
 -- so many lines are kept
 abbrev pub slots : ℕ
-slots = 64
+slots = 256
 
 -- a line is an object that gives this to the inputs among variables
 abbrev pub Says : List Variable → List ℕ → List (List ℕ × Value) → Type 0

@@ -1,5 +1,5 @@
 use Rattle.std.proofs.Common.{◌∙◌}
-use Rattle.trace_lines.proofs.Keeping.{set_there, one_more_kept}
+use Rattle.trace_lines.proofs.KeptLines.{set_there, one_more_kept}
 use Rattle.trace_lines.proofs.kept_line.keep.Goals as goal
 
 pub returns-clause-kept : goal.returns-clause-kept

@@ -1,4 +1,4 @@
-use Rattle.std.proofs.Common.{◌≡◌, ℕ, List, [], Some, length, slice_get}
+use Rattle.std.proofs.Common.{◌≡◌, ℕ, [], Some, length, slice_get}
 use Rattle.trace_lines.specs.declared.kept_line.KeptLine.{KeptLine as KeptLineOf}
 use Rattle.trace_lines.proofs.kept_line.no_lines.Given as goal
 

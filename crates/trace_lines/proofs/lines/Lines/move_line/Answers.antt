@@ -1,4 +1,4 @@
-use Rattle.std.proofs.Common.{◌≡◌, ◌∙◌, ap, sym, position, Some, slice_range}
+use Rattle.std.proofs.Common.{◌≡◌, ◌∙◌, ap, sym, position, Some, slice_range, rules}
 use Rattle.trace_lines.specs.Lines.{is_feed, after_line}
 use Rattle.trace_lines.proofs.Cut.{after_line-range}
 use Rattle.trace_lines.proofs.lines.Lines.move_line.Goals as goal
@@ -7,6 +7,7 @@ pub returns-in_ok-extend_from_slice-in-Some-clause-rest : goal.returns-in_ok-ext
 returns-in_ok-extend_from_slice-in-Some-clause-rest c =
     let inside = c.self.inside in
     let found : position is_feed (slice_range inside.piece.items inside.from inside.to) ≡ Some c.in-Some.before =
-    rw c.deref.ensures.value at (sym c.in-Some.ensures) in
+    let is : inside.feed ≡ Some c.in-Some.before = search rules in
+    sym c.self.invariant.3 ∙ is in
     after_line-range inside.piece.items inside.from inside.to c.in-Some.before c.self.invariant.0 c.self.invariant.1 found
     ∙ ap after_line c.self.view_is

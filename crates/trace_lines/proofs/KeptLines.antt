@@ -1,10 +1,10 @@
 -- Lines that are kept, as one is set.
 use native.Mathlib.Omega.{arith}
-use Rattle.std.proofs.Common.{◌≡◌, ◌≢◌, ℕ, zero, suc, List, [], ◌∷◌, length, Some, option_map, unwrap_or, slice_get, slice_set, ◌∙◌, ◌<◌, refl, sym, ap, subst}
+use Rattle.std.proofs.Common.{◌≡◌, ℕ, zero, suc, List, [], ◌∷◌, length, Some, option_map, unwrap_or, slice_get, slice_set, ◌∙◌, ◌<◌, refl, sym, ap, subst}
 use Rattle.std.proofs.lemmas.List.{length-set}
 use Rattle.sc_graph.specs.declared.program.Variable.{Variable}
 use Rattle.trace_lines.specs.declared.kept_line.KeptLine.{KeptLine}
-use Rattle.trace_lines.specs.Inside.Kept.{Says, IsKept, AreKept, IsKeptAt, inputs_at, slots}
+use Rattle.trace_lines.specs.Inside.Kept.{Says, IsKept, AreKept, IsKeptAt, inputs_at}
 
 set_each : {A : Type 0} (P : A → Type 0) (xs : List A) (i : ℕ) (x : A) → ((k : ℕ) (y : A) → slice_get xs k ≡ Some y → P y) → P x → (k : ℕ) (y : A)
     → slice_get (slice_set xs i x) k ≡ Some y → P y
