@@ -1,6 +1,6 @@
 //! Guesses of where an input stands among the variables.
 
-ghost use Rattle.std.specs.Prelude.{MatchOption};
+ghost use Rattle.std.specs.Prelude.{IfSome, MatchOption};
 ghost use Rattle.tick_core.specs.Inside.Inputs.{IsForAt, NamesInput};
 
 use crate::inputs::{is_for_at, place_of};
@@ -8,6 +8,9 @@ use sc_graph::{Role, Variable};
 use sc_values::{Name, Value};
 use std::alloc::{AllocError, Global};
 use std::collections::BTreeMap;
+
+// So many places in the order of names are tried before a name is looked for.
+const NEAR: usize = 3;
 
 /// Where the inputs of a program stand among its variables, by their names. What it holds is a guess: each place is
 /// compared with what is looked for, and no contract rests on it.
@@ -27,7 +30,7 @@ impl Guesses {
     }
 
     /// The variable that an input is for, which is given as the one at this place among all that are given; None where
-    /// it is for none. Lines give their inputs in the order of names, and often all of them.
+    /// it is for none. Lines give their inputs in the order of names, and often all of them or all but a few.
     pub(crate) fn place_of(
         &self,
         variables: &[Variable],
@@ -36,10 +39,23 @@ impl Guesses {
     ) -> Option<usize>
         ensures { MatchOption result (¬ NamesInput variables.now input.now) (IsForAt variables.now input.now) }
     {
-        match self.in_order.get(at) {
-            Some(place) if is_for_at(variables, input, *place) => Some(*place),
-            _ => place_of(variables, input, self.by_name.get(&input.0).copied()),
+        match self.near(variables, input, at) {
+            Some(place) => Some(place),
+            None => place_of(variables, input, self.by_name.get(&input.0).copied()),
         }
+    }
+
+    // The variable that an input is for, where it is one of the next few in the order of names.
+    fn near(&self, variables: &[Variable], input: &(Name, Value), at: usize) -> Option<usize>
+        ensures { IfSome result (IsForAt variables.now input.now) }
+    {
+        for next in at..at.saturating_add(NEAR) {
+            match self.in_order.get(next) {
+                Some(place) if is_for_at(variables, input, *place) => return Some(*place),
+                _ => {}
+            }
+        }
+        None
     }
 }
 
