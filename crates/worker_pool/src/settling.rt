@@ -44,10 +44,11 @@ fn returned<'x, J: OfImage>(
     ensures begun { IfSome result (λ s. s.begun ≡ begun.now) }
 {
     let state = back?.into_state();
-    if !is_same(state.begun(), begun) {
-        return None;
+    if is_same(state.begun(), begun) {
+        return Some(state);
     }
-    Some(state)
+    drop(state);
+    None
 }
 
 // Whether one configuration is the other.

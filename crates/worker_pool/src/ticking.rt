@@ -115,7 +115,7 @@ impl<'r, 'x, J: OfImage, G: Gate> Team<'r, 'x, J, G> {
     {
         let state = last.take().unwrap();
         let state = self.complete_wide(rt, scope, alloc, state)?;
-        *last = Some(state);
+        drop(last.replace(state));
         Ok(())
     }
 

@@ -157,7 +157,7 @@ impl<'r, 'x, J: OfImage, G: Gate> Worker<'r, 'x, J, G> {
         let locked = &mut *guard;
         let most = self.keeps(0);
         let claimed = self.claim_all(rt, &mut shared_tick, most);
-        locked.shared_tick = Some(shared_tick);
+        drop(locked.shared_tick.replace(shared_tick));
         locked.standing = 0;
         let (next, calls) = locked.note(claimed, shared.gate.waits());
         drop(guard);
