@@ -70,11 +70,17 @@ where
         ensures refused { IsErrOf result BeginFault.Input → ¬ AreAccepted J.image.program inputs.now }
     {
         let control = Control::initial(self.alloc, self.verified.image().program())?;
-        let room = TickSpace::of(self.alloc, self.verified)?;
+        let room = match TickSpace::of(self.alloc, self.verified) {
+            Ok(room) => room,
+            Err(error) => {
+                drop(control);
+                return Err(BeginFault::from(error));
+            }
+        };
         let state = self
             .team
             .tick(self.rt, self.scope, self.alloc, room, control, inputs)?;
-        self.last = Some(state);
+        drop(self.last.replace(state));
         Ok(())
     }
 

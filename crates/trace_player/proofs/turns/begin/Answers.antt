@@ -6,13 +6,3 @@ pub returns-in_err-interface-clause-came : goal.returns-in_err-interface-clause-
 returns-in_err-interface-clause-came g c =
     let p = err_from_is_err_and c.from_residual.result c.from_residual.ensures.1 in
     came_never g.J.OfImage.image (g.P.Channels.seen c.args.channels.now) p.0 c.from_residual.result p.1 p.2
-
-pub returns-in_err-lines-clause-came : goal.returns-in_err-lines-clause-came
-returns-in_err-lines-clause-came g c =
-    let p = err_from_is_err_and c.from_residual-in_err-lines.result c.from_residual-in_err-lines.ensures.1 in
-    came_never g.J.OfImage.image (g.P.Channels.seen c.args.channels.now) p.0 c.from_residual-in_err-lines.result p.1 p.2
-
-pub returns-in_err-reader-clause-came : goal.returns-in_err-reader-clause-came
-returns-in_err-reader-clause-came g c =
-    let p = err_from_is_err_and c.from_residual-in_err-reader.result c.from_residual-in_err-reader.ensures.1 in
-    came_never g.J.OfImage.image (g.P.Channels.seen c.args.channels.now) p.0 c.from_residual-in_err-reader.result p.1 p.2
