@@ -6,6 +6,7 @@ ghost use Rattle.std.specs.Prelude.{◌≡◌};
 ghost use Rattle.drawing.specs.Labels.{head_text, line_text, tail_text};
 
 use crate::drawn::{Arrow, DrawnState};
+use crate::pieces::{path_in, put_all};
 use core_charts::TransitionKind;
 use sqlite_items::at;
 use std::alloc::{AllocError, Global};
@@ -48,14 +49,20 @@ pub(crate) struct Place<'a> {
     pub(crate) path: &'a str,
 }
 
-// Where an arrow is cut: at the border of a superstate.
-fn cut(alloc: Global, end: &str, place: Place<'_>, number: u32) -> Result<String, AllocError> {
-    let path = place.path;
-    match at(place.states, number as usize) {
+// Says behind a text where an arrow is cut that ends or begins at the state of this number and node: at the border of a
+// superstate.
+fn put_cut(
+    text: &mut String,
+    states: &[DrawnState],
+    end: &str,
+    number: u32,
+    node: &str,
+) -> Result<(), AllocError> {
+    match at(states, number as usize) {
         Some(state) if state.is_superstate() => {
-            format!(in alloc; ", {end}=\"cluster_{path}_{number}\"")
+            put_all(text, &[", ", end, "=\"cluster_", node, "\""])
         }
-        _ => Ok(String::new(alloc)),
+        _ => Ok(()),
     }
 }
 
@@ -66,73 +73,83 @@ fn side(end: &'static str, is_loop: bool) -> &'static str {
 }
 
 // Puts the node of the words of a transition behind a text.
-fn put_words(
-    alloc: Global,
-    text: &mut String,
-    path: &str,
-    from: u32,
-    number: u32,
-    words: &str,
-) -> Result<(), AllocError> {
-    let node = format!(in alloc;
-        "\"{path}_{from} {number}\" [shape=\"plaintext\", fontsize=10, margin=0, height=0, label=\"{words}\"];\n"
-    )?;
-    text.push_str(node.as_str())
+fn put_words(text: &mut String, node: &str, words: &str) -> Result<(), AllocError> {
+    let drawn = "\" [shape=\"plaintext\", fontsize=10, margin=0, height=0, label=\"";
+    put_all(text, &["\"", node, drawn, words, "\"];\n"])
 }
 
-// Puts the arrow to the words of a transition behind a text.
+// Puts the arrow from a state, whose node this is, to the words of a transition behind a text.
 fn put_tail(
-    alloc: Global,
     text: &mut String,
-    place: Place<'_>,
+    states: &[DrawnState],
     from: u32,
-    number: u32,
+    own: &str,
+    words: &str,
     arrow: &Arrow,
 ) -> Result<(), AllocError> {
-    let path = place.path;
     let tail = tail_text(arrow.kind);
     let line = line_text(arrow.immediate);
     let west = side(", headport=\"w\"", arrow.target == from);
-    let left = cut(alloc, "ltail", place, from)?;
-    let before = format!(in alloc;
-        "\"{path}_{from}\" -> \"{path}_{from} {number}\" [{tail}{line}{left}{west}];\n"
-    )?;
-    text.push_str(before.as_str())
+    put_all(text, &["\"", own, "\" -> \"", words, "\" ["])?;
+    put_all(text, &[tail, line])?;
+    put_cut(text, states, "ltail", from, own)?;
+    put_all(text, &[west, "];\n"])
 }
 
-// Puts the arrow from the words of a transition behind a text.
+// Puts the arrow from the words of a transition to its target, whose node this is, behind a text.
 fn put_head(
-    alloc: Global,
     text: &mut String,
-    place: Place<'_>,
+    states: &[DrawnState],
     from: u32,
-    number: u32,
+    words: &str,
+    target: &str,
     arrow: &Arrow,
 ) -> Result<(), AllocError> {
-    let path = place.path;
-    let to = arrow.target;
     let head = head_text(arrow.kind);
     let line = line_text(arrow.immediate);
-    let east = side(", tailport=\"e\"", to == from);
-    let entered = cut(alloc, "lhead", place, to)?;
-    let behind = format!(in alloc;
-        "\"{path}_{from} {number}\" -> \"{path}_{to}\" [{head}{line}{entered}{east}];\n"
-    )?;
-    text.push_str(behind.as_str())
+    let east = side(", tailport=\"e\"", arrow.target == from);
+    put_all(text, &["\"", words, "\" -> \"", target, "\" ["])?;
+    put_all(text, &[head, line])?;
+    put_cut(text, states, "lhead", arrow.target, target)?;
+    put_all(text, &[east, "];\n"])
 }
 
 // Puts the node of the words of a transition, and the arrows to it and from it, behind a text.
 fn put_arrows(
+    text: &mut String,
+    states: &[DrawnState],
+    from: u32,
+    own: &str,
+    words: &str,
+    target: &str,
+    arrow: &Arrow,
+) -> Result<(), AllocError> {
+    put_words(text, words, arrow.words.as_str())?;
+    put_tail(text, states, from, own, words, arrow)?;
+    put_head(text, states, from, words, target, arrow)
+}
+
+// The same for the transition of this number of a state.
+fn put_transition(
     alloc: Global,
     text: &mut String,
     place: Place<'_>,
     from: u32,
+    own: &str,
     number: u32,
     arrow: &Arrow,
 ) -> Result<(), AllocError> {
-    put_words(alloc, text, place.path, from, number, arrow.words.as_str())?;
-    put_tail(alloc, text, place, from, number, arrow)?;
-    put_head(alloc, text, place, from, number, arrow)
+    let words = format!(in alloc; "{own} {number}")?;
+    let target = path_in(alloc, place.path, arrow.target)?;
+    put_arrows(
+        text,
+        place.states,
+        from,
+        own,
+        words.as_str(),
+        target.as_str(),
+        arrow,
+    )
 }
 
 // Whether a transition of the state of this number shares an arrow.
@@ -140,19 +157,38 @@ fn is_shared(state: &DrawnState, from: u32, arrow: &Arrow) -> bool {
     arrow.target == from && !arrow.immediate && !state.is_superstate()
 }
 
-// Puts the arrow that such transitions share, whose words these are, behind a text.
-fn put_shared(
+// Puts the arrows of the transitions of a state, but for one that some of them share, behind a text, and the words of
+// these behind others.
+fn put_unshared(
     alloc: Global,
     text: &mut String,
-    path: &str,
+    shared: &mut String,
+    place: Place<'_>,
     from: u32,
-    words: &str,
+    own: &str,
+    state: &DrawnState,
 ) -> Result<(), AllocError> {
+    let mut number: u32 = 1;
+    for arrow in state.arrows.as_slice() {
+        if is_shared(state, from, arrow) {
+            shared.push_str(arrow.words.as_str())?;
+        } else {
+            put_transition(alloc, text, place, from, own, number, arrow)?;
+        }
+        number = number.saturating_add(1);
+    }
+    Ok(())
+}
+
+// Puts the arrow that such transitions share, whose words these are, behind a text.
+fn put_shared(text: &mut String, own: &str, words: &str) -> Result<(), AllocError> {
     if words.is_empty() {
         return Ok(());
     }
-    let line = format!(in alloc; "\"{path}_{from}\" -> \"{path}_{from}\" [label=\"{words}\"];\n")?;
-    text.push_str(line.as_str())
+    put_all(
+        text,
+        &["\"", own, "\" -> \"", own, "\" [label=\"", words, "\"];\n"],
+    )
 }
 
 /// Puts the arrows of the transitions of the state of this number behind a text. Err: memory was refused.
@@ -163,15 +199,8 @@ pub(crate) fn put_transitions(
     from: u32,
     state: &DrawnState,
 ) -> Result<(), AllocError> {
+    let own = path_in(alloc, place.path, from)?;
     let mut shared = String::new(alloc);
-    let mut number: u32 = 1;
-    for arrow in state.arrows.as_slice() {
-        if is_shared(state, from, arrow) {
-            shared.push_str(arrow.words.as_str())?;
-        } else {
-            put_arrows(alloc, text, place, from, number, arrow)?;
-        }
-        number = number.saturating_add(1);
-    }
-    put_shared(alloc, text, place.path, from, shared.as_str())
+    put_unshared(alloc, text, &mut shared, place, from, own.as_str(), state)?;
+    put_shared(text, own.as_str(), shared.as_str())
 }

@@ -12,13 +12,13 @@ use core_charts::{Chart, Region, State, Transition};
 use sqlite_items::Items;
 use std::alloc::{AllocError, Global};
 
-// The arrows of these transitions of a state.
-fn arrows(
+// Puts the arrows of these transitions of a state behind others.
+fn put_arrows(
     alloc: Global,
     symbols: &[Symbol],
     transitions: &[Transition],
-) -> Result<Items<Arrow>, AllocError> {
-    let mut arrows = Items::new(alloc);
+    arrows: &mut Items<Arrow>,
+) -> Result<(), AllocError> {
     let mut number: u32 = 1;
     for transition in transitions {
         arrows.push(Arrow {
@@ -29,48 +29,69 @@ fn arrows(
         })?;
         number = number.saturating_add(1);
     }
-    Ok(arrows)
+    Ok(())
 }
 
+// Puts what is drawn of regions behind others.
 #[cycle(charted)]
-fn drawn_regions(
+fn put_regions(
     regions: &[Region],
     alloc: Global,
     symbols: &[Symbol],
-) -> Result<Items<DrawnRegion>, AllocError> {
-    let mut drawn = Items::new(alloc);
+    drawn: &mut Items<DrawnRegion>,
+) -> Result<(), AllocError> {
     for region in regions {
+        let mut states = Items::new(alloc);
+        put_states(region.states.as_slice(), alloc, symbols, &mut states)?;
         drawn.push(DrawnRegion {
             name: region.name,
-            states: drawn_states(region.states.as_slice(), alloc, symbols)?,
+            states,
         })?;
     }
-    Ok(drawn)
+    Ok(())
 }
 
+// Puts what is drawn of states behind others.
 #[cycle(charted)]
-fn drawn_states(
+fn put_states(
     states: &[State],
     alloc: Global,
     symbols: &[Symbol],
-) -> Result<Items<DrawnState>, AllocError> {
-    let mut drawn = Items::new(alloc);
+    drawn: &mut Items<DrawnState>,
+) -> Result<(), AllocError> {
     for state in states {
-        drawn.push(drawn_state(state, alloc, symbols)?)?;
+        let mut regions = Items::new(alloc);
+        put_regions(state.regions.as_slice(), alloc, symbols, &mut regions)?;
+        put_state(state, alloc, symbols, regions, drawn)?;
     }
-    Ok(drawn)
+    Ok(())
 }
 
-#[cycle(charted)]
-fn drawn_state(state: &State, alloc: Global, symbols: &[Symbol]) -> Result<DrawnState, AllocError> {
-    let name = state.name;
-    Ok(DrawnState {
-        label: format!(in alloc; "{name}")?,
+// Puts what is drawn of a state with these regions behind others.
+fn put_state(
+    state: &State,
+    alloc: Global,
+    symbols: &[Symbol],
+    regions: Items<DrawnRegion>,
+    drawn: &mut Items<DrawnState>,
+) -> Result<(), AllocError> {
+    let mut arrows = Items::new(alloc);
+    put_arrows(alloc, symbols, state.transitions.as_slice(), &mut arrows)?;
+    drawn.push(DrawnState {
+        label: String::from_str(alloc, state.name.as_str())?,
         is_initial: state.is_initial,
         is_final: state.is_final,
-        regions: drawn_regions(state.regions.as_slice(), alloc, symbols)?,
-        arrows: arrows(alloc, symbols, state.transitions.as_slice())?,
+        regions,
+        arrows,
     })
+}
+
+// What is drawn of the regions of a chart.
+fn drawn_of(alloc: Global, chart: &Chart) -> Result<Items<DrawnRegion>, AllocError> {
+    let symbols = symbols_of(alloc, chart.variables())?;
+    let mut drawn = Items::new(alloc);
+    put_regions(chart.regions(), alloc, symbols.as_slice(), &mut drawn)?;
+    Ok(drawn)
 }
 
 /// A chart as Graphviz text: regions and superstates are clusters, simple states nodes, and each transition an arrow
@@ -81,8 +102,7 @@ fn drawn_state(state: &State, alloc: Global, symbols: &[Symbol]) -> Result<Drawn
 pub fn chart_drawing(alloc: Global, chart: &Chart) -> Result<String, AllocError>
     ensures { IfOk result (λ text. IsDrawing chart.now.name (string_bytes text)) }
 {
-    let symbols = symbols_of(alloc, chart.variables())?;
-    let regions = drawn_regions(chart.regions(), alloc, symbols.as_slice())?;
+    let regions = drawn_of(alloc, chart)?;
     let variables = variable_lines(alloc, chart.variables())?;
     drawing_of(alloc, chart.name(), variables.as_str(), regions.as_slice())
 }

@@ -9,6 +9,7 @@ mod flow;
 mod graphs;
 mod labels;
 mod levels;
+mod pieces;
 mod protocol;
 mod regions;
 mod stacking;

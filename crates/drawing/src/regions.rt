@@ -7,6 +7,7 @@ ghost use Rattle.drawing.specs.Drawing.{IsDrawing};
 
 use crate::arrows::{Place, put_transitions};
 use crate::drawn::{DrawnRegion, DrawnState};
+use crate::pieces::{path_in, put_all, region_path};
 use crate::stacking::put_stacks;
 use crate::variables::put_variables;
 use sc_values::Name;
@@ -40,16 +41,13 @@ fn put_all_transitions(
 }
 
 // Puts what begins the cluster of a region behind a text.
-fn put_region_opening(
-    alloc: Global,
-    text: &mut String,
-    path: &str,
-    name: Name,
-) -> Result<(), AllocError> {
-    let opening = format!(in alloc;
-        "subgraph \"cluster_{path}\" {{\nlabel=\"{name}\";\nstyle=\"dashed\";\n"
-    )?;
-    text.push_str(opening.as_str())
+fn put_region_opening(text: &mut String, path: &str, name: &Name) -> Result<(), AllocError> {
+    let named = "\" {\nlabel=\"";
+    let drawn = "\";\nstyle=\"dashed\";\n";
+    put_all(
+        text,
+        &["subgraph \"cluster_", path, named, name.as_str(), drawn],
+    )
 }
 
 // Puts the clusters of regions behind a text. Their paths begin so.
@@ -62,7 +60,7 @@ fn put_regions(
 ) -> Result<(), AllocError> {
     let mut number: u32 = 0;
     for region in regions {
-        let path = format!(in alloc; "{before}{number}")?;
+        let path = region_path(alloc, before, number)?;
         put_region(region, alloc, text, path.as_str())?;
         number = number.saturating_add(1);
     }
@@ -77,11 +75,11 @@ fn put_region(
     text: &mut String,
     path: &str,
 ) -> Result<(), AllocError> {
-    put_region_opening(alloc, text, path, region.name)?;
+    put_region_opening(text, path, &region.name)?;
     let states = region.states.as_slice();
     let mut number: u32 = 0;
     for state in states {
-        let inner = format!(in alloc; "{path}_{number}")?;
+        let inner = path_in(alloc, path, number)?;
         put_state(state, alloc, text, inner.as_str())?;
         number = number.saturating_add(1);
     }
@@ -90,34 +88,26 @@ fn put_region(
 }
 
 // Puts the node of a simple state behind a text.
-fn put_simple(
-    alloc: Global,
-    text: &mut String,
-    state: &DrawnState,
-    path: &str,
-) -> Result<(), AllocError> {
+fn put_simple(text: &mut String, state: &DrawnState, path: &str) -> Result<(), AllocError> {
     let label = state.label.as_str();
     let border = border(state);
     let rings = rings(state);
-    let line = format!(in alloc;
-        "\"{path}\" [label=\"{label}\", shape=\"box\", style=\"rounded,{border}\", peripheries={rings}];\n"
-    )?;
-    text.push_str(line.as_str())
+    put_all(text, &["\"", path, "\" [label=\"", label])?;
+    put_all(text, &["\", shape=\"box\", style=\"rounded,", border])?;
+    put_all(text, &["\", peripheries=", rings, "];\n"])
 }
 
 // Puts what begins the cluster of a superstate behind a text.
-fn put_state_opening(
-    alloc: Global,
-    text: &mut String,
-    state: &DrawnState,
-    path: &str,
-) -> Result<(), AllocError> {
+fn put_state_opening(text: &mut String, state: &DrawnState, path: &str) -> Result<(), AllocError> {
     let label = state.label.as_str();
     let border = border(state);
-    let opening = format!(in alloc;
-        "subgraph \"cluster_{path}\" {{\nlabel=\"{label}\";\nstyle=\"rounded,{border}\";\n\"{path}\" [shape=\"point\", style=\"invis\", width=0];\n"
+    let point = "\" [shape=\"point\", style=\"invis\", width=0];\n";
+    put_all(
+        text,
+        &["subgraph \"cluster_", path, "\" {\nlabel=\"", label],
     )?;
-    text.push_str(opening.as_str())
+    put_all(text, &["\";\nstyle=\"rounded,", border, "\";\n"])?;
+    put_all(text, &["\"", path, point])
 }
 
 // Puts the node of a simple state, or the cluster of a superstate, behind a text.
@@ -129,9 +119,9 @@ fn put_state(
     path: &str,
 ) -> Result<(), AllocError> {
     if !state.is_superstate() {
-        return put_simple(alloc, text, state, path);
+        return put_simple(text, state, path);
     }
-    put_state_opening(alloc, text, state, path)?;
+    put_state_opening(text, state, path)?;
     let regions = state.regions.as_slice();
     let inside = format!(in alloc; "{path}_")?;
     put_regions(regions, alloc, text, inside.as_str())?;
@@ -139,19 +129,23 @@ fn put_state(
     put_stacks(alloc, text, regions, inside.as_str())
 }
 
-// What stands in the drawing of a chart of this name: its title, the lines of its variables, and the clusters of its
-// regions.
-fn body(
+// Puts what stands in the drawing of a chart of this name behind a text: its title, the lines of its variables, and the
+// clusters of its regions.
+fn put_body(
     alloc: Global,
-    name: Name,
+    text: &mut String,
+    name: &Name,
     variables: &str,
     regions: &[DrawnRegion],
-) -> Result<String, AllocError> {
-    let mut text = format!(in alloc; "label=\"{name}\";\ncompound=\"true\";\n{FONTS}")?;
-    put_variables(&mut text, variables)?;
-    put_regions(regions, alloc, &mut text, "")?;
-    put_stacks(alloc, &mut text, regions, "")?;
-    Ok(text)
+) -> Result<(), AllocError> {
+    let title = name.as_str();
+    put_all(
+        text,
+        &["label=\"", title, "\";\ncompound=\"true\";\n", FONTS],
+    )?;
+    put_variables(text, variables)?;
+    put_regions(regions, alloc, text, "")?;
+    put_stacks(alloc, text, regions, "")
 }
 
 /// The Graphviz text of a chart of this name, whose variables have these lines, and in which this is drawn. Err: memory
@@ -164,6 +158,7 @@ pub fn drawing_of(
 ) -> Result<String, AllocError>
     ensures { IfOk result (λ text. IsDrawing name (string_bytes text)) }
 {
-    let body = body(alloc, name, variables, regions)?;
+    let mut body = String::new(alloc);
+    put_body(alloc, &mut body, &name, variables, regions)?;
     format!(in alloc; "digraph \"{name}\" {{\n{body}}}\n")
 }

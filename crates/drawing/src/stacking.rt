@@ -2,6 +2,7 @@
 //! of the next.
 
 use crate::drawn::{DrawnRegion, DrawnState};
+use crate::pieces::{path_in, put_all, region_path};
 use std::alloc::{AllocError, Global};
 
 // The number of the initial state.
@@ -17,9 +18,9 @@ fn initial_of(region: &DrawnRegion) -> u32 {
 }
 
 // Puts an arrow that is not seen behind a text.
-fn put_unseen(alloc: Global, text: &mut String, from: &str, to: &str) -> Result<(), AllocError> {
-    let line = format!(in alloc; "\"{from}\" -> \"{to}\" [style=\"invis\", weight=0];\n")?;
-    text.push_str(line.as_str())
+fn put_unseen(text: &mut String, from: &str, to: &str) -> Result<(), AllocError> {
+    let drawn = "\" [style=\"invis\", weight=0];\n";
+    put_all(text, &["\"", from, "\" -> \"", to, drawn])
 }
 
 // Puts such arrows from all that is in the region of this path behind a text.
@@ -33,7 +34,7 @@ fn put_region_above(
 ) -> Result<(), AllocError> {
     let mut number: u32 = 0;
     for state in region.states.as_slice() {
-        let inner = format!(in alloc; "{path}_{number}")?;
+        let inner = path_in(alloc, path, number)?;
         put_state_above(state, alloc, text, inner.as_str(), to)?;
         number = number.saturating_add(1);
     }
@@ -49,10 +50,10 @@ fn put_state_above(
     path: &str,
     to: &str,
 ) -> Result<(), AllocError> {
-    put_unseen(alloc, text, path, to)?;
+    put_unseen(text, path, to)?;
     let mut number: u32 = 0;
     for region in state.regions.as_slice() {
-        let inner = format!(in alloc; "{path}_{number}")?;
+        let inner = path_in(alloc, path, number)?;
         put_region_above(region, alloc, text, inner.as_str(), to)?;
         number = number.saturating_add(1);
     }
@@ -141,7 +142,7 @@ fn put_above(
 ) -> Result<(), AllocError> {
     let initial = initial_of(region);
     let last = number.saturating_sub(1);
-    let from = format!(in alloc; "{path}{last}")?;
+    let from = region_path(alloc, path, last)?;
     let to = format!(in alloc; "{path}{number}_{initial}")?;
     put_region_above(upper, alloc, text, from.as_str(), to.as_str())
 }

@@ -1,5 +1,6 @@
 //! The box with the variables of a chart.
 
+use crate::pieces::put_all;
 use sc_graph::{Role, Variable};
 use sc_values::Kind;
 use std::alloc::{AllocError, Global};
@@ -25,13 +26,15 @@ pub fn kind_word(kind: Kind) -> &'static str {
 pub(crate) fn variable_lines(alloc: Global, variables: &[Variable]) -> Result<String, AllocError> {
     let mut lines = String::new(alloc);
     for variable in variables {
-        let role = role_word(variable.role);
-        let kind = kind_word(variable.kind);
-        let name = variable.name;
-        let line = format!(in alloc; "{role}{kind} {name}\\l")?;
-        lines.push_str(line.as_str())?;
+        put_line(&mut lines, variable)?;
     }
     Ok(lines)
+}
+
+// Puts the line of a variable behind others.
+fn put_line(lines: &mut String, variable: &Variable) -> Result<(), AllocError> {
+    put_all(lines, &[role_word(variable.role), kind_word(variable.kind)])?;
+    put_all(lines, &[" ", variable.name.as_str(), "\\l"])
 }
 
 /// Puts the box with these lines behind a text, where there are some. Err: memory was refused.
