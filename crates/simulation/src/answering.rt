@@ -11,7 +11,7 @@ use crate::session::Session;
 use crate::states::States;
 use crate::telling::told;
 use crate::words::{Command, object_of, said};
-use line_causes::{cause_of, cause_words};
+use line_causes::{Cause, cause_of, cause_words};
 use sc_graph::Variable;
 use std::alloc::{AllocError, Global};
 use std::str;
@@ -34,13 +34,20 @@ fn plain(alloc: Global, text: &str) -> Result<Vec<u8>, AllocError> {
     Vec::from_slice(alloc, text.as_bytes())
 }
 
+// The line that tells why a line gives no inputs.
+fn cause_line(alloc: Global, cause: &Cause) -> Result<Vec<u8>, AllocError> {
+    let mut words = cause_words(alloc, cause)?;
+    words.push('\n')?;
+    Ok(words.into_bytes())
+}
+
 // Why a line gives no inputs.
 fn refusal(alloc: Global, variables: &[Variable], line: &[u8]) -> Result<Vec<u8>, AllocError> {
     match cause_of(alloc, variables, line)? {
         Some(cause) => {
-            let words = cause_words(alloc, &cause)?;
-            let words = format!(in alloc; "{words}\n")?;
-            plain(alloc, words.as_str())
+            let told = cause_line(alloc, &cause);
+            drop(cause);
+            told
         }
         None => plain(alloc, NOT_UNDERSTOOD),
     }
@@ -163,8 +170,7 @@ pub fn answer<W: States>(
     match str::from_utf8(line) {
         Ok(text) => {
             let text = text.trim();
-            let told = follow(alloc, session, states, said(text), text)?;
-            Ok(told)
+            follow(alloc, session, states, said(text), text)
         }
         Err(_) => Ok(Some(plain(alloc, NOT_UNDERSTOOD)?)),
     }

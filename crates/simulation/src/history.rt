@@ -35,9 +35,13 @@ pub(crate) fn push(
     ensures ok { OnOk result (ticks.new.items ≡ ticks.old.items ++ record { line = line.now; control = control } ∷ []) }
     ensures err { OnErr result (ticks.new.items ≡ ticks.old.items) }
 {
-    let line = Items::from_slice(alloc, line)?;
-    ticks.push(Played { line, control })?;
-    Ok(())
+    match Items::from_slice(alloc, line) {
+        Ok(line) => Ok(ticks.push(Played { line, control })?),
+        Err(error) => {
+            drop(control);
+            Err(error)
+        }
+    }
 }
 
 /// The lines of ticks, as a run reads them.

@@ -26,7 +26,8 @@ fn tick(
     let mut state = begin(alloc, verified, control, inputs)?;
     state.run_alone();
     let steps = state.history().len() as u64;
-    let (control, _room) = state.hand_over();
+    let (control, room) = state.hand_over();
+    drop(room);
     Ok((control, steps))
 }
 
@@ -48,7 +49,9 @@ pub(crate) fn react(
         return Err(LineFault::NotJson);
     }
     let inputs = interface.read_line(alloc, line)?;
-    match tick(alloc, verified, control, &inputs) {
+    let ticked = tick(alloc, verified, control, &inputs);
+    drop(inputs);
+    match ticked {
         Ok((after, _steps)) => Ok(after),
         Err(BeginFault::Memory) => Err(LineFault::Memory),
         Err(BeginFault::Input) => Err(LineFault::Input),

@@ -43,13 +43,18 @@ impl<'x> Session<'x> {
     {
         let program = verified.image().program();
         let first = Control::initial(alloc, program)?;
-        let interface = Interface::of(alloc, program.variables())?;
-        Ok(Session {
-            verified,
-            interface,
-            first,
-            ticks: Vec::new(alloc),
-        })
+        match Interface::of(alloc, program.variables()) {
+            Ok(interface) => Ok(Session {
+                verified,
+                interface,
+                first,
+                ticks: Vec::new(alloc),
+            }),
+            Err(error) => {
+                drop(first);
+                Err(error)
+            }
+        }
     }
 
     /// The present configuration.

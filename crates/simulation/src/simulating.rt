@@ -5,6 +5,7 @@ ghost use Rattle.std.specs.Io.KnownBytes.{Appends};
 ghost use Rattle.sc_values.specs.Streams.{StaysOpen, IsNotReadBehind};
 ghost use Rattle.trace_lines.specs.Lines.{ahead};
 ghost use Rattle.trace_player.specs.Trace.{next_number};
+ghost use Rattle.simulation.specs.History.{begun};
 ghost use Rattle.simulation.specs.Lines.{AnswersAll, Simulates, Stops};
 ghost use Rattle.simulation.specs.Inside.Turns.{IsUnanswered, Leaves, TurnsTo};
 
@@ -68,11 +69,39 @@ pub fn simulate<S: Source, K: Sink, W: States>(
         → K.failures sink.new ≡ K.failures sink.old }
 {
     let mut session = Session::new(alloc, image)?;
+    let told = greet(alloc, &mut session, states, source, sink);
+    drop(session);
+    told
+}
+
+// Greets, and answers the lines of an input from the first tick on.
+#[tactic(auto, using(crate::proofs::Reading::not_read))]
+fn greet<S: Source, K: Sink, W: States>(
+    alloc: Global,
+    session: &mut Session<'_>,
+    states: Option<&W>,
+    source: &mut S,
+    sink: &mut K,
+) -> Result<(), PlayFault>
+    requires { session.old ≡ begun session.old.image }
+    ensures done { OnOk result
+        (Simulates session.old.image (S.to_come source.old) (K.taken sink.old) (K.taken sink.new)) }
+    ensures left { IfErr result (Stops session.old.image (S.to_come source.old) (K.taken sink.old) (K.taken sink.new)) }
+    ensures read { IsErrOf result PlayFault.Read
+        → S.failures source.new ≡ S.failures source.old + 1 }
+    ensures not_read { result ≢ Err PlayFault.Read
+        → S.failures source.new ≡ S.failures source.old }
+    ensures end { IsNotReadBehind (S.progress source.old) (S.progress source.new) }
+    ensures write { IsErrOf result PlayFault.Write
+        → K.failures sink.new ≡ K.failures sink.old + 1 }
+    ensures not_write { result ≢ Err PlayFault.Write
+        → K.failures sink.new ≡ K.failures sink.old }
+{
     let mut lines = Lines::new(alloc)?;
     if !write(sink, GREETING.as_bytes()) {
         return Err(PlayFault::Write);
     }
-    go_on(alloc, &mut session, states, &mut lines, source, sink)
+    go_on(alloc, session, states, &mut lines, source, sink)
 }
 
 // Answers the lines of an input, none of which was read.

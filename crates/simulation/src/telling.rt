@@ -32,11 +32,10 @@ pub(crate) fn told<W: States>(
 ) -> Result<Vec<u8>, AllocError>
     ensures { IfOk result (λ told. TellsStand session.now told.items) }
 {
-    let line = stand_line(alloc, session.ticks().len())?;
     let more = changes_told(alloc, session, states)?;
-    let mut told = Vec::from_slice(alloc, line.as_bytes())?;
-    told.extend_from_slice(more.as_bytes())?;
-    Ok(told)
+    let mut told = stand_line(alloc, session.ticks().len())?;
+    told.push_str(more.as_str())?;
+    Ok(told.into_bytes())
 }
 
 // The variables that the last tick changed, and the states.

@@ -1,16 +1,15 @@
 //! What a line says.
 
 ghost use Rattle.std.specs.Prelude.{◌≡◌, ◌++◌, ◌∷◌, ℕ, List, IfOk, OnOk, false, string_bytes};
-ghost use Rattle.json.specs.Print.{quoted};
 ghost use Rattle.simulation.specs.Commands.{is_object, said, word_said};
 ghost use Rattle.simulation.specs.Words.{members_of, member_text, name_in, object_of, value_in, words_in};
 
 use crate::cutting::cut;
-use serde_json::Value as Json;
 use std::alloc::{AllocError, Global};
+use trace_lines::quoted;
 
 /// What a line says.
-#[derive(Clone, Copy, Debug, PartialEq, Eq)]
+#[derive(Clone, Copy)]
 pub enum Command {
     /// Nothing: a tick without inputs.
     Nothing,
@@ -68,13 +67,6 @@ fn word_said(text: &str) -> Command
     } else {
         Command::Words
     }
-}
-
-// The JSON text of a name.
-fn quoted(alloc: Global, text: &str) -> Result<String, AllocError>
-    ensures { IfOk result (λ shown. string_bytes shown ≡ quoted text.now) }
-{
-    Json::String(String::from_str(alloc, text)?).to_string(alloc)
 }
 
 // The name of the input that a word gives, and its value.
