@@ -61,5 +61,7 @@ fn put_nodes(
 ) -> Result<(), AllocError> {
     let AuthorSources { graph, nodes } = sources;
     let shown = Shown::in_author(alloc, text, graph.get(), nodes)?;
-    put_shown_nodes(report, &shown, fault)
+    let put = put_shown_nodes(report, &shown, fault);
+    drop(shown);
+    put
 }

@@ -278,7 +278,7 @@ fn cure_of(alloc: Global, stop: Stop<'_>, before: &TokenKind, could: &Could) -> 
     }
 }
 
-// Adds the words for what stands where something else could.
+// Adds the words for it that tell what could stand there.
 fn put_stopped(
     alloc: Global,
     words: &mut Words,
@@ -289,6 +289,27 @@ fn put_stopped(
 ) -> Result<(), AllocError> {
     put_expected(alloc, &mut words.cause, found, could)?;
     put_cure(&mut words.cure, cure_of(alloc, stop, before, could))
+}
+
+// The words for what stands where something else could.
+fn stopped_words(
+    alloc: Global,
+    stop: Stop<'_>,
+    found: &str,
+    before: &TokenKind,
+    could: &Could,
+) -> Result<Words, AllocError> {
+    if let Some(misused) = misuse_at(stop.text, stop.at, before, could) {
+        return Words::told(alloc, misused, "");
+    }
+    let mut words = Words::none(alloc);
+    match put_stopped(alloc, &mut words, stop, found, before, could) {
+        Ok(()) => Ok(words),
+        Err(error) => {
+            drop(words);
+            Err(error)
+        }
+    }
 }
 
 // The words for a byte of a text where it cannot go on, and this was found.
@@ -302,13 +323,10 @@ fn words_of_found(alloc: Global, text: &str, at: usize, found: &str) -> Result<W
         return Words::told(alloc, FIRST, found);
     };
     let could = Could::of(alloc, grammar, front, &before)?;
-    if let Some(misused) = misuse_at(text, at, &before, &could) {
-        return Words::told(alloc, misused, "");
-    }
     let stop = Stop { grammar, text, at };
-    let mut words = Words::none(alloc);
-    put_stopped(alloc, &mut words, stop, found, &before, &could)?;
-    Ok(words)
+    let words = stopped_words(alloc, stop, found, &before, &could);
+    drop(could);
+    words
 }
 
 /// The words for a byte of a text where it cannot go on: what was found, what could stand there, and what helps. Err:

@@ -55,14 +55,19 @@ impl<'a> Shown<'a> {
         graph: &'a LinkedProgram,
         nodes: Items<Option<AuthorNode>>,
     ) -> Result<Shown<'a>, AllocError> {
-        let positions = Positions::of(alloc, text)?;
-        Ok(Shown {
-            text,
-            positions,
-            program: graph.program(),
-            links: graph.links(),
-            nodes,
-        })
+        match Positions::of(alloc, text) {
+            Ok(positions) => Ok(Shown {
+                text,
+                positions,
+                program: graph.program(),
+                links: graph.links(),
+                nodes,
+            }),
+            Err(error) => {
+                drop(nodes);
+                Err(error)
+            }
+        }
     }
 
     // Where a node comes from, and whether it is made.

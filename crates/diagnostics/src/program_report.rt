@@ -193,7 +193,11 @@ fn put_made_nodes(
     fault: &CompileFault,
 ) -> Result<(), AllocError> {
     match graph_of_scl(alloc, source.scl()) {
-        Ok(graph) => put_nodes_in(alloc, report, source, &graph, fault),
+        Ok(graph) => {
+            let put = put_nodes_in(alloc, report, source, &graph, fault);
+            drop(graph);
+            put
+        }
         Err(GraphFault::Memory) => Err(AllocError),
         Err(_) => Ok(()),
     }
@@ -210,8 +214,12 @@ fn put_nodes_in(
     requires { IsGraph source.now.scl graph.now }
 {
     let origins = origins_in(alloc, source, graph.program())?;
-    let shown = Shown::of(alloc, source.text(), graph, origins.as_slice())?;
-    put_shown_nodes(report, &shown, fault)
+    let shown = Shown::of(alloc, source.text(), graph, origins.as_slice());
+    drop(origins);
+    let shown = shown?;
+    let put = put_shown_nodes(report, &shown, fault);
+    drop(shown);
+    put
 }
 
 // Adds the lines of the nodes of a fault.

@@ -1,6 +1,7 @@
 -- Each node of the program of a chart comes from an element that has a place.
 use Rattle.std.proofs.Common.{◌≡◌, ℕ, ◌<◌, Option, Some, IsSome, is_some, List}
 use Rattle.std.proofs.Common.{map, length, slice_get, refl, sym, ap, subst, ◌∙◌, arith}
+use Rattle.std.specs.Prelude.{Result, Ok, Err, IfOk}
 use Rattle.core_charts.specs.declared.features.Features.TheVariants as features
 use Rattle.core_charts.specs.Chart.{Chart}
 use Rattle.core_charts.specs.Rules.{IsChart}
@@ -109,8 +110,12 @@ module _ (text : List ℕ) (c : Chart) (p : Places) (is : IsPlaced text c p) (sc
       map Some origins ≡ origins_from p q 0 elements → map Some origins ≡ chart_origins c p q
   origins_are elements origins are each = each ∙ ap (origins_from p q 0) are
 
-  pub sourced : (origins : List Origin) → map Some origins ≡ chart_origins c p q → ChartSources text q origins
+  sourced : (origins : List Origin) → map Some origins ≡ chart_origins c p q → ChartSources text q origins
   sourced origins each = record { chart = c; places = p; placed = is; scl = scl; lowers = lowers; graph = graph; each = each }
+
+  pub all_sourced : {E : Type 0} (r : Result (List Origin) E) → IfOk r (λ origins. map Some origins ≡ chart_origins c p q) → IfOk r (ChartSources text q)
+  all_sourced (Ok origins) each = sourced origins each
+  all_sourced (Err error) each = tt
 
 -- what is kept of a text, with its places
 pub placed_in : (text : List ℕ) (scl : Scl) (kept : ReadChart) (places : Places) → KeepsChart text scl kept → places ≡ places_of kept.draft

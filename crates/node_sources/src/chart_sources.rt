@@ -38,26 +38,25 @@ pub fn elements_of(
     node_elements::node_elements(alloc, chart, core, scl.body.as_slice())
 }
 
-// The origins of the nodes of the program of the chart that a text spells.
+// The origins of the nodes of the program of the chart that a text spells, whose elements stand there.
 #[tactic(auto, using(crate::proofs::ChartsTold::origins_are))]
 fn origins_in(
     alloc: Global,
     text: &str,
-    chart: &Chart,
+    kept: &ReadChart,
     places: &Places,
     scl: &Scl,
     program: &Program,
-    elements: &[Option<Element>],
 ) -> Result<Items<Origin>, AllocError>
-    requires placed { IsPlaced text.now chart.now places.now }
-    requires lowers { IsSclOf chart.now scl.now }
+    requires placed { IsPlaced text.now kept.now.chart places.now }
+    requires kept { KeepsChart text.now scl.now kept.now }
     requires graph { IsGraph scl.now program.now }
-    requires elements { elements.now ≡ node_elements chart.now }
-    ensures { IfOk result (λ origins. map Some origins ≡ chart_origins chart.now places.now program.now) }
+    ensures { IfOk result (λ origins. map Some origins ≡ chart_origins kept.now.chart places.now program.now) }
 {
+    let elements = elements_of(alloc, &kept.chart, &kept.core, scl)?;
     elements_tell_nodes();
     places_tell_texts();
-    origins_of(alloc, places, program, elements)
+    origins_of(alloc, places, program, elements.as_slice())
 }
 
 /// The origins of the nodes of the program of a chart's text. Err: memory was refused.
@@ -74,15 +73,7 @@ pub(crate) fn origins_of_chart(
     ensures { IfOk result (ChartSources text.now program.now) }
 {
     let places = places_of(alloc, &kept.draft)?;
-    let elements = elements_of(alloc, &kept.chart, &kept.core, scl)?;
-    let origins = origins_in(
-        alloc,
-        text,
-        &kept.chart,
-        &places,
-        scl,
-        program,
-        elements.as_slice(),
-    )?;
-    Ok(origins)
+    let origins = origins_in(alloc, text, kept, &places, scl, program);
+    drop(places);
+    origins
 }

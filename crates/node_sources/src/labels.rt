@@ -171,10 +171,10 @@ fn scl_label(
     requires { KeepsDraft text.now scl.now draft.now }
     ensures { IfOk result (λ found. IfSome found (SclLabel text.now label)) }
 {
-    let tokens = tokens_of(alloc, text, draft)?;
     let Some(number) = label_point(alloc, scl, label)? else {
         return Ok(None);
     };
+    let tokens = tokens_of(alloc, text, draft)?;
     let spots = spots_of(alloc, tokens.as_slice(), draft.statements.as_slice())?;
     Ok(first_origin(spots.as_slice(), number))
 }

@@ -52,11 +52,13 @@ fn cells_of(alloc: Global, program: &Program, text: &str) -> Result<Items<String
     let Some(sources) = sources_of(alloc, text)? else {
         return empty_cells(alloc, program);
     };
-    if are_same(&sources.program, program) {
+    let cells = if are_same(&sources.program, program) {
         place_cells(alloc, text, sources.origins.as_slice())
     } else {
         empty_cells(alloc, program)
-    }
+    };
+    drop(sources);
+    cells
 }
 
 /// The listing of an image, in which each node's line has behind its number the line and the column of the text from
@@ -66,7 +68,7 @@ fn cells_of(alloc: Global, program: &Program, text: &str) -> Result<Items<String
 pub fn image_text_with(alloc: Global, image: &Verified, text: &str) -> Result<String, AllocError>
     ensures { IfOk result (λ listing. ListsPlaces image.now (string_bytes listing)) }
 {
-    let cells = cells_of(alloc, image.image().program(), text)?;
     let head = left_cell(alloc, WIDTH, "source")?;
+    let cells = cells_of(alloc, image.image().program(), text)?;
     image_text_with_cells(alloc, image, head.as_str(), cells.as_slice())
 }

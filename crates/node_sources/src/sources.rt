@@ -47,8 +47,13 @@ pub fn sources_in(alloc: Global, source: &ReadSource<'_>) -> Result<Option<Sourc
     let Some(program) = graph_of_source(alloc, source)? else {
         return Ok(None);
     };
-    let origins = origins_in(alloc, source, &program)?;
-    Ok(Some(Sources { program, origins }))
+    match origins_in(alloc, source, &program) {
+        Ok(origins) => Ok(Some(Sources { program, origins })),
+        Err(error) => {
+            drop(program);
+            Err(error)
+        }
+    }
 }
 
 /// The program of a text with the origins of its nodes. None: the text makes no program. Err: memory was refused.
