@@ -18,7 +18,7 @@ use Rattle.drafts.specs.declared.parts.Named.{Named}
 use Rattle.drafts.specs.Flaws.{first_or, flaw_if, is_at, is_repeated, place_among}
 use Rattle.drafts.proofs.Distinct.{AreFirst, itself}
 use Rattle.drafts.proofs.PartsInOrder.{drop_is}
-use Rattle.scl_drafts.specs.Apart.{AreRising, number_of}
+use Rattle.scl_drafts.specs.Inside.Apart.{AreRising, number_of}
 use Rattle.scl_drafts.specs.Flaws.{names, repeated}
 
 rising_far : (xs : List ℕ) → AreRising xs → (i k d : ℕ) → i + suc k < length xs → get_or xs i d < get_or xs (i + suc k) d

@@ -12,7 +12,7 @@ use Rattle.scl_drafts.specs.declared.draft.Draft.{Draft}
 use Rattle.scl_drafts.specs.declared.survey.Found.{Found}
 use Rattle.scl_drafts.specs.Draft.{IsDraft, IsDraftFault}
 use Rattle.scl_drafts.specs.Flaws.{Part, names, root, repeated, scl_flaws}
-use Rattle.scl_drafts.specs.Survey.{found_behind}
+use Rattle.scl_drafts.specs.Inside.Survey.{found_behind}
 use Rattle.scl_drafts.specs.Checked.{IsFlawless, IsTextFault}
 
 pub all_told : (d : Draft) (noted told : List Flaw) (after : Found)

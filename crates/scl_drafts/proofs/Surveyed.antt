@@ -21,7 +21,7 @@ use Rattle.scl_drafts.specs.declared.survey.Thread.{Thread}
 use Rattle.scl_drafts.specs.declared.survey.Found.{Found}
 use Rattle.scl_drafts.specs.Statements.{Statements}
 use Rattle.scl_drafts.specs.Flaws.{Part, nothing, both, in_row, names, lost, thread, only_flaws, side_by_side, part, part_of, parts_of}
-use Rattle.scl_drafts.specs.Survey.{Survey, survey, behind, found_behind, label_part, branch_parts}
+use Rattle.scl_drafts.specs.Inside.Survey.{Survey, survey, behind, found_behind, label_part, branch_parts}
 
 -- ---- pieces one behind the other
 

@@ -7,5 +7,3 @@ pub mod Within
 pub mod Inside
 pub mod Flaws
 pub mod Checked
-pub mod Survey
-pub mod Apart

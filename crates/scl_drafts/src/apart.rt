@@ -2,7 +2,7 @@
 
 ghost use Rattle.std.specs.Prelude.{◌≡◌, IfOk, IsTrue, map};
 ghost use Rattle.drafts.proofs.Distinct.{AreFirst};
-ghost use Rattle.scl_drafts.specs.Apart.{AreRising, number_from, number_of};
+ghost use Rattle.scl_drafts.specs.Inside.Apart.{AreRising, number_from, number_of};
 ghost use Rattle.scl_drafts.specs.Flaws.{names};
 
 use crate::name_row::NameRow;

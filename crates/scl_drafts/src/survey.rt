@@ -4,7 +4,7 @@ ghost use Rattle.std.specs.Prelude.{◌≡◌, OnOk};
 ghost use Rattle.sc_graph.specs.Limits.{child_limit};
 ghost use Rattle.drafts.specs.Flaws.{flaw_if, is_full};
 ghost use Rattle.scl_drafts.specs.Flaws.{in_row, thread, only_flaws, part_of, parts_of};
-ghost use Rattle.scl_drafts.specs.Survey.{survey, behind, found_behind, label_part};
+ghost use Rattle.scl_drafts.specs.Inside.Survey.{survey, behind, found_behind, label_part};
 ghost use Rattle.sc_text.specs.declared.read_fault.FaultKind.TheVariants.{Limit};
 
 use crate::labels::note_lost;

@@ -17,7 +17,7 @@ use Rattle.sct_command.specs.declared.fault.Fault.TheVariants as fault
 use Rattle.sct_command.specs.Beside.{AreWarnings, AreWarningsOf, IsReported, SaysOfFault}
 use Rattle.sct_command.specs.Explaining.{IsReport, IsReportOf}
 use Rattle.sct_command.specs.Inside.Held.{IsHeldReport, IsMemory, IsSpelt, KeepsProgram, RefusesProgram, SaysOfBytes}
-use Rattle.sct_command.specs.StoredImage.{KeepsImage, RefusesKeeping}
+use Rattle.sct_command.specs.Inside.StoredImage.{KeepsImage, RefusesKeeping}
 use Rattle.sct_command.specs.Sources.{AreOfProgram, Compiles, RefusesCompile, RefusesWriting}
 use Rattle.sct_command.specs.Writing.{RefusesToWrite, Writes}
 

@@ -4,7 +4,6 @@ pub mod Explaining
 pub mod Failing
 pub mod FaultText
 pub mod Inside
-pub mod StoredImage
 pub mod Running
 pub mod Simulating
 pub mod Sources

@@ -115,7 +115,7 @@ fn say<X: Sink>(said: &str, errors: &mut X) -> u8
 }
 
 // Writes the help that was asked for, or else what is wrong with the words.
-fn show<W: Sink, X: Sink>(
+fn write_help<W: Sink, X: Sink>(
     alloc: Global,
     text: &str,
     asked: bool,
@@ -284,7 +284,7 @@ pub fn command<T: Threads + Wait + Sync, F: Files, R: Source, W: Sink, X: Sink>(
     let asked = match read_words(alloc, words) {
         Ok(asked) => asked,
         Err(Unread::Shown { text, asked }) => {
-            return show(alloc, text.as_str(), asked, are_people, output, errors);
+            return write_help(alloc, text.as_str(), asked, are_people, output, errors);
         }
         Err(Unread::Memory) => {
             return refuse(

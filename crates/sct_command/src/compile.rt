@@ -6,7 +6,7 @@ ghost use Rattle.command_files.specs.Standing.{StandsFor};
 ghost use Rattle.sct_command.specs.Beside.{AreWarnings, AreWarningsOf, SaysOfFault};
 ghost use Rattle.sct_command.specs.Failing.{files_failed, reads_failed, writes_failed};
 ghost use Rattle.sct_command.specs.Inside.Held.{KeepsProgram, RefusesProgram, SaysOfBytes};
-ghost use Rattle.sct_command.specs.StoredImage.{KeepsImage, RefusesKeeping};
+ghost use Rattle.sct_command.specs.Inside.StoredImage.{KeepsImage, RefusesKeeping};
 ghost use Rattle.sct_command.specs.Sources.{Compiles, RefusesCompile};
 
 use crate::fault::Fault;

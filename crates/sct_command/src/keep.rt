@@ -2,7 +2,7 @@
 
 ghost use Rattle.std.specs.Prelude.{◌≡◌, ◌+◌, IfErr, OnOk};
 ghost use Rattle.sct_command.specs.Failing.{files_failed, reads_failed, writes_failed};
-ghost use Rattle.sct_command.specs.StoredImage.{KeepsImage, RefusesKeeping};
+ghost use Rattle.sct_command.specs.Inside.StoredImage.{KeepsImage, RefusesKeeping};
 
 use crate::fault::Fault;
 use bytecode::encode;

@@ -15,7 +15,7 @@ use Rattle.tick_laws.proofs.Sound.{keeps_self}
 use Rattle.tick_laws.proofs.Views.{enabled_view, does}
 use Rattle.tick_core.specs.Claims.{Claim}
 use Rattle.tick_core.specs.State.{InTick, Holds, Advances}
-use Rattle.tick_core.specs.Inside.Sorting.{step_priority, unless_claimed, ready_row, OwnRows, AreSorted, StandSorted, sorted_one}
+use Rattle.tick_core.specs.Space.Sorting.{step_priority, unless_claimed, ready_row, OwnRows, AreSorted, StandSorted, sorted_one}
 use Rattle.tick_core.specs.Inside.Turns.{OpenAt}
 use Rattle.tick_core.proofs.StateKept.{still_open, configuration}
 use Rattle.tick_core.proofs.Opened.{none_counted, none_counted_at, count_opened}

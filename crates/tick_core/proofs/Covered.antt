@@ -17,8 +17,8 @@ use Rattle.sc_graph.specs.Valid.{IsValid}
 use Rattle.tick_laws.proofs.Lists.{contained, contains_none, map_some, same_or_not, slice_get_there}
 use Rattle.tick_core.specs.declared.listed.Listed.{Listed}
 use Rattle.tick_core.specs.Inside.Astir.{IsAstir, AstirListed, Covers, FitsTick, Gains, StaysListed}
-use Rattle.tick_core.specs.Inside.Sorting.{children_at}
-use Rattle.tick_core.specs.Inside.There.{AllListed, AreListed}
+use Rattle.tick_core.specs.Space.Sorting.{children_at}
+use Rattle.tick_core.specs.Space.There.{AllListed, AreListed}
 use Rattle.tick_core.proofs.ListedThreads.{everybody_listed}
 use Rattle.tick_core.proofs.Unmoved.{same_behind, stays_configuration}
 

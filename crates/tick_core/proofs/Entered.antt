@@ -13,8 +13,8 @@ use Rattle.sc_graph.specs.Tables.{priority_of}
 use Rattle.sc_graph.specs.Tick.{IsConfiguration}
 use Rattle.sc_graph.specs.Valid.{IsValid}
 use Rattle.tick_laws.proofs.Lists.{same_or_not}
-use Rattle.tick_core.specs.Inside.Living.{living}
-use Rattle.tick_core.specs.Inside.Sorting.{OwnRows, row_at, step_priority, sorted_one}
+use Rattle.tick_core.specs.Space.Living.{living}
+use Rattle.tick_core.specs.Space.Sorting.{OwnRows, row_at, step_priority, sorted_one}
 use Rattle.tick_core.specs.Inside.Waking.{IsPassedBy, EnteredBelow}
 use Rattle.tick_core.proofs.LivingChildren.{counts_more}
 use Rattle.tick_core.proofs.OwnRoom.{kept_there}

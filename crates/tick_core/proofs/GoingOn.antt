@@ -9,7 +9,7 @@ use Rattle.tick_core.specs.Claims.{Claim}
 use Rattle.tick_core.specs.declared.history.Entry.{Entry}
 use Rattle.tick_core.specs.State.{InTick, Holds}
 use Rattle.tick_core.specs.Events.{begun}
-use Rattle.tick_core.specs.Inside.Given.{HasPlaces}
+use Rattle.tick_core.specs.Space.Given.{HasPlaces}
 use Rattle.tick_core.specs.Inside.Turns.{OpenAt}
 use Rattle.tick_core.proofs.StateKept.{configuration, begun_configuration, holds_begun, no_claims_at, none_open, same_tick}
 

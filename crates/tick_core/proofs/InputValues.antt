@@ -16,7 +16,7 @@ use Rattle.sc_graph.specs.Valid.{IsValid}
 use Rattle.tick_laws.proofs.Formed.{valid_formed}
 use Rattle.tick_laws.proofs.Lists.{get_set_same, get_set_other, slice_get_there}
 use Rattle.tick_core.specs.Inside.Inputs.{IsForAt, NamesInput, IsAcceptedAt}
-use Rattle.tick_core.specs.Inside.Given.{HasOwnNames, Gives, IsGiven}
+use Rattle.tick_core.specs.Space.Given.{HasOwnNames, Gives, IsGiven}
 use Rattle.tick_core.proofs.Accepted.{accepted_at}
 
 abbrev pub Input : Type 0

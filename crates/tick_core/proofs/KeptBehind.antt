@@ -16,9 +16,9 @@ use Rattle.tick_laws.proofs.Lists.{get_set_same}
 use Rattle.tick_core.specs.declared.listed.Listed.{Listed}
 use Rattle.tick_core.specs.Claims.{Claim}
 use Rattle.tick_core.specs.Inside.Astir.{FitsTick, Gains}
-use Rattle.tick_core.specs.Inside.Living.{CountsLiving}
+use Rattle.tick_core.specs.Space.Living.{CountsLiving}
 use Rattle.tick_core.specs.Inside.Onward.{Goes, LeadsOn, MovesAlone, MovesAloneAt, StaysAt, own_row, step_here}
-use Rattle.tick_core.specs.Inside.Sorting.{AreSorted, children_of, children_at, children_at_step}
+use Rattle.tick_core.specs.Space.Sorting.{AreSorted, children_of, children_at, children_at_step}
 use Rattle.tick_core.specs.Inside.Turns.{OpenAt}
 use Rattle.tick_core.specs.Inside.Work.{value_at, value_of}
 use Rattle.tick_core.specs.Stepping.{code_of}

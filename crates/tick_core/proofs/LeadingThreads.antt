@@ -17,7 +17,7 @@ use Rattle.tick_laws.proofs.Lists.{get_set_same}
 use Rattle.tick_core.specs.Claims.{Claim}
 use Rattle.tick_core.specs.State.{InTick, Holds, Advances}
 use Rattle.tick_core.specs.Turns.{claim_of, IsReady, AreReady}
-use Rattle.tick_core.specs.Inside.Sorting.{row_at, step_priority, unless_claimed, ready_row, NodePriorities, OwnRows, AreSorted}
+use Rattle.tick_core.specs.Space.Sorting.{row_at, step_priority, unless_claimed, ready_row, NodePriorities, OwnRows, AreSorted}
 use Rattle.tick_core.specs.Inside.Onward.{LeadsOn}
 use Rattle.tick_core.specs.Inside.Turns.{OpenAt, NothingToClaim, IsUnclaimed, IsNext, DropsClaims, RunsBy}
 use Rattle.tick_core.proofs.StateKept.{enabled_within, configuration, has_place, alone_begins, alone_goes_on}

@@ -9,7 +9,7 @@ use Rattle.sc_graph.specs.declared.control.Control.{Control}
 use Rattle.sc_graph.specs.Program.{Program}
 use Rattle.sc_graph.specs.Tick.{IsPresent, initial}
 use Rattle.tick_laws.proofs.Lists.{contained, get_contains, get_set_same, get_set_other, map_some, same_or_not, slice_get_there}
-use Rattle.tick_core.specs.Inside.There.{AllListed, AreAbsent, AbsentBelow, ClearedBelow, StandsFrom, CopiedBelow, copied_by, copied_at}
+use Rattle.tick_core.specs.Space.There.{AllListed, AreAbsent, AbsentBelow, ClearedBelow, StandsFrom, CopiedBelow, copied_by, copied_at}
 use Rattle.tick_core.specs.Inside.Astir.{ChangedListed}
 
 -- where nobody is present, everybody who is present is listed

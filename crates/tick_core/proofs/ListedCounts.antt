@@ -8,7 +8,7 @@ use Rattle.sc_graph.specs.declared.control.Status.TheVariants as status
 use Rattle.sc_graph.specs.Program.{Program}
 use Rattle.sc_graph.specs.Control.{status_of, joined_at}
 use Rattle.tick_laws.proofs.Lists.{same_or_not}
-use Rattle.tick_core.specs.Inside.Living.{living}
+use Rattle.tick_core.specs.Space.Living.{living}
 use Rattle.tick_core.specs.Inside.Waking.{EntersCount}
 
 set_past : (xs : List ℕ) (t v : ℕ) → length xs ≤ t → slice_set xs t v ≡ xs

@@ -13,7 +13,7 @@ use Rattle.sc_graph.specs.Tables.{priority_of}
 use Rattle.sc_graph.specs.Tick.{IsConfiguration}
 use Rattle.sc_graph.specs.Valid.{IsValid}
 use Rattle.tick_laws.proofs.Lists.{same_or_not, get_contains, get_set_same, get_set_other}
-use Rattle.tick_core.specs.Inside.Sorting.{OwnRows, StandSorted, row_at, step_priority, sorted_one}
+use Rattle.tick_core.specs.Space.Sorting.{OwnRows, StandSorted, row_at, step_priority, sorted_one}
 use Rattle.tick_core.specs.Inside.Astir.{IsAstir, AstirListed}
 use Rattle.tick_core.specs.Inside.Waking.{EntersRow, EnteredThose, NobodyElse}
 use Rattle.tick_core.proofs.Covered.{astir_of}

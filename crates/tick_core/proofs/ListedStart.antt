@@ -8,7 +8,7 @@ use Rattle.sc_graph.specs.declared.control.Status.TheVariants as status
 use Rattle.sc_graph.specs.Program.{Program, entry_of}
 use Rattle.sc_graph.specs.Control.{has_ended, joined_at}
 use Rattle.sc_graph.specs.Tick.{Inputs, woken, root_started, statuses_at_start, start}
-use Rattle.tick_core.specs.Inside.Living.{lives, living, CountsLiving}
+use Rattle.tick_core.specs.Space.Living.{lives, living, CountsLiving}
 use Rattle.tick_core.proofs.LivingChildren.{same_counts}
 
 waited_woken : (s : Status) (j : ℕ) → woken s ≡ status.Waiting j → s ≡ status.Waiting j

@@ -13,9 +13,9 @@ use Rattle.sc_graph.specs.Valid.{IsFormed}
 use Rattle.tick_laws.proofs.Formed.{ChildOf, fork_of, joined_is, parent_below}
 use Rattle.tick_laws.proofs.Kin.{has_parent, present_in_range}
 use Rattle.tick_laws.proofs.Lists.{contains_get, get_contains, slice_get_there, same_or_not, map_some}
-use Rattle.tick_core.specs.Inside.Living.{living, CountsLiving}
-use Rattle.tick_core.specs.Inside.Sorting.{or_none}
-use Rattle.tick_core.specs.Inside.There.{AllListed, AreListed, Keeps, ListsChildren, ListedBelow, CountedBelow, children_waited, waited_at}
+use Rattle.tick_core.specs.Space.Living.{living, CountsLiving}
+use Rattle.tick_core.specs.Space.Sorting.{or_none}
+use Rattle.tick_core.specs.Space.There.{AllListed, AreListed, Keeps, ListsChildren, ListedBelow, CountedBelow, children_waited, waited_at}
 use Rattle.tick_core.specs.Inside.Waking.{EntersCount}
 use Rattle.tick_core.proofs.LivingChildren.{all_counted}
 use Rattle.tick_core.proofs.ListedCounts.{enters_count, passes_count}

@@ -7,7 +7,7 @@ use Rattle.sc_graph.specs.declared.control.Status.TheVariants as status
 use Rattle.sc_graph.specs.Program.{Program, entry_of}
 use Rattle.sc_graph.specs.Tick.{woken, root_started, statuses_at_start}
 use Rattle.tick_laws.proofs.Lists.{get_contains, get_set_same, get_set_other, same_or_not, map_some}
-use Rattle.tick_core.specs.Inside.There.{woken_by, woken_at, root_at_entry, CopiedBelow, StandsFrom, WokenBelow}
+use Rattle.tick_core.specs.Space.There.{woken_by, woken_at, root_at_entry, CopiedBelow, StandsFrom, WokenBelow}
 use Rattle.tick_core.specs.Inside.Astir.{IsAstir, AstirListed}
 
 woken_twice : (s : Status) → woken (woken s) ≡ woken s

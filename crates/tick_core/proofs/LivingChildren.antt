@@ -25,8 +25,8 @@ use Rattle.tick_laws.proofs.StepMoves.{StepMoves, step_moves}
 use Rattle.tick_laws.proofs.Views.{Does, Enabled, stands, completes, enabled_view}
 use Rattle.tick_laws.proofs.Views.{does as what_does}
 use Rattle.sc_graph.specs.Tables.{priority, priority_of}
-use Rattle.tick_core.specs.Inside.Sorting.{row_at, step_priority}
-use Rattle.tick_core.specs.Inside.Living.{lives, living, CountsLiving, one_less, counted_at}
+use Rattle.tick_core.specs.Space.Sorting.{row_at, step_priority}
+use Rattle.tick_core.specs.Space.Living.{lives, living, CountsLiving, one_less, counted_at}
 
 one_more : (f : ℕ → Bool) (k : ℕ) (ks : List ℕ) → count_by f (k ∷ ks) ≡ counts_one (f k) + count_by f ks
 one_more f k ks = sum_by-cons (λ i. counts_one (f i)) k ks

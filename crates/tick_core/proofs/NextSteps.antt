@@ -17,10 +17,10 @@ use Rattle.sc_graph.specs.Tick.{IsConfiguration}
 use Rattle.sc_graph.specs.Valid.{IsValid}
 use Rattle.tick_laws.proofs.Lists.{get_set_same, same_or_not, contains_none}
 use Rattle.tick_core.specs.Claims.{Claim}
-use Rattle.tick_core.specs.Inside.Living.{CountsLiving, counted_at}
+use Rattle.tick_core.specs.Space.Living.{CountsLiving, counted_at}
 use Rattle.tick_core.specs.Inside.Onward.{IsOwnAffair, own_row, MovesAlone, Goes, LeadsOn, StaysAt}
-use Rattle.tick_core.specs.Inside.Sorting.{row_at, step_priority, unless_claimed, ready_row, OwnRows, AreSorted, sorted_one, sorted_parent, sorted_all}
-use Rattle.tick_core.specs.Inside.Sorting.{ended_parent, children_at}
+use Rattle.tick_core.specs.Space.Sorting.{row_at, step_priority, unless_claimed, ready_row, OwnRows, AreSorted, sorted_one, sorted_parent, sorted_all}
+use Rattle.tick_core.specs.Space.Sorting.{ended_parent, children_at}
 use Rattle.tick_core.proofs.LeadingThreads.{ready_of}
 use Rattle.tick_core.proofs.LivingChildren.{counts_after}
 use Rattle.tick_core.proofs.OwnRoom.{has_room, kept_one}

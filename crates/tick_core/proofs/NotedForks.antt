@@ -14,7 +14,7 @@ use Rattle.sc_graph.specs.Control.{joined_by, first_of, joined_among, joined_at}
 use Rattle.sc_graph.specs.Valid.{IsValid}
 use Rattle.tick_laws.proofs.Formed.{valid_formed, join_of, fork_join_owned}
 use Rattle.tick_laws.proofs.Lists.{same_or_not, get_set_same, get_set_other, map_some, slice_get_there}
-use Rattle.tick_core.specs.Inside.Joins.{noted_children, FindsForks, FindsBelow, noted_at, noted_step}
+use Rattle.tick_core.specs.Space.Joins.{noted_children, FindsForks, FindsBelow, noted_at, noted_step}
 
 first_none : (o : Option (List ℕ)) → first_of o None ≡ o
 first_none None = refl

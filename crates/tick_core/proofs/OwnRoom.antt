@@ -17,7 +17,7 @@ use Rattle.tick_laws.proofs.Lists.{map_some}
 use Rattle.tick_laws.proofs.Views.{enabled_view}
 use Rattle.tick_laws.proofs.EnabledPairs.{StepsFrom, steps_from}
 use Rattle.tick_core.specs.Claims.{Claim}
-use Rattle.tick_core.specs.Inside.Sorting.{row_at, step_priority, unless_claimed, ready_row, OwnsNode, OwnRows, sorted_one}
+use Rattle.tick_core.specs.Space.Sorting.{row_at, step_priority, unless_claimed, ready_row, OwnsNode, OwnRows, sorted_one}
 
 module _ (p : Program) (q : Tables) (rows : Rows) (h : OwnRows p q rows) (t : ℕ) (below : t < length p.threads) where
   in_rows : t < length rows.classes

@@ -6,7 +6,7 @@ use Rattle.sc_graph.specs.Tick.{Rests, statuses_at_start}
 use Rattle.bytecode.specs.Image.{Image}
 use Rattle.tick_core.specs.declared.state.parking.ParkedSpace.{ParkedSpace}
 use Rattle.tick_core.specs.Parked.{IsSpaceOf}
-use Rattle.tick_core.specs.Inside.There.{AllListed}
+use Rattle.tick_core.specs.Space.There.{AllListed}
 use Rattle.tick_core.proofs.Covered.{start_long}
 
 pub record AsLong (a b : Control) : Type 0 where

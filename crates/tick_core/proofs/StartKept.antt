@@ -5,7 +5,7 @@ use Rattle.sc_graph.specs.Tick.{IsConfiguration}
 use Rattle.sc_graph.specs.Valid.{IsValid}
 use Rattle.bytecode.specs.Image.{Image}
 use Rattle.tick_core.specs.State.{InTick, Holds, BeginsTick}
-use Rattle.tick_core.specs.Inside.Given.{HasPlaces}
+use Rattle.tick_core.specs.Space.Given.{HasPlaces}
 use Rattle.tick_core.proofs.StateKept.{begun_configuration}
 
 -- where a tick begins is a configuration

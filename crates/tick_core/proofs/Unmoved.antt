@@ -24,8 +24,8 @@ use Rattle.tick_laws.proofs.ConfigurationKept.{configuration_kept}
 use Rattle.tick_laws.proofs.Moves.{IsMoved, moved_other, entering_movers, leaving_movers}
 use Rattle.tick_laws.proofs.Sound.{whom, IsIdleChild, fork_of_join}
 use Rattle.tick_core.specs.Claims.{Claim}
-use Rattle.tick_core.specs.Inside.Sorting.{row_at, step_priority, unless_claimed, ready_row, OwnRows, AreSorted, sorted_one, sorted_parent, sorted_all}
-use Rattle.tick_core.specs.Inside.Sorting.{ended_parent, children_at, or_none, children_at_step}
+use Rattle.tick_core.specs.Space.Sorting.{row_at, step_priority, unless_claimed, ready_row, OwnRows, AreSorted, sorted_one, sorted_parent, sorted_all}
+use Rattle.tick_core.specs.Space.Sorting.{ended_parent, children_at, or_none, children_at_step}
 
 same_tests : (f g : ℕ → Bool) (ks : List ℕ) → ((k : ℕ) → Contains ks k → f k ≡ g k) → list_all f ks ≡ list_all g ks
 same_tests f g [] each = refl

@@ -6,6 +6,7 @@ pub mod Turns
 pub mod Events
 pub mod Taking
 pub mod Again
+pub mod Space
 pub mod Parked
 pub mod FaultText
 pub mod Judging

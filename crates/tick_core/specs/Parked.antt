@@ -3,10 +3,10 @@ use Rattle.std.specs.Prelude.{◌≡◌, ◌≤◌, None, length, map, vec_capac
 use Rattle.sc_graph.specs.Program.{kinds}
 use Rattle.bytecode.specs.Image.{Image}
 use Rattle.tick_core.specs.declared.state.parking.ParkedSpace.{ParkedSpace}
-use Rattle.tick_core.specs.Inside.Joins.{FindsForks}
-use Rattle.tick_core.specs.Inside.Sorting.{OwnRows}
-use Rattle.tick_core.specs.Inside.Given.{HasPlaces}
-use Rattle.tick_core.specs.Inside.There.{AllListed}
+use Rattle.tick_core.specs.Space.Joins.{FindsForks}
+use Rattle.tick_core.specs.Space.Sorting.{OwnRows}
+use Rattle.tick_core.specs.Space.Given.{HasPlaces}
+use Rattle.tick_core.specs.Space.There.{AllListed}
 
 -- it is made for the ticks of this image: its tables are of its program, and it has room for each node, thread and variable
 pub record IsSpaceOf (image : Image) (space : ParkedSpace) : Type 0 where

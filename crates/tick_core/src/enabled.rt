@@ -4,7 +4,7 @@ ghost use Rattle.std.specs.Prelude.{◌≡◌, ◌≤◌, ℕ, IsTrue, IfNone, I
 ghost use Rattle.std.specs.Option.{option_copied};
 ghost use Rattle.std.specs.List.{list_all};
 ghost use Rattle.sc_graph.specs.Control.{status_of, has_ended, is_enabled, IsEnabled};
-ghost use Rattle.tick_core.specs.Inside.Joins.{FindsForks};
+ghost use Rattle.tick_core.specs.Space.Joins.{FindsForks};
 
 use crate::joins::Joins;
 use sc_graph::{Control, Program, Status, ThreadId};

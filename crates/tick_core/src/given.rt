@@ -3,7 +3,7 @@
 ghost use Rattle.std.specs.Prelude.{◌≡◌, ◌↔◌, ◌<◌, ℕ, IfOk, IsTrue, Some, None, length, slice_get, slice_set};
 ghost use Rattle.std.specs.Bool.{OnTrue};
 ghost use Rattle.sc_graph.specs.Tick.{AreAccepted};
-ghost use Rattle.tick_core.specs.Inside.Given.{HasOwnNames, Gives, IsGiven};
+ghost use Rattle.tick_core.specs.Space.Given.{HasOwnNames, Gives, IsGiven};
 
 use crate::guesses::Guesses;
 use sc_graph::Program;

@@ -39,14 +39,19 @@ impl Guesses {
     ) -> Option<usize>
         ensures { MatchOption result (¬ NamesInput variables.now input.now) (IsForAt variables.now input.now) }
     {
-        match self.near(variables, input, at) {
+        match self.among_the_next(variables, input, at) {
             Some(place) => Some(place),
             None => place_of(variables, input, self.by_name.get(&input.0).copied()),
         }
     }
 
     // The variable that an input is for, where it is one of the next few in the order of names.
-    fn near(&self, variables: &[Variable], input: &(Name, Value), at: usize) -> Option<usize>
+    fn among_the_next(
+        &self,
+        variables: &[Variable],
+        input: &(Name, Value),
+        at: usize,
+    ) -> Option<usize>
         ensures { IfSome result (IsForAt variables.now input.now) }
     {
         for next in at..at.saturating_add(NEAR) {

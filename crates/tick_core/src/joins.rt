@@ -4,7 +4,7 @@ ghost use Rattle.std.specs.Prelude.{◌≡◌, ◌<◌, Some, IfOk, length, slic
 ghost use Rattle.std.specs.Option.{option_copied};
 ghost use Rattle.sc_graph.specs.Program.{step_at};
 ghost use Rattle.sc_graph.specs.Control.{joined_at};
-ghost use Rattle.tick_core.specs.Inside.Joins.{FindsForks, noted, noted_step};
+ghost use Rattle.tick_core.specs.Space.Joins.{FindsForks, noted, noted_step};
 
 use sc_graph::{NodeId, Program, Step, ThreadId};
 use std::alloc::{AllocError, Global};

@@ -5,7 +5,7 @@ ghost use Rattle.std.specs.Result.{IsErrOf};
 ghost use Rattle.sc_graph.specs.Tick.{Rests, AreAccepted, IsConfiguration, start};
 ghost use Rattle.tick_core.specs.Judging.{IsJudgement};
 ghost use Rattle.tick_core.specs.Inside.Judging.{JudgesSteps};
-ghost use Rattle.tick_core.specs.Inside.Joins.{FindsForks};
+ghost use Rattle.tick_core.specs.Space.Joins.{FindsForks};
 
 mod forbidden;
 mod replaying;

@@ -6,7 +6,7 @@ ghost use Rattle.sc_graph.specs.Machine.{machine};
 ghost use Rattle.sc_graph.specs.Priority.{Leads};
 ghost use Rattle.sc_graph.specs.Tables.{priority_of};
 ghost use Rattle.tick_core.specs.Inside.Leading.{BestBelow};
-ghost use Rattle.tick_core.specs.Inside.Joins.{FindsForks};
+ghost use Rattle.tick_core.specs.Space.Joins.{FindsForks};
 
 use crate::enabled::is_enabled;
 use crate::joins::Joins;

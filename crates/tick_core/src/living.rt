@@ -3,8 +3,8 @@
 ghost use Rattle.std.specs.Prelude.{ℕ, ◌≡◌, ◌-◌, count_by, slice_index, slice_set};
 ghost use Rattle.sc_graph.specs.declared.control.Status.TheVariants.{Waiting};
 ghost use Rattle.sc_graph.specs.Control.{status_of, joined_at};
-ghost use Rattle.tick_core.specs.Inside.Joins.{FindsForks};
-ghost use Rattle.tick_core.specs.Inside.Living.{lives, living, counted_at};
+ghost use Rattle.tick_core.specs.Space.Joins.{FindsForks};
+ghost use Rattle.tick_core.specs.Space.Living.{lives, living, counted_at};
 
 use crate::joins::Joins;
 use sc_graph::{Control, NodeId, Program, Status, ThreadId};

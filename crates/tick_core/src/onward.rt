@@ -7,10 +7,10 @@ ghost use Rattle.sc_graph.specs.Control.{status_of};
 ghost use Rattle.sc_graph.specs.Tick.{IsConfiguration};
 ghost use Rattle.sc_graph.specs.Valid.{IsValid};
 ghost use Rattle.tick_core.specs.Inside.Astir.{Gains};
-ghost use Rattle.tick_core.specs.Inside.Joins.{FindsForks};
-ghost use Rattle.tick_core.specs.Inside.Living.{CountsLiving, counted_at};
-ghost use Rattle.tick_core.specs.Inside.Sorting.{AreOpen, OwnRows, children_at, ready_row, sorted_one, sorted_parent};
-ghost use Rattle.tick_core.specs.Inside.Sorting.{ended_parent, sorted_all};
+ghost use Rattle.tick_core.specs.Space.Joins.{FindsForks};
+ghost use Rattle.tick_core.specs.Space.Living.{CountsLiving, counted_at};
+ghost use Rattle.tick_core.specs.Space.Sorting.{AreOpen, OwnRows, children_at, ready_row, sorted_one, sorted_parent};
+ghost use Rattle.tick_core.specs.Space.Sorting.{ended_parent, sorted_all};
 ghost use Rattle.tick_core.specs.Inside.Onward.{MayStep, Goes, LeadsOn, StaysAt, own_row};
 
 use crate::joins::Joins;

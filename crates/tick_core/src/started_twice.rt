@@ -3,8 +3,8 @@
 ghost use Rattle.std.specs.Prelude.{◌≡◌, length, map};
 ghost use Rattle.sc_graph.specs.Tick.{Inputs, statuses_at_start, start, values_at_start, woken};
 ghost use Rattle.tick_core.specs.Inside.Astir.{AstirListed, ChangedListed};
-ghost use Rattle.tick_core.specs.Inside.Given.{Gives};
-ghost use Rattle.tick_core.specs.Inside.There.{copied_at, woken_at};
+ghost use Rattle.tick_core.specs.Space.Given.{Gives};
+ghost use Rattle.tick_core.specs.Space.There.{copied_at, woken_at};
 
 use crate::starting::{enter_root, started_value, woken};
 use crate::stepping::put_status;

@@ -4,8 +4,8 @@ ghost use Rattle.std.specs.Prelude.{◌≡◌, IfOk, length, map};
 ghost use Rattle.sc_graph.specs.Program.{entry_of};
 ghost use Rattle.sc_graph.specs.Tick.{Inputs, AreAccepted, given, value_at_start, values_at_start, woken};
 ghost use Rattle.sc_graph.specs.Tick.{statuses_at_start, start};
-ghost use Rattle.tick_core.specs.Inside.Given.{HasOwnNames, Gives};
-ghost use Rattle.tick_core.specs.Inside.There.{root_at_entry};
+ghost use Rattle.tick_core.specs.Space.Given.{HasOwnNames, Gives};
+ghost use Rattle.tick_core.specs.Space.There.{root_at_entry};
 
 use crate::copying::copied;
 use crate::given::Given;

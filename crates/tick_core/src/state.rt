@@ -106,9 +106,9 @@ impl<'a> Model for TickState<'a> {
     ghost use Rattle.std.specs.Prelude.{◌≡◌, ◌≤◌, length, vec_capacity};
     ghost use Rattle.sc_graph.specs.Program.{kinds};
     ghost use Rattle.tick_core.specs.State.{InTick, Holds};
-    ghost use Rattle.tick_core.specs.Inside.Joins.{FindsForks};
-    ghost use Rattle.tick_core.specs.Inside.Living.{CountsLiving};
-    ghost use Rattle.tick_core.specs.Inside.Sorting.{AreSorted};
+    ghost use Rattle.tick_core.specs.Space.Joins.{FindsForks};
+    ghost use Rattle.tick_core.specs.Space.Living.{CountsLiving};
+    ghost use Rattle.tick_core.specs.Space.Sorting.{AreSorted};
     ghost use Rattle.tick_core.specs.Inside.Astir.{FitsTick};
     ghost use Rattle.tick_core.specs.Inside.Turns.{OpenAt};
 

@@ -7,7 +7,7 @@ ghost use Rattle.sc_graph.specs.Control.{status_of};
 ghost use Rattle.sc_graph.specs.Steps.{Keep, Put, Combine, enters, moved, after, node_effect, step};
 ghost use Rattle.tick_core.specs.Stepping.{code_at};
 ghost use Rattle.tick_core.specs.Inside.Work.{value_of, value_at};
-ghost use Rattle.tick_core.specs.Inside.Joins.{FindsForks};
+ghost use Rattle.tick_core.specs.Space.Joins.{FindsForks};
 ghost use Rattle.tick_core.specs.Inside.Onward.{MovesAloneAt, MovesAlone, IsOwnStep, step_here};
 
 use crate::joins::Joins;

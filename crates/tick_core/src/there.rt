@@ -6,9 +6,9 @@ ghost use Rattle.std.specs.Bool.{OnTrue};
 ghost use Rattle.sc_graph.specs.Control.{status_of};
 ghost use Rattle.sc_graph.specs.Tick.{IsConfiguration};
 ghost use Rattle.sc_graph.specs.Valid.{IsFormed};
-ghost use Rattle.tick_core.specs.Inside.Joins.{FindsForks};
-ghost use Rattle.tick_core.specs.Inside.Living.{CountsLiving, lives};
-ghost use Rattle.tick_core.specs.Inside.There.{AllListed, AreAbsent, AreListed, children_waited, waited_at};
+ghost use Rattle.tick_core.specs.Space.Joins.{FindsForks};
+ghost use Rattle.tick_core.specs.Space.Living.{CountsLiving, lives};
+ghost use Rattle.tick_core.specs.Space.There.{AllListed, AreAbsent, AreListed, children_waited, waited_at};
 
 use crate::joins::Joins;
 use crate::living::put;

@@ -7,9 +7,9 @@ ghost use Rattle.sc_graph.specs.Control.{status_of, joined_at};
 ghost use Rattle.sc_graph.specs.Program.{Program as Graph};
 ghost use Rattle.sc_graph.specs.Tick.{IsConfiguration};
 ghost use Rattle.sc_graph.specs.Valid.{IsValid};
-ghost use Rattle.tick_core.specs.Inside.Joins.{FindsForks};
-ghost use Rattle.tick_core.specs.Inside.Living.{living, CountsLiving};
-ghost use Rattle.tick_core.specs.Inside.Sorting.{OwnRows, StandSorted, step_priority};
+ghost use Rattle.tick_core.specs.Space.Joins.{FindsForks};
+ghost use Rattle.tick_core.specs.Space.Living.{living, CountsLiving};
+ghost use Rattle.tick_core.specs.Space.Sorting.{OwnRows, StandSorted, step_priority};
 ghost use Rattle.tick_core.specs.Inside.Waking.{IsPassedBy};
 
 use crate::joins::Joins;

@@ -20,7 +20,7 @@ use Rattle.trace_player.specs.Published.{PlaysTo, PlaysFirstTo, PlaysPartTo, Lea
 use Rattle.trace_player.specs.Channels.{Gains}
 use Rattle.probe.specs.Outputs.{Outputs}
 use Rattle.trace_player.proofs.Ending.{Told, none_told, one_told, published, published_so_far}
-use Rattle.trace_player.specs.Faults.{Tells}
+use Rattle.trace_player.specs.Inside.Faults.{Tells}
 use Rattle.trace_player.specs.Unread.{unread}
 use Rattle.trace_player.proofs.Splits.{Cut, known_lines, cut_known, are_lines, cut_at_end, cut_taken, cut_too_long}
 

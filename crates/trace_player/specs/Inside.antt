@@ -2,3 +2,4 @@
 pub mod HeldBack
 pub mod Playing
 pub mod Resting
+pub mod Faults

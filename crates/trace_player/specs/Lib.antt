@@ -1,6 +1,5 @@
 pub mod Channels
 pub mod FaultText
-pub mod Faults
 pub mod Trace
 pub mod Published
 pub mod Unread

@@ -5,7 +5,7 @@ ghost use Rattle.std.specs.Result.{IsErrOf};
 ghost use Rattle.sc_graph.specs.Tick.{AreAccepted, Rests};
 ghost use Rattle.trace_lines.specs.Lines.{line_limit};
 ghost use Rattle.trace_player.specs.Trace.{Reacts, Shows};
-ghost use Rattle.trace_player.specs.Faults.{Tells};
+ghost use Rattle.trace_player.specs.Inside.Faults.{Tells};
 ghost use Rattle.trace_player.specs.Inside.Resting.{HasSteps, IsAtRest, Ticked, rest_behind};
 
 use crate::player::PlayFault;

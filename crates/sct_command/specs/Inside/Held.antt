@@ -8,7 +8,7 @@ use Rattle.command_files.specs.Files.{Contents}
 use Rattle.command_files.specs.Sources.{BytesLackImage, SpellsImage}
 use Rattle.command_files.specs.Storing.{IsNotStored}
 use Rattle.sct_command.specs.Explaining.{IsReport}
-use Rattle.sct_command.specs.StoredImage.{KeepsImage, KeepsPart}
+use Rattle.sct_command.specs.Inside.StoredImage.{KeepsImage, KeepsPart}
 use Rattle.sct_command.specs.declared.source_image.HeldSource.{HeldSource}
 use Rattle.sct_command.specs.declared.fault.Fault.{Fault}
 use Rattle.sct_command.specs.declared.fault.Fault.TheVariants as fault

@@ -7,7 +7,7 @@ use Rattle.sc_graph.specs.declared.control.Status.TheVariants as status
 use Rattle.sc_graph.specs.Program.{Program}
 use Rattle.sc_graph.specs.Control.{status_of}
 use Rattle.tick_core.specs.declared.listed.Listed.{Listed}
-use Rattle.tick_core.specs.Inside.There.{AllListed}
+use Rattle.tick_core.specs.Space.There.{AllListed}
 
 -- at a node, at a join or paused
 abbrev pub IsAstir : Status → Type 0

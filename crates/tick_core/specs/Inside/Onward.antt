@@ -16,9 +16,9 @@ use Rattle.sc_graph.specs.Tables.{priority}
 use Rattle.sc_graph.specs.Tick.{IsConfiguration}
 use Rattle.sc_graph.specs.Valid.{IsValid}
 use Rattle.tick_core.specs.Claims.{Claim}
-use Rattle.tick_core.specs.Inside.Joins.{FindsForks}
-use Rattle.tick_core.specs.Inside.Living.{CountsLiving}
-use Rattle.tick_core.specs.Inside.Sorting.{AreOpen, OwnRows, AreSorted, children_of, children_at}
+use Rattle.tick_core.specs.Space.Joins.{FindsForks}
+use Rattle.tick_core.specs.Space.Living.{CountsLiving}
+use Rattle.tick_core.specs.Space.Sorting.{AreOpen, OwnRows, AreSorted, children_of, children_at}
 use Rattle.tick_core.specs.Inside.Work.{value_at}
 
 -- at a node, or paused: nobody else's count or row hangs on it

@@ -7,8 +7,8 @@ use Rattle.sc_graph.specs.declared.control.Status.TheVariants as status
 use Rattle.sc_graph.specs.declared.tables.Tables.{Tables}
 use Rattle.sc_graph.specs.Program.{Program}
 use Rattle.sc_graph.specs.Control.{status_of, joined_at}
-use Rattle.tick_core.specs.Inside.Living.{living}
-use Rattle.tick_core.specs.Inside.Sorting.{OwnRows, step_priority}
+use Rattle.tick_core.specs.Space.Living.{living}
+use Rattle.tick_core.specs.Space.Sorting.{OwnRows, step_priority}
 
 -- a thread that stands so takes no step and waits for nobody, and before nobody stood in a row
 abbrev pub IsPassedBy : Bool → Status → Type 0

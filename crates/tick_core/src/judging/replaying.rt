@@ -7,7 +7,7 @@ ghost use Rattle.sc_graph.specs.Steps.{step};
 ghost use Rattle.sc_graph.specs.Tick.{IsConfiguration};
 ghost use Rattle.tick_core.specs.State.{BeginsTick};
 ghost use Rattle.tick_core.specs.Inside.Judging.{ReplaysTo, StepsAt};
-ghost use Rattle.tick_core.specs.Inside.Joins.{FindsForks};
+ghost use Rattle.tick_core.specs.Space.Joins.{FindsForks};
 
 use crate::enabled::is_enabled;
 use crate::joins::Joins;

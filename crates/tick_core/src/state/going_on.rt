@@ -6,7 +6,7 @@ ghost use Rattle.sc_graph.specs.Machine.{machine};
 ghost use Rattle.sc_graph.specs.Tick.{AreAccepted, Inputs as Given, start as at_start};
 ghost use Rattle.tick_core.specs.Events.{begun};
 ghost use Rattle.tick_core.specs.Inside.Astir.{Covers, FitsTick};
-ghost use Rattle.tick_core.specs.Inside.Given.{Gives, HasPlaces};
+ghost use Rattle.tick_core.specs.Space.Given.{Gives, HasPlaces};
 
 use crate::inputs::Inputs;
 use crate::listed::Listed;

@@ -8,9 +8,9 @@ ghost use Rattle.sc_graph.specs.Valid.{IsValid};
 ghost use Rattle.tick_core.specs.Again.{begun_again};
 ghost use Rattle.tick_core.specs.Parked.{IsSpaceOf};
 ghost use Rattle.tick_core.specs.State.{BeginsTick};
-ghost use Rattle.tick_core.specs.Inside.Living.{CountsLiving};
-ghost use Rattle.tick_core.specs.Inside.Sorting.{StandSorted};
-ghost use Rattle.tick_core.specs.Inside.There.{AreAbsent, AreListed};
+ghost use Rattle.tick_core.specs.Space.Living.{CountsLiving};
+ghost use Rattle.tick_core.specs.Space.Sorting.{StandSorted};
+ghost use Rattle.tick_core.specs.Space.There.{AreAbsent, AreListed};
 
 use crate::copying::copy_into;
 use crate::listed::Listed;

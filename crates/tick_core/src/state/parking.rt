@@ -2,8 +2,8 @@
 
 ghost use Rattle.std.specs.Prelude.{◌≡◌, OnOk, length};
 ghost use Rattle.tick_core.specs.Parked.{IsSpaceOf};
-ghost use Rattle.tick_core.specs.Inside.Joins.{FindsForks};
-ghost use Rattle.tick_core.specs.Inside.Sorting.{OwnRows};
+ghost use Rattle.tick_core.specs.Space.Joins.{FindsForks};
+ghost use Rattle.tick_core.specs.Space.Sorting.{OwnRows};
 
 use crate::given::Given;
 use crate::history::Entry;

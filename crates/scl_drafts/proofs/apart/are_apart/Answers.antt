@@ -1,5 +1,5 @@
 use Rattle.std.proofs.Common.{subst}
-use Rattle.scl_drafts.specs.Apart.{AreRising}
+use Rattle.scl_drafts.specs.Inside.Apart.{AreRising}
 use Rattle.scl_drafts.specs.Flaws.{names}
 use Rattle.scl_drafts.proofs.AllApart.{rising_apart}
 use Rattle.scl_drafts.proofs.apart.are_apart.Goals as goal

@@ -1,5 +1,5 @@
 use Rattle.std.proofs.Common.{◌≡◌, drop}
-use Rattle.scl_drafts.specs.Apart.{number_from}
+use Rattle.scl_drafts.specs.Inside.Apart.{number_from}
 use Rattle.scl_drafts.proofs.apart.number_of.Given as goal
 
 abbrev pub invariant-loop-byte : goal.invariant-loop-byte

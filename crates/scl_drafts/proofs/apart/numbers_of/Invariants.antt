@@ -1,5 +1,5 @@
 use Rattle.std.proofs.Common.{◌≡◌, ◌++◌, drop, map}
-use Rattle.scl_drafts.specs.Apart.{number_of}
+use Rattle.scl_drafts.specs.Inside.Apart.{number_of}
 use Rattle.scl_drafts.specs.Flaws.{names}
 use Rattle.scl_drafts.proofs.apart.numbers_of.Given as goal
 

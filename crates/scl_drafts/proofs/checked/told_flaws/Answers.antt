@@ -2,7 +2,7 @@ use Rattle.std.proofs.Common.{◌≡◌, ap, ◌∙◌, []}
 use Rattle.drafts.specs.Flaws.{variable_flaws, variable_names}
 use Rattle.drafts.specs.Told.{told_behind}
 use Rattle.scl_drafts.specs.Flaws.{root}
-use Rattle.scl_drafts.specs.Survey.{found_behind}
+use Rattle.scl_drafts.specs.Inside.Survey.{found_behind}
 use Rattle.scl_drafts.proofs.Checking.{all_told}
 use Rattle.scl_drafts.proofs.checked.told_flaws.Goals as goal
 

@@ -8,7 +8,7 @@ use Rattle.scl_drafts.specs.declared.survey.Thread.{Thread}
 use Rattle.scl_drafts.specs.declared.survey.Found.{Found}
 use Rattle.scl_drafts.specs.Statements.{Statements}
 use Rattle.scl_drafts.specs.Flaws.{names, in_row, lost, thread, side_by_side, parts_of}
-use Rattle.scl_drafts.specs.Survey.{Survey, survey, behind, found_behind, branch_parts}
+use Rattle.scl_drafts.specs.Inside.Survey.{Survey, survey, behind, found_behind, branch_parts}
 use Rattle.scl_drafts.proofs.Surveyed.{branch_step, branches_over, fork_surveyed, if_surveyed, row_step, thread_found}
 use Rattle.scl_drafts.proofs.survey.+survey.Goals as goal
 

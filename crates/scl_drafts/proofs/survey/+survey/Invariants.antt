@@ -1,6 +1,6 @@
 use Rattle.std.proofs.Common.{◌≡◌, drop}
 use Rattle.scl_drafts.specs.Flaws.{in_row, side_by_side, parts_of}
-use Rattle.scl_drafts.specs.Survey.{survey, behind, found_behind, branch_parts}
+use Rattle.scl_drafts.specs.Inside.Survey.{survey, behind, found_behind, branch_parts}
 use Rattle.scl_drafts.proofs.survey.+survey.Given as goal
 
 abbrev pub invariant-survey_statements-loop-statement : goal.invariant-survey_statements-loop-statement

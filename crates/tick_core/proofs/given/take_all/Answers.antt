@@ -1,7 +1,7 @@
 use Rattle.std.proofs.Common.{◌≡◌, ◌<◌, Some, None, length, slice_get, refl, sym, subst, arith}
 use Rattle.std.proofs.lemmas.Option.{slice_get_read, slice_get_within}
 use Rattle.tick_core.specs.Inside.Inputs.{IsForAt, NamesInput}
-use Rattle.tick_core.specs.Inside.Given.{Gives, IsGiven}
+use Rattle.tick_core.specs.Space.Given.{Gives, IsGiven}
 use Rattle.tick_core.proofs.Accepted.{accepted_from, accepted_below}
 use Rattle.tick_core.proofs.InputValues.{gives_next, accepted_next, given_twice, given_nowhere, not_given, place_within}
 use Rattle.tick_core.proofs.given.take_all.Goals as goal

@@ -1,7 +1,7 @@
 use Rattle.std.proofs.Common.{◌≡◌, ◌<◌, ℕ, List, Some, slice_get, take}
 use Rattle.sc_values.specs.declared.value.Value.{Value}
 use Rattle.tick_core.specs.Inside.Inputs.{IsAcceptedAt}
-use Rattle.tick_core.specs.Inside.Given.{Gives}
+use Rattle.tick_core.specs.Space.Given.{Gives}
 use Rattle.tick_core.proofs.given.take_all.Given as goal
 
 abbrev pub invariant-loop-at : goal.invariant-loop-at

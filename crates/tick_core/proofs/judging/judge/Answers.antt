@@ -5,7 +5,7 @@ use Rattle.sc_graph.specs.declared.control.Control.{Control}
 use Rattle.tick_core.specs.declared.judging.Judged.TheVariants as judged
 use Rattle.tick_core.specs.Judging.{IsNotRun}
 use Rattle.tick_core.specs.Inside.Judging.{ReplaysTo, RunsBy}
-use Rattle.tick_core.specs.Inside.Given.{HasOwnNames}
+use Rattle.tick_core.specs.Space.Given.{HasOwnNames}
 use Rattle.tick_core.proofs.InputValues.{own_names}
 use Rattle.tick_core.proofs.OneJudgement.{one_judgement}
 use Rattle.tick_core.proofs.Replaying.{reached_by}

@@ -1,8 +1,8 @@
 use Rattle.std.proofs.Common.{◌≡◌, List, ℕ, refl, sym, subst}
 use Rattle.sc_graph.specs.Control.{status_of}
 use Rattle.tick_core.specs.Inside.Astir.{Gains}
-use Rattle.tick_core.specs.Inside.Living.{CountsLiving}
-use Rattle.tick_core.specs.Inside.Sorting.{ready_row, sorted_one, sorted_parent, sorted_all, ended_parent}
+use Rattle.tick_core.specs.Space.Living.{CountsLiving}
+use Rattle.tick_core.specs.Space.Sorting.{ready_row, sorted_one, sorted_parent, sorted_all, ended_parent}
 use Rattle.tick_core.proofs.Unmoved.{children_in_at}
 use Rattle.tick_core.proofs.onward.settle_others.Goals as goal
 

@@ -2,7 +2,7 @@ use Rattle.std.proofs.Common.{ap, refl, subst}
 use Rattle.std.specs.Bool.{OnTrue}
 use Rattle.tick_core.specs.Inside.Onward.{StaysAt}
 use Rattle.tick_core.specs.Inside.Astir.{Gains}
-use Rattle.tick_core.specs.Inside.Sorting.{children_at}
+use Rattle.tick_core.specs.Space.Sorting.{children_at}
 use Rattle.tick_core.proofs.Covered.{gains_nobody}
 use Rattle.tick_core.proofs.LivingChildren.{counts_after}
 use Rattle.tick_core.proofs.NextSteps.{next_room, moves_on, steps_anew, leads_on}

@@ -1,6 +1,6 @@
 use Rattle.std.proofs.Common.{◌≡◌, ◌∙◌, Option, None, ℕ, ap, sym, subst, slice_set}
 use Rattle.buckets.specs.Rows.{HasRoom}
-use Rattle.tick_core.specs.Inside.Sorting.{step_priority}
+use Rattle.tick_core.specs.Space.Sorting.{step_priority}
 use Rattle.tick_core.specs.Inside.Waking.{EntersRow}
 use Rattle.tick_core.proofs.OwnRoom.{room_there}
 use Rattle.tick_core.proofs.ListedEntered.{enters_row, passes_idle}

@@ -1,5 +1,5 @@
 use Rattle.std.proofs.Common.{◌∙◌, sym, ap}
-use Rattle.tick_core.specs.Inside.Sorting.{step_priority, unless_claimed}
+use Rattle.tick_core.specs.Space.Sorting.{step_priority, unless_claimed}
 use Rattle.tick_core.proofs.Opened.{none_counted_at}
 use Rattle.tick_core.proofs.sorting.ready_row.Goals as goal
 

@@ -1,5 +1,5 @@
 use Rattle.std.proofs.Common.{◌≡◌, drop}
-use Rattle.tick_core.specs.Inside.Sorting.{OwnRows, ready_row, sorted_all}
+use Rattle.tick_core.specs.Space.Sorting.{OwnRows, ready_row, sorted_all}
 use Rattle.tick_core.proofs.sorting.sort_all.Given as goal
 
 abbrev pub invariant-loop-thread : goal.invariant-loop-thread

@@ -1,5 +1,5 @@
 use Rattle.std.proofs.Common.{arith, sym, subst}
-use Rattle.tick_core.specs.Inside.Sorting.{AreSorted, ready_row}
+use Rattle.tick_core.specs.Space.Sorting.{AreSorted, ready_row}
 use Rattle.tick_core.proofs.Unmoved.{sorted_more}
 use Rattle.tick_core.proofs.sorting.sort_every.Goals as goal
 

@@ -1,5 +1,5 @@
 use Rattle.std.proofs.Common.{◌≡◌, ◌<◌, ℕ, Some, slice_get}
-use Rattle.tick_core.specs.Inside.Sorting.{OwnRows, ready_row}
+use Rattle.tick_core.specs.Space.Sorting.{OwnRows, ready_row}
 use Rattle.tick_core.proofs.sorting.sort_every.Given as goal
 
 abbrev pub invariant-loop-thread : goal.invariant-loop-thread

@@ -1,6 +1,6 @@
 use Rattle.std.proofs.Common.{◌≡◌, Some, slice_get, get_or, sym, subst, arith}
 use Rattle.std.proofs.lemmas.Option.{slice_get-get_or}
-use Rattle.tick_core.specs.Inside.Sorting.{StandSorted}
+use Rattle.tick_core.specs.Space.Sorting.{StandSorted}
 use Rattle.tick_core.proofs.ListedEntered.{entered_none, entered_more, all_listed_sorted}
 use Rattle.tick_core.proofs.sorting.sort_listed.Goals as goal
 

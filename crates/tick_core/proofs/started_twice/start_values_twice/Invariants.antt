@@ -1,6 +1,6 @@
 use Rattle.std.proofs.Common.{◌≡◌, length, take}
 use Rattle.sc_graph.specs.Tick.{Inputs, values_at_start}
-use Rattle.tick_core.specs.Inside.Given.{Gives}
+use Rattle.tick_core.specs.Space.Given.{Gives}
 use Rattle.tick_core.proofs.Starts.{values_from}
 use Rattle.tick_core.proofs.started_twice.start_values_twice.Given as goal
 

@@ -1,6 +1,6 @@
 use Rattle.std.proofs.Common.{◌≡◌, ◌+◌, Some, slice_get, get_or, sym, subst, arith}
 use Rattle.std.proofs.lemmas.Option.{slice_get-get_or}
-use Rattle.tick_core.specs.Inside.There.{CopiedBelow, WokenBelow}
+use Rattle.tick_core.specs.Space.There.{CopiedBelow, WokenBelow}
 use Rattle.tick_core.proofs.ListedCopied.{copied_none, copied_more, all_copied}
 use Rattle.tick_core.proofs.ListedWoken.{woken_none, woken_below, all_woken, copied_still}
 use Rattle.tick_core.proofs.started_twice.wake_twice.Goals as goal

@@ -1,4 +1,4 @@
-use Rattle.tick_core.specs.Inside.There.{CopiedBelow, WokenBelow}
+use Rattle.tick_core.specs.Space.There.{CopiedBelow, WokenBelow}
 use Rattle.tick_core.proofs.started_twice.wake_twice.Given as goal
 
 abbrev pub invariant-loop-at : goal.invariant-loop-at

@@ -1,6 +1,6 @@
 use Rattle.std.proofs.Common.{◌≡◌, length}
 use Rattle.sc_graph.specs.Tick.{Inputs, values_at_start}
-use Rattle.tick_core.specs.Inside.Given.{Gives}
+use Rattle.tick_core.specs.Space.Given.{Gives}
 use Rattle.tick_core.proofs.Starts.{values_from}
 use Rattle.tick_core.proofs.starting.start_values.Given as goal
 

@@ -1,5 +1,5 @@
 use Rattle.std.proofs.Common.{◌∙◌, ◌+◌, length, length-set, sym, ap, subst, arith}
-use Rattle.tick_core.specs.Inside.There.{AbsentBelow}
+use Rattle.tick_core.specs.Space.There.{AbsentBelow}
 use Rattle.tick_core.proofs.ListedCopied.{absent_more, absent_all}
 use Rattle.tick_core.proofs.there.clear_all.Goals as goal
 

@@ -1,5 +1,5 @@
 use Rattle.std.proofs.Common.{◌≡◌, length}
-use Rattle.tick_core.specs.Inside.There.{AbsentBelow}
+use Rattle.tick_core.specs.Space.There.{AbsentBelow}
 use Rattle.tick_core.proofs.there.clear_all.Given as goal
 
 abbrev pub invariant-loop-thread : goal.invariant-loop-thread

@@ -1,6 +1,6 @@
 use Rattle.std.proofs.Common.{◌≡◌, ◌+◌, Some, slice_get, get_or, sym, subst, arith}
 use Rattle.std.proofs.lemmas.Option.{slice_get-get_or}
-use Rattle.tick_core.specs.Inside.There.{ClearedBelow}
+use Rattle.tick_core.specs.Space.There.{ClearedBelow}
 use Rattle.tick_core.proofs.ListedCopied.{cleared_none, cleared_more, all_cleared}
 use Rattle.tick_core.proofs.there.clear_listed.Goals as goal
 

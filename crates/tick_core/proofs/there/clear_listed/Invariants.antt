@@ -1,4 +1,4 @@
-use Rattle.tick_core.specs.Inside.There.{ClearedBelow}
+use Rattle.tick_core.specs.Space.There.{ClearedBelow}
 use Rattle.tick_core.proofs.there.clear_listed.Given as goal
 
 abbrev pub invariant-loop-at : goal.invariant-loop-at

@@ -1,7 +1,7 @@
 use Rattle.std.proofs.Common.{◌≡◌, ◌<◌, ◌∙◌, ◌++◌, ◌∷◌, [], Some, slice_get, length, refl, sym, ap, subst, arith}
 use Rattle.std.proofs.lemmas.Bool.{OnTrue_at}
 use Rattle.std.proofs.lemmas.Option.{slice_get_read, slice_get_within}
-use Rattle.tick_core.specs.Inside.There.{Keeps, ListedBelow, children_waited, waited_at}
+use Rattle.tick_core.specs.Space.There.{Keeps, ListedBelow, children_waited, waited_at}
 use Rattle.sc_graph.specs.Control.{status_of}
 use Rattle.tick_core.proofs.ListedThreads.{root_listed, none_counted_yet, keeps_more, lists_from, enters_from, listed_more, counted_more}
 use Rattle.tick_core.proofs.ListedThreads.{all_listed, all_listed_counted}

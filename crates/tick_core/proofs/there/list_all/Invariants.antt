@@ -1,5 +1,5 @@
 use Rattle.std.proofs.Common.{◌≡◌, ◌-◌, ◌≤◌, length, vec_capacity}
-use Rattle.tick_core.specs.Inside.There.{ListedBelow, CountedBelow}
+use Rattle.tick_core.specs.Space.There.{ListedBelow, CountedBelow}
 use Rattle.tick_core.proofs.there.list_all.Given as goal
 
 abbrev pub invariant-loop-at : goal.invariant-loop-at

@@ -1,5 +1,5 @@
 use Rattle.std.proofs.Common.{◌≡◌, ◌≤◌, ◌+◌, ◌++◌, count_by, drop, length, vec_capacity}
-use Rattle.tick_core.specs.Inside.Living.{lives}
+use Rattle.tick_core.specs.Space.Living.{lives}
 use Rattle.tick_core.proofs.there.list_some.Given as goal
 
 abbrev pub invariant-loop-thread : goal.invariant-loop-thread

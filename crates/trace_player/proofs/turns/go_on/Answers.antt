@@ -8,7 +8,7 @@ use Rattle.trace_lines.specs.declared.lines.LineEnd.TheVariants as line_end
 use Rattle.trace_player.specs.Channels.{SourceSeen, SinkSeen, Gains}
 use Rattle.trace_player.specs.Trace.{Shows, next_number}
 use Rattle.trace_player.specs.declared.player.PlayFault.TheVariants as play_fault
-use Rattle.trace_player.specs.Faults.{Tells}
+use Rattle.trace_player.specs.Inside.Faults.{Tells}
 use Rattle.trace_player.specs.Inside.HeldBack.{with_held}
 use Rattle.trace_player.specs.Inside.Resting.{rest_behind}
 use Rattle.trace_player.proofs.Coming.{LeftTo, came_well, came_off, came_short, came_cut, feed_of}
@@ -248,7 +248,8 @@ loop-turn-preserved g c =
       none_write = all.failures ∙ writes_same at.sink told.sink sink ∙ l.invariant.none_write;
       not_behind = same_end before.source next.source after.source source (λ e. c.next.ensures.not_behind (l.invariant.going c.if-is_ended.false e));
       going = λ more e.
-          let feed : c.in-Ok-Some.end ≡ line_end.Feed = feed_of c.in-Ok-Some.end (λ i. let yes = c.is_last-is_ended.ensures.1 i in let no = more in absurd cc) in
+          let feed : c.in-Ok-Some.end ≡ line_end.Feed =
+          feed_of c.in-Ok-Some.end (λ i. let yes = c.is_last-is_ended.ensures.1 i in let no = more in absurd cc) in
           ap (λ (s : SourceSeen). s.progress) source
           ∙ c.in-Ok-Some.ensures.going (c.in-Ok-Some.field-0-is ∙ ap Some feed) (l.invariant.going c.if-is_ended.false e);
       ended = λ e.
@@ -266,8 +267,8 @@ returns-clause-came g c =
     let at = g.P.Channels.seen l.channels in
     let held = l.held.items in (
       came_short i before (with_held at held)
-          (stopped i before.source.to_come (ahead l.buffers.lines at.source.to_come) l.number rest before.sink.taken (append_known at.sink.taken held) before.rows
-          at.rows l.invariant.played)
+          (stopped i before.source.to_come (ahead l.buffers.lines at.source.to_come) l.number rest before.sink.taken
+          (append_known at.sink.taken held) before.rows at.rows l.invariant.played)
           l.invariant.none_read l.invariant.none_write l.invariant.not_behind,
       l.invariant.holds,
     )

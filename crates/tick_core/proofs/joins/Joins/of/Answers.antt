@@ -1,6 +1,6 @@
 use Rattle.std.proofs.Common.{◌∙◌, ◌+◌, sym, ap, subst, arith}
 use Rattle.sc_graph.specs.Valid.{IsValid}
-use Rattle.tick_core.specs.Inside.Joins.{FindsForks, FindsBelow}
+use Rattle.tick_core.specs.Space.Joins.{FindsForks, FindsBelow}
 use Rattle.tick_core.proofs.NotedForks.{noted_more, noted_all}
 use Rattle.tick_core.proofs.joins.Joins.of.Goals as goal
 

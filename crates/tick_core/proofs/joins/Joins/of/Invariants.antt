@@ -1,4 +1,4 @@
-use Rattle.tick_core.specs.Inside.Joins.{FindsBelow}
+use Rattle.tick_core.specs.Space.Joins.{FindsBelow}
 use Rattle.tick_core.proofs.joins.Joins.of.Given as goal
 
 abbrev pub invariant-loop-node : goal.invariant-loop-node

@@ -3,9 +3,9 @@ use Rattle.sc_graph.specs.Tick.{IsConfiguration}
 use Rattle.sc_graph.specs.Valid.{IsValid}
 use Rattle.sc_graph.specs.declared.control.Control.{Control}
 use Rattle.tick_core.specs.State.{BeginsTick}
-use Rattle.tick_core.specs.Inside.Living.{CountsLiving}
-use Rattle.tick_core.specs.Inside.Sorting.{OwnRows, StandSorted}
-use Rattle.tick_core.specs.Inside.There.{AllListed, AreListed}
+use Rattle.tick_core.specs.Space.Living.{CountsLiving}
+use Rattle.tick_core.specs.Space.Sorting.{OwnRows, StandSorted}
+use Rattle.tick_core.specs.Space.There.{AllListed, AreListed}
 use Rattle.tick_core.proofs.Covered.{everybody_there}
 use Rattle.tick_core.proofs.StartKept.{begins_configuration}
 use Rattle.tick_core.proofs.state.TickSpace.begin_again.Goals as goal

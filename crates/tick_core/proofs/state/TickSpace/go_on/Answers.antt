@@ -3,9 +3,9 @@ use Rattle.sc_graph.specs.declared.control.Control.{Control}
 use Rattle.sc_graph.specs.Tick.{Rests, start}
 use Rattle.bytecode.specs.Image.{Image}
 use Rattle.tick_core.specs.Inside.Astir.{AstirListed, ChangedListed}
-use Rattle.tick_core.specs.Inside.Given.{HasOwnNames, Gives}
-use Rattle.tick_core.specs.Inside.Living.{CountsLiving}
-use Rattle.tick_core.specs.Inside.There.{AllListed, AreListed}
+use Rattle.tick_core.specs.Space.Given.{HasOwnNames, Gives}
+use Rattle.tick_core.specs.Space.Living.{CountsLiving}
+use Rattle.tick_core.specs.Space.There.{AllListed, AreListed}
 use Rattle.tick_core.proofs.Covered.{astir_of_all}
 use Rattle.tick_core.proofs.InputValues.{own_names}
 use Rattle.tick_core.proofs.ListedCopied.{changed_absent}

@@ -3,7 +3,7 @@ use Rattle.std.specs.Prelude.{IfSome, count_by, is_some}
 use Rattle.sc_graph.specs.Control.{status_of}
 use Rattle.tick_laws.proofs.Lists.{get_set_same}
 use Rattle.tick_core.specs.Inside.Astir.{Gains}
-use Rattle.tick_core.specs.Inside.Sorting.{AreSorted, children_at}
+use Rattle.tick_core.specs.Space.Sorting.{AreSorted, children_at}
 use Rattle.tick_core.specs.Inside.Onward.{MayStep, Goes, LeadsOn}
 use Rattle.tick_core.specs.Inside.Work.{value_at}
 use Rattle.tick_core.specs.State.{InTick}

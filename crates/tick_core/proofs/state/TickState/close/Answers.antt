@@ -1,8 +1,8 @@
 use Rattle.std.proofs.Common.{◌∙◌, length, length-set, None, sym, ap, subst, arith}
 use Rattle.std.specs.Prelude.{count_by, is_some}
 use Rattle.sc_graph.specs.Tick.{IsConfiguration}
-use Rattle.tick_core.specs.Inside.Living.{CountsLiving}
-use Rattle.tick_core.specs.Inside.Sorting.{AreOpen}
+use Rattle.tick_core.specs.Space.Living.{CountsLiving}
+use Rattle.tick_core.specs.Space.Sorting.{AreOpen}
 use Rattle.tick_core.proofs.StateKept.{configuration, kept_closed_at}
 use Rattle.tick_core.proofs.Counts.{sorted_with_at, open_closed}
 use Rattle.tick_core.proofs.state.TickState.close.Goals as goal

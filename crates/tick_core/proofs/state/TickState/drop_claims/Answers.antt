@@ -1,8 +1,8 @@
 use Rattle.std.proofs.Common.{◌∙◌, length, refl, sym, ap, subst, arith}
 use Rattle.std.specs.Prelude.{count_by, is_some}
 use Rattle.sc_graph.specs.Tick.{IsConfiguration}
-use Rattle.tick_core.specs.Inside.Living.{CountsLiving}
-use Rattle.tick_core.specs.Inside.Sorting.{AreOpen}
+use Rattle.tick_core.specs.Space.Living.{CountsLiving}
+use Rattle.tick_core.specs.Space.Sorting.{AreOpen}
 use Rattle.tick_core.specs.Inside.Turns.{DropsClaims}
 use Rattle.tick_core.proofs.Opened.{none_counted}
 use Rattle.tick_core.proofs.StateKept.{configuration, kept_dropped}

@@ -5,9 +5,9 @@ use Rattle.sc_graph.specs.Machine.{machine}
 use Rattle.sc_graph.specs.Tick.{AreAccepted, IsConfiguration, start}
 use Rattle.tick_core.specs.State.{InTick}
 use Rattle.tick_core.specs.Inside.Astir.{FitsTick}
-use Rattle.tick_core.specs.Inside.Given.{Gives, HasOwnNames, HasPlaces}
-use Rattle.tick_core.specs.Inside.Living.{CountsLiving}
-use Rattle.tick_core.specs.Inside.Sorting.{StandSorted}
+use Rattle.tick_core.specs.Space.Given.{Gives, HasOwnNames, HasPlaces}
+use Rattle.tick_core.specs.Space.Living.{CountsLiving}
+use Rattle.tick_core.specs.Space.Sorting.{StandSorted}
 use Rattle.tick_core.proofs.Counts.{sorted_free}
 use Rattle.tick_core.proofs.Covered.{some_thread}
 use Rattle.tick_core.proofs.GoingOn.{present_places, no_claim_there, nobody_there, configuration_anew, holds_anew, open_anew, begun_anew}

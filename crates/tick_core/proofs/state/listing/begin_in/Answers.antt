@@ -1,8 +1,8 @@
 use Rattle.std.proofs.Common.{◌∙◌, None, length, arith, refl, ap, sym, subst}
 use Rattle.std.proofs.lemmas.List.{length-map}
 use Rattle.tick_core.specs.State.{BeginsTick}
-use Rattle.tick_core.specs.Inside.Living.{CountsLiving}
-use Rattle.tick_core.specs.Inside.Sorting.{StandSorted}
+use Rattle.tick_core.specs.Space.Living.{CountsLiving}
+use Rattle.tick_core.specs.Space.Sorting.{StandSorted}
 use Rattle.tick_core.proofs.StateKept.{holds_begun, no_claims_at}
 use Rattle.tick_core.proofs.Counts.{sorted_free, none_open_at}
 use Rattle.tick_core.proofs.Covered.{fits_begun}

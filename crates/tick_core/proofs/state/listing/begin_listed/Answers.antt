@@ -1,7 +1,7 @@
 use Rattle.std.proofs.Common.{◌∙◌, ap, sym, subst}
 use Rattle.sc_graph.specs.Tick.{IsConfiguration}
 use Rattle.tick_core.specs.Inside.Astir.{AstirListed}
-use Rattle.tick_core.specs.Inside.Sorting.{OwnRows}
+use Rattle.tick_core.specs.Space.Sorting.{OwnRows}
 use Rattle.tick_core.proofs.Covered.{astir_of_all}
 use Rattle.tick_core.proofs.StartKept.{begins_configuration}
 use Rattle.tick_core.proofs.state.listing.begin_listed.Goals as goal

@@ -6,8 +6,8 @@ use Rattle.sc_graph.specs.declared.control.Status.TheVariants as status
 use Rattle.sc_graph.specs.Program.{Program}
 use Rattle.sc_graph.specs.Control.{status_of, joined_at}
 use Rattle.sc_graph.specs.Tick.{IsPresent, woken}
-use Rattle.tick_core.specs.Inside.Living.{living}
-use Rattle.tick_core.specs.Inside.Sorting.{or_none}
+use Rattle.tick_core.specs.Space.Living.{living}
+use Rattle.tick_core.specs.Space.Sorting.{or_none}
 
 -- each thread that is present by these statuses stands in the list
 pub record AllListed (statuses : List Status) (threads : List ℕ) : Type 0 where
