@@ -6,8 +6,8 @@ use Rattle.scl.specs.declared.program.Scl.{Scl}
 use Rattle.scl_drafts.specs.declared.draft.Draft.{Draft}
 use Rattle.scl_graph.specs.Answers.{IsGraph}
 use Rattle.source_programs.specs.declared.reading.ReadChart.{ReadChart}
-use Rattle.source_programs.specs.declared.reading.Reading.{Reading}
-use Rattle.source_programs.specs.declared.reading.Reading.TheVariants as reading
+use Rattle.source_programs.specs.declared.reading.ReadText.{ReadText}
+use Rattle.source_programs.specs.declared.reading.ReadText.TheVariants as reading
 use Rattle.source_programs.specs.Graphs.{MakesNone, SpellsGraphless}
 use Rattle.source_programs.specs.Kept.{Keeps, KeepsChart, KeepsDraft}
 use Rattle.node_sources.specs.declared.origin.Origin.{Origin}
@@ -18,15 +18,15 @@ use Rattle.node_sources.specs.Sources.{AreSources, ChartSources, SclSources}
 -- ---- what was read
 
 -- the text is seen as one text, and its program as one program
-of_parts : (text seen : List ℕ) (scl part : Scl) (r s : Reading) → seen ≡ text → part ≡ scl → r ≡ s → Keeps text scl r → Keeps seen part s
+of_parts : (text seen : List ℕ) (scl part : Scl) (r s : ReadText) → seen ≡ text → part ≡ scl → r ≡ s → Keeps text scl r → Keeps seen part s
 of_parts text seen scl part r s text_is scl_is is h =
     subst (λ t. Keeps t part s) (sym text_is) (subst (λ p. Keeps text p s) (sym scl_is) (subst (Keeps text scl) is h))
 
-pub chart_kept : (text seen : List ℕ) (scl part : Scl) (r : Reading) (kept : ReadChart) → seen ≡ text → part ≡ scl → r ≡ reading.Chart kept
+pub chart_kept : (text seen : List ℕ) (scl part : Scl) (r : ReadText) (kept : ReadChart) → seen ≡ text → part ≡ scl → r ≡ reading.Chart kept
     → Keeps text scl r → KeepsChart seen part kept
 chart_kept text seen scl part r kept text_is scl_is is h = of_parts text seen scl part r (reading.Chart kept) text_is scl_is is h
 
-pub draft_kept : (text seen : List ℕ) (scl part : Scl) (r : Reading) (draft : Draft) → seen ≡ text → part ≡ scl → r ≡ reading.Scl draft
+pub draft_kept : (text seen : List ℕ) (scl part : Scl) (r : ReadText) (draft : Draft) → seen ≡ text → part ≡ scl → r ≡ reading.Scl draft
     → Keeps text scl r → KeepsDraft seen part draft
 draft_kept text seen scl part r draft text_is scl_is is h = of_parts text seen scl part r (reading.Scl draft) text_is scl_is is h
 

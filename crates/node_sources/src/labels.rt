@@ -16,7 +16,7 @@ use node_elements::point_elements;
 use sc_values::Name;
 use scl::{Scl, Statement};
 use scl_drafts::Draft;
-use source_programs::{ReadChart, ReadSource, Reading};
+use source_programs::{ReadChart, ReadSource, ReadText};
 use sqlite_items::{Items, at};
 use std::alloc::{AllocError, Global};
 
@@ -31,8 +31,8 @@ pub fn label_origin(
     ensures { IfOk result (λ found. IfSome found (IsLabelOrigin source.now.text label)) }
 {
     match source.reading() {
-        Reading::Chart(kept) => chart_label(alloc, source.text(), kept, source.scl(), label),
-        Reading::Scl(draft) => scl_label(alloc, source.text(), draft, source.scl(), label),
+        ReadText::Chart(kept) => chart_label(alloc, source.text(), kept, source.scl(), label),
+        ReadText::Scl(draft) => scl_label(alloc, source.text(), draft, source.scl(), label),
     }
 }
 

@@ -9,7 +9,7 @@ use crate::chart_sources::origins_of_chart;
 use crate::origin::Origin;
 use crate::scl_sources::origins_of_scl;
 use sc_graph::Program;
-use source_programs::{ReadSource, Reading, graph_of_source, read_source};
+use source_programs::{ReadSource, ReadText, graph_of_source, read_source};
 use sqlite_items::Items;
 use std::alloc::{AllocError, Global};
 
@@ -31,10 +31,10 @@ pub fn origins_in(
     ensures { IfOk result (AreSources source.now.text program.now) }
 {
     match source.reading() {
-        Reading::Chart(kept) => {
+        ReadText::Chart(kept) => {
             origins_of_chart(alloc, source.text(), kept, source.scl(), program)
         }
-        Reading::Scl(draft) => origins_of_scl(alloc, source.text(), draft, source.scl()),
+        ReadText::Scl(draft) => origins_of_scl(alloc, source.text(), draft, source.scl()),
     }
 }
 

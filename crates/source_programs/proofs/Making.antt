@@ -5,7 +5,7 @@ use Rattle.scl.specs.declared.program.Scl.{Scl}
 use Rattle.scl_graph.specs.Answers.{IsGraph, LacksGraph}
 use Rattle.scl_graph.specs.declared.fault.GraphFault.TheVariants as graph
 use Rattle.source_programs.specs.declared.fault.SourceFault.{SourceFault}
-use Rattle.source_programs.specs.declared.reading.Reading.{Reading}
+use Rattle.source_programs.specs.declared.reading.ReadText.{ReadText}
 use Rattle.source_programs.specs.Graphs.{IsGraphless, Makes, MakesNone, SaysOfText, SpellsGraphless}
 use Rattle.source_programs.specs.Kept.{Keeps}
 use Rattle.source_programs.specs.Programs.{LacksProgram}
@@ -19,7 +19,7 @@ pub large : (scl : Scl) → LacksGraph scl graph.Limit → IsGraphless scl
 large scl refused = record { fault = graph.Limit; refused = refused; said = tt }
 
 -- what is found of the program of a text is what the text makes
-pub made_of : {E : Type 0} (text : List ℕ) (scl : Scl) (r : Reading) (found : Result (Option Program) E) → Keeps text scl r
+pub made_of : {E : Type 0} (text : List ℕ) (scl : Scl) (r : ReadText) (found : Result (Option Program) E) → Keeps text scl r
     → IfOk found (λ p. MatchOption p (IsGraphless scl) (IsGraph scl)) → IfOk found (λ p. MatchOption p (SpellsGraphless text) (Makes text))
 made_of text scl r (Err e) kept h = tt
 made_of text scl r (Ok None) kept h = record { scl = scl; read = spells text scl r kept; none = h }

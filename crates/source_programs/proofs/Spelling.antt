@@ -15,15 +15,15 @@ use Rattle.abort_expansion.specs.Answers.{LacksCore}
 use Rattle.abort_expansion.specs.declared.fault.ExpandFault.{ExpandFault}
 use Rattle.source_programs.specs.declared.fault.SourceFault.{SourceFault}
 use Rattle.source_programs.specs.declared.fault.SourceFault.TheVariants as fault
-use Rattle.source_programs.specs.declared.reading.Reading.{Reading}
-use Rattle.source_programs.specs.declared.reading.Reading.TheVariants as reading
+use Rattle.source_programs.specs.declared.reading.ReadText.{ReadText}
+use Rattle.source_programs.specs.declared.reading.ReadText.TheVariants as reading
 use Rattle.source_programs.specs.Kept.{Keeps}
 use Rattle.source_programs.specs.Programs.{IsFaultIn, LacksProgram, SpellsProgram}
 
 -- ---- what it spells
 
 -- what is kept of a text says which program it spells
-pub spells : (text : List ℕ) (scl : Scl) (r : Reading) → Keeps text scl r → SpellsProgram text scl
+pub spells : (text : List ℕ) (scl : Scl) (r : ReadText) → Keeps text scl r → SpellsProgram text scl
 spells text scl (reading.Chart kept) h = record {
   language = language.Chart;
   is_in = h.is_chart;
@@ -66,6 +66,6 @@ pub no_memory : (text : List ℕ) (l : Language) (e : SourceFault) → e ≡ fau
 no_memory text language.Chart e same is = faulty text language.Chart read.Memory e same is tt
 no_memory text language.Scl e same is = faulty text language.Scl read.Memory e same is tt
 
-pub no_room : (text : List ℕ) (scl : Scl) (r : Reading) (e : SourceFault) → e ≡ fault.Text read.Memory → Keeps text scl r → LacksProgram text e
+pub no_room : (text : List ℕ) (scl : Scl) (r : ReadText) (e : SourceFault) → e ≡ fault.Text read.Memory → Keeps text scl r → LacksProgram text e
 no_room text scl (reading.Chart kept) e same h = no_memory text language.Chart e same h.is_chart
 no_room text scl (reading.Scl draft) e same h = no_memory text language.Scl e same h.is_scl

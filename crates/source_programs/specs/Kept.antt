@@ -13,8 +13,8 @@ use Rattle.chart_drafts.specs.Checked.{IsSound}
 use Rattle.chart_reader.specs.Resolved.{chart_of}
 use Rattle.abort_expansion.specs.Expansion.{expanded}
 use Rattle.compiler.specs.Charts.{IsSclOf}
-use Rattle.source_programs.specs.declared.reading.Reading.{Reading}
-use Rattle.source_programs.specs.declared.reading.Reading.TheVariants as reading
+use Rattle.source_programs.specs.declared.reading.ReadText.{ReadText}
+use Rattle.source_programs.specs.declared.reading.ReadText.TheVariants as reading
 use Rattle.source_programs.specs.declared.reading.ReadChart.{ReadChart}
 
 -- a text, and its SCL program
@@ -36,11 +36,11 @@ pub record KeepsDraft (text : List ℕ) (scl : Scl) (draft : Draft) : Type 0 whe
   pub drafted : IsFlawless text draft
   pub spelled : IsProgramOf draft scl
 
-abbrev pub Keeps : List ℕ → Scl → Reading → Type 0
+abbrev pub Keeps : List ℕ → Scl → ReadText → Type 0
 Keeps text scl (reading.Chart kept) = KeepsChart text scl kept
 Keeps text scl (reading.Scl draft) = KeepsDraft text scl draft
 
 -- so it is kept of the text, and, where a graph is kept, it is that of its SCL program
-pub record IsKept (text : List ℕ) (scl : Scl) (r : Reading) (graph : Option Program) : Type 0 where
+pub record IsKept (text : List ℕ) (scl : Scl) (r : ReadText) (graph : Option Program) : Type 0 where
   pub keeps : Keeps text scl r
   pub graph_of : IfSome graph (IsGraph scl)

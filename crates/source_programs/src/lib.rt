@@ -11,5 +11,5 @@ mod source;
 pub use compiled::{Uncompiled, compile_source};
 pub use fault::SourceFault;
 pub use graphs::{graph_of_source, graph_of_text};
-pub use reading::{ReadChart, Reading};
+pub use reading::{ReadChart, ReadText};
 pub use source::{ReadSource, read_source};

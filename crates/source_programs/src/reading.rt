@@ -31,7 +31,7 @@ pub struct ReadChart {
 
 /// What a source text is read into: a chart, or the draft of an SCL program.
 #[derive(Drop)]
-pub enum Reading {
+pub enum ReadText {
     Chart(ReadChart),
     Scl(Draft),
 }
@@ -50,7 +50,7 @@ fn lowered(alloc: Global, chart: &Chart) -> Result<(CoreChart, Scl), ExpandFault
 }
 
 // A text of a chart, and its SCL program. Err: its fault, or that its chart has no core chart; or memory was refused.
-#[tactic(auto, using(chart_reader::proofs::Reading::unflawed, chart_reader::proofs::Reading::shaped, crate::proofs::Spelling::faulty_chart, crate::proofs::Spelling::no_core, crate::proofs::Spelling::no_memory))]
+#[tactic(auto, using(chart_reader::proofs::ReadText::unflawed, chart_reader::proofs::ReadText::shaped, crate::proofs::Spelling::faulty_chart, crate::proofs::Spelling::no_core, crate::proofs::Spelling::no_memory))]
 fn read_as_chart(alloc: Global, text: &str) -> Result<(ReadChart, Scl), SourceFault>
     requires { IsIn text.now language.Chart }
     ensures kept { IfOk result (λ made. KeepsChart text.now made.1 made.0) }
@@ -63,7 +63,7 @@ fn read_as_chart(alloc: Global, text: &str) -> Result<(ReadChart, Scl), SourceFa
 }
 
 // A text of SCL, and its program. Err: its fault; or memory was refused.
-#[tactic(auto, using(scl_reader::proofs::Reading::unflawed, scl_reader::proofs::Reading::shaped, crate::proofs::Spelling::faulty_scl, crate::proofs::Spelling::no_memory))]
+#[tactic(auto, using(scl_reader::proofs::ReadText::unflawed, scl_reader::proofs::ReadText::shaped, crate::proofs::Spelling::faulty_scl, crate::proofs::Spelling::no_memory))]
 fn read_as_scl(alloc: Global, text: &str) -> Result<(Draft, Scl), SourceFault>
     requires { IsIn text.now language.Scl }
     ensures kept { IfOk result (λ made. KeepsDraft text.now made.1 made.0) }
@@ -76,18 +76,18 @@ fn read_as_scl(alloc: Global, text: &str) -> Result<(Draft, Scl), SourceFault>
 
 /// A text as it is read in the language that its first token tells, and its SCL program. Err: it spells none; or memory
 /// was refused.
-pub(crate) fn read_in_language(alloc: Global, text: &str) -> Result<(Reading, Scl), SourceFault>
+pub(crate) fn read_in_language(alloc: Global, text: &str) -> Result<(ReadText, Scl), SourceFault>
     ensures kept { IfOk result (λ made. Keeps text.now made.1 made.0) }
     ensures fault { IfErr result (LacksProgram text.now) }
 {
     match language_of(text) {
         Language::Chart => {
             let (chart, scl) = read_as_chart(alloc, text)?;
-            Ok((Reading::Chart(chart), scl))
+            Ok((ReadText::Chart(chart), scl))
         }
         Language::Scl => {
             let (draft, scl) = read_as_scl(alloc, text)?;
-            Ok((Reading::Scl(draft), scl))
+            Ok((ReadText::Scl(draft), scl))
         }
     }
 }

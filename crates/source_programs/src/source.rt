@@ -6,7 +6,7 @@ ghost use Rattle.source_programs.specs.Kept.{Keeps};
 ghost use Rattle.source_programs.specs.Programs.{LacksProgram, SpellsProgram};
 
 use crate::fault::SourceFault;
-use crate::reading::{Reading, read_in_language};
+use crate::reading::{ReadText, read_in_language};
 use compiler::LinkedProgram;
 use scl::Scl;
 use sqlite_items::Boxed;
@@ -19,7 +19,7 @@ use std::marker::Model;
 pub struct ReadSource<'a> {
     text: &'a str,
     scl: Scl,
-    reading: Reading,
+    reading: ReadText,
     graph: Option<Boxed<LinkedProgram>>,
 }
 
@@ -87,7 +87,7 @@ impl<'a> ReadSource<'a> {
     }
 
     /// What it was read into.
-    pub fn reading(&self) -> &Reading
+    pub fn reading(&self) -> &ReadText
         ensures { Keeps self.now.text self.now.scl result.now }
     {
         &self.reading
