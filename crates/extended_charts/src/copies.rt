@@ -3,7 +3,7 @@
 ghost use Rattle.std.specs.Prelude.{◌≡◌, ◌++◌, IfOk, OnOk};
 
 use crate::extended::{Declared, During};
-use core_charts::{copied_effects, copied_trigger};
+use core_charts::{Effect, copied_effects, copied_trigger};
 use sc_graph::Variable;
 use sqlite_items::Items;
 use std::alloc::{AllocError, Global};
@@ -33,6 +33,20 @@ pub fn put_copied_durings(
         made.push(copied_during(alloc, during)?)?;
     }
     Ok(())
+}
+
+/// Puts copies of effects. Err: memory was refused.
+pub fn put_copied_effects(
+    alloc: Global,
+    effects: &[Effect],
+    made: &mut Items<Effect>,
+) -> Result<(), AllocError>
+    ensures { OnOk result (made.new ≡ made.old ++ effects.now) }
+{
+    match copied_effects(alloc, effects) {
+        Ok(copies) => made.append(copies),
+        Err(error) => Err(error),
+    }
 }
 
 /// A copy of declarations. Err: memory was refused.
