@@ -6,12 +6,11 @@ ghost use Rattle.value_passes.specs.Clocks.{noting, timed_by, timed_transition, 
 ghost use Rattle.value_passes.specs.Clocks.{one_more, clock_region, with_clocks};
 ghost use Rattle.value_passes.specs.Inside.{clock_state, fill_timed};
 
-use crate::copies::put_copied_effects;
 use chart_elements::next;
 use core_charts::{Effect, Transition, copied_effects};
 use extended_charts::{
     ELAPSED, ExtendedChart, ExtendedRegion, ExtendedState, Reading, alone, always, bare, copy,
-    local, made_state, one, put_integers, sum, variable,
+    local, made_state, one, put_copied_effects, put_integers, sum, variable,
 };
 use sc_graph::VariableId;
 use sc_text::plain;

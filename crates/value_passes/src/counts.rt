@@ -11,13 +11,13 @@ ghost use Rattle.value_passes.specs.Inside.{fill_counted, anew};
 ghost use Rattle.extended_charts.specs.Durings.{ways_on};
 
 use crate::clocks::{one_more, put_timed};
-use crate::copies::{put_copied_effects, put_passing};
+use crate::passing::put_passing;
 use chart_elements::next;
 use core_charts::{Effect, Transition, TransitionKind};
 use extended_charts::{
     Declared, ExtendedChart, ExtendedRegion, ExtendedState, Reading, alone, bare, copy, count,
-    count_variable, emission, has_some, is_count, local, made_state, put_all_passing, put_ways_on,
-    reset, sum, variable,
+    count_variable, emission, has_some, is_count, local, made_state, put_all_passing,
+    put_copied_effects, put_ways_on, reset, sum, variable,
 };
 use sc_graph::VariableId;
 use sc_text::{numbered, plain};

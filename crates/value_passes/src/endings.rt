@@ -13,13 +13,13 @@ ghost use Rattle.core_charts.specs.declared.region.TransitionKind.TheVariants as
 ghost use Rattle.value_passes.specs.Inside.{deeper, fill_ending};
 
 use crate::beginnings::{all_at_once, is_joined};
-use crate::copies::{put_copied_effects, put_passing};
+use crate::passing::put_passing;
 use chart_elements::next;
 use core_charts::{Effect, Transition, TransitionKind, copied_transitions};
 use extended_charts::{
     Declared, During, ExtendedChart, ExtendedRegion, ExtendedState, alone, always, bare, condition,
-    count, ended, has_some, local, made_state, one, put_copied_durings, put_immediate_ones,
-    put_steps, put_untested, reset, sum, variable,
+    count, ended, has_some, local, made_state, one, put_copied_durings, put_copied_effects,
+    put_immediate_ones, put_steps, put_untested, reset, sum, variable,
 };
 use sc_graph::VariableId;
 use sc_text::{numbered, plain};

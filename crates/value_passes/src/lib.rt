@@ -6,10 +6,10 @@
 mod beginnings;
 mod clocks;
 mod constants;
-mod copies;
 mod counts;
 mod endings;
 mod initial;
+mod passing;
 mod registers;
 
 pub use clocks::with_clocks;

@@ -4,7 +4,7 @@ ghost use Rattle.std.specs.Prelude.{◌≡◌, [], ◌∷◌, ◌++◌, ◌+◌,
 ghost use Rattle.value_passes.specs.Registers.{kind_of, initial_of, before_variables, registers, storing, handing};
 ghost use Rattle.value_passes.specs.Registers.{ring, register_states, register_region, with_registers};
 
-use crate::copies::put_passing;
+use crate::passing::put_passing;
 use chart_elements::next;
 use core_charts::Effect;
 use extended_charts::{
