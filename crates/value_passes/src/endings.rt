@@ -1,29 +1,22 @@
 //! During actions of superstates that are left by `join`: they end when what is inside has ended.
 
-ghost use Rattle.std.specs.Prelude.{◌≡◌, ◌+◌, [], ◌∷◌, ◌++◌, IfOk, OnOk, false, length, map};
-ghost use Rattle.value_passes.specs.Endings.{is_ending, telling, body, body_region, tested, first_states};
-ghost use Rattle.value_passes.specs.Endings.{ending_states, ending_region, endings_in, all_regions, all_states};
-ghost use Rattle.value_passes.specs.Endings.{beginning, left_durings, inside, left_transitions, all_at_once};
+ghost use Rattle.std.specs.Prelude.{◌≡◌, [], ◌∷◌, ◌++◌, IfOk, OnOk, map};
+ghost use Rattle.value_passes.specs.Endings.{is_ending, endings_in, all_regions, all_states};
+ghost use Rattle.value_passes.specs.Endings.{beginning, left_durings, inside, left_transitions};
 ghost use Rattle.value_passes.specs.Endings.{ending_in_region, ending_in_state, endings_told, with_endings};
 ghost use Rattle.extended_charts.specs.declared.extended.ExtendedRegion.TheViews.{out-ExtendedState};
-ghost use Rattle.extended_charts.specs.Holds.{ended};
-ghost use Rattle.extended_charts.specs.Durings.{immediate_ones};
-ghost use Rattle.extended_charts.specs.Making.{always, one};
-ghost use Rattle.core_charts.specs.declared.region.TransitionKind.TheVariants as kind;
 ghost use Rattle.value_passes.specs.Inside.{deeper, fill_ending};
 
 use crate::beginnings::{all_at_once, is_joined};
-use crate::passing::put_passing;
-use chart_elements::next;
-use core_charts::{Effect, Transition, TransitionKind, copied_transitions};
+use crate::ending_regions::{put_body_region, put_ending_region};
+use core_charts::{Effect, Transition, copied_transitions};
 use extended_charts::{
-    Declared, During, ExtendedChart, ExtendedRegion, ExtendedState, alone, always, bare, condition,
-    count, ended, has_some, local, made_state, one, put_copied_durings, put_copied_effects,
-    put_immediate_ones, put_steps, put_untested, reset, sum, variable,
+    Declared, During, ExtendedChart, ExtendedRegion, ExtendedState, bare, condition, has_some,
+    local, one, put_copied_durings, put_copied_effects, put_untested, reset, sum, variable,
 };
 use sc_graph::VariableId;
-use sc_text::{numbered, plain};
-use sc_values::{Expr, Kind, Value};
+use sc_text::numbered;
+use sc_values::Kind;
 use sqlite_items::Items;
 use std::alloc::{AllocError, Global};
 
@@ -65,194 +58,6 @@ fn put_endings_told(count: u32, made: &mut Items<Declared>) -> Result<(), AllocE
         made.push(local(numbered("done__", (before + 1) as u64), Kind::Bool, None))?;
     }
     Ok(())
-}
-
-// What is inside has ended.
-fn telling(done: VariableId) -> Effect
-    ensures { result ≡ telling done }
-{
-    Effect {
-        variable: done,
-        value: Expr::Literal(Value::Bool(true)),
-    }
-}
-
-// The way out of the state that has the regions: when these have ended and the trigger is true.
-fn join(
-    alloc: Global,
-    done: VariableId,
-    trigger: Option<Expr>,
-) -> Result<Items<Transition>, AllocError>
-    ensures { IfOk result (λ made. made
-        ≡ record (always false (telling done ∷ []) 1) { kind = kind.Join; trigger = trigger } ∷ []) }
-{
-    match alone(alloc, telling(done)) {
-        Ok(effects) => {
-            let out = Transition {
-                kind: TransitionKind::Join,
-                immediate: false,
-                trigger,
-                effects,
-                target: 1,
-            };
-            alone(alloc, out)
-        }
-        Err(error) => {
-            drop(trigger);
-            Err(error)
-        }
-    }
-}
-
-// The state that has the regions.
-fn body(
-    alloc: Global,
-    done: VariableId,
-    trigger: Option<Expr>,
-    regions: Items<ExtendedRegion>,
-) -> Result<ExtendedState, AllocError>
-    ensures { IfOk result (λ made. made ≡ body done trigger regions) }
-{
-    match join(alloc, done, trigger) {
-        Ok(ways) => Ok(made_state(alloc, plain("body__1"), true, regions, ways)),
-        Err(error) => {
-            drop(regions);
-            Err(error)
-        }
-    }
-}
-
-fn put_body_region(
-    alloc: Global,
-    done: VariableId,
-    trigger: Option<Expr>,
-    regions: Items<ExtendedRegion>,
-    made: &mut Items<ExtendedRegion>,
-) -> Result<(), AllocError>
-    ensures { OnOk result (made.new ≡ made.old ++ body_region done trigger regions ∷ []) }
-{
-    let body = body(alloc, done, trigger, regions)?;
-    let mut states = alone(alloc, body)?;
-    match states.push(ended(alloc)) {
-        Ok(()) => made.push(ExtendedRegion {
-            name: plain("body__1"),
-            states,
-        }),
-        Err(error) => {
-            drop(states);
-            Err(error)
-        }
-    }
-}
-
-// Puts the state of this place: on to the end where what is inside has ended, and else elsewhere.
-fn put_tested(
-    alloc: Global,
-    done: VariableId,
-    place: u32,
-    end: u32,
-    other: u32,
-    made: &mut Items<ExtendedState>,
-) -> Result<(), AllocError>
-    ensures { OnOk result (made.new ≡ made.old ++ tested done place end other ∷ []) }
-{
-    let name = numbered("step__", place as u64);
-    let ends = Transition {
-        kind: TransitionKind::Go,
-        immediate: true,
-        trigger: Some(Expr::Load(done)),
-        effects: Items::new(alloc),
-        target: end,
-    };
-    let mut ways = alone(alloc, ends)?;
-    match ways.push(always(true, Items::new(alloc), other)) {
-        Ok(()) => made.push(made_state(alloc, name, place == 0, Items::new(alloc), ways)),
-        Err(error) => {
-            drop(ways);
-            Err(error)
-        }
-    }
-}
-
-// Puts what is done in the tick of the entry.
-fn put_first_states(
-    alloc: Global,
-    done: VariableId,
-    end: u32,
-    first: &[During],
-    at_once: bool,
-    made: &mut Items<ExtendedState>,
-) -> Result<(), AllocError>
-    ensures { OnOk result (made.new ≡ made.old ++ first_states done end first.now at_once) }
-{
-    put_steps(alloc, 0, first, made)?;
-    if at_once {
-        let place = count(first)?;
-        put_tested(alloc, done, place, end, next(place)?, made)
-    } else {
-        Ok(())
-    }
-}
-
-fn put_ending_states(
-    alloc: Global,
-    done: VariableId,
-    wait: u32,
-    first: &[During],
-    all: &[During],
-    at_once: bool,
-    made: &mut Items<ExtendedState>,
-) -> Result<(), AllocError>
-    ensures { OnOk result (made.new ≡ made.old ++ ending_states done wait first.now all.now at_once) }
-{
-    let again = next(wait)?;
-    let last = sum(again, count(all)?)?;
-    let end = next(last)?;
-    put_first_states(alloc, done, end, first, at_once, made)?;
-    put_passing(alloc, false, wait, again, made)?;
-    put_steps(alloc, again, all, made)?;
-    put_tested(alloc, done, last, end, wait, made)?;
-    made.push(ended(alloc))
-}
-
-// Puts the states that make these actions, in the tick of the entry those that are immediate.
-fn put_acting(
-    alloc: Global,
-    done: VariableId,
-    durings: &[During],
-    at_once: bool,
-    made: &mut Items<ExtendedState>,
-) -> Result<(), AllocError>
-    ensures { OnOk result (made.new ≡ made.old ++ ending_states done (length (immediate_ones durings.now) + one at_once)
-        (immediate_ones durings.now) durings.now at_once) }
-{
-    let mut immediate = Items::new(alloc);
-    put_immediate_ones(alloc, durings, &mut immediate)?;
-    let first = immediate.as_slice();
-    let wait = sum(count(first)?, one(at_once))?;
-    put_ending_states(alloc, done, wait, first, durings, at_once, made)
-}
-
-fn put_ending_region(
-    alloc: Global,
-    done: VariableId,
-    durings: &[During],
-    at_once: bool,
-    made: &mut Items<ExtendedRegion>,
-) -> Result<(), AllocError>
-    ensures { OnOk result (made.new ≡ made.old ++ ending_region done durings.now at_once ∷ []) }
-{
-    let mut states = Items::new(alloc);
-    match put_acting(alloc, done, durings, at_once, &mut states) {
-        Ok(()) => made.push(ExtendedRegion {
-            name: plain("during__1"),
-            states,
-        }),
-        Err(error) => {
-            drop(states);
-            Err(error)
-        }
-    }
 }
 
 // Whether a state with these actions is left by a termination.

@@ -6,7 +6,9 @@
 mod beginnings;
 mod clocks;
 mod constants;
+mod count_region;
 mod counts;
+mod ending_regions;
 mod endings;
 mod initial;
 mod passing;

@@ -1,6 +1,6 @@
 use Rattle.std.proofs.Common.{◌≡◌, ◌++◌, drop}
 use Rattle.value_passes.specs.Counts.{beginnings}
-use Rattle.value_passes.proofs.counts.put_beginnings.Given as goal
+use Rattle.value_passes.proofs.count_region.put_beginnings.Given as goal
 
 abbrev pub invariant-loop-condition : goal.invariant-loop-condition
 invariant-loop-condition l =

@@ -1,6 +1,6 @@
 use Rattle.std.proofs.Common.{◌≡◌, ◌++◌, drop}
 use Rattle.value_passes.specs.Counts.{all_counting}
-use Rattle.value_passes.proofs.counts.put_all_counting.Given as goal
+use Rattle.value_passes.proofs.count_region.put_all_counting.Given as goal
 
 abbrev pub invariant-loop-condition : goal.invariant-loop-condition
 invariant-loop-condition l =

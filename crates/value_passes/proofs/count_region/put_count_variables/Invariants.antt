@@ -1,6 +1,6 @@
 use Rattle.std.proofs.Common.{◌≡◌, ◌++◌, drop}
 use Rattle.value_passes.specs.Counts.{count_variables}
-use Rattle.value_passes.proofs.counts.put_count_variables.Given as goal
+use Rattle.value_passes.proofs.count_region.put_count_variables.Given as goal
 
 abbrev pub invariant-loop-condition : goal.invariant-loop-condition
 invariant-loop-condition l =
