@@ -5,11 +5,12 @@ ghost use Rattle.entry_passes.specs.Exits.{integer, set, is_at, departure, depar
 ghost use Rattle.entry_passes.specs.Exits.{led_out, left_by, left_transitions, left_behind};
 ghost use Rattle.entry_passes.specs.Inside.{led_to};
 
-use crate::copies::put_copied_effects;
 use crate::leaving::Leaving;
 use chart_elements::next;
 use core_charts::{Effect, Transition, TransitionKind, copied_effects, copied_trigger};
-use extended_charts::{ExtendedState, alone, always, has_some, made_state, sum};
+use extended_charts::{
+    ExtendedState, alone, always, has_some, made_state, put_copied_effects, sum,
+};
 use sc_graph::VariableId;
 use sc_text::numbered;
 use sc_values::{BinaryOperator, Expr, Value};

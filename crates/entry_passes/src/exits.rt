@@ -5,15 +5,14 @@ ghost use Rattle.entry_passes.specs.Exits.{noted, parting, own_note, left_region
 ghost use Rattle.entry_passes.specs.Exits.{all_states, all_behind, with_behind, all_inside, outer_regions, with_exits};
 ghost use Rattle.entry_passes.specs.Inside.{note_of, own_leavings, own_transitions, fill_left};
 
-use crate::copies::put_copied_effects;
 use crate::departures::{put_left_behind, put_left_transitions, put_set};
 use crate::leaving::{
     Leaving, has_exit, have_exits, inside, notes, put_state_leavings, state_inside,
 };
 use core_charts::{Effect, Transition, copied_effects};
 use extended_charts::{
-    ExtendedChart, ExtendedRegion, ExtendedState, bare, count, has_some, one, put_integers, sum,
-    variable,
+    ExtendedChart, ExtendedRegion, ExtendedState, bare, count, has_some, one, put_copied_effects,
+    put_integers, sum, variable,
 };
 use sc_graph::VariableId;
 use sqlite_items::Items;

@@ -7,7 +7,6 @@ ghost use Rattle.entry_passes.specs.Histories.{made_region, past_region, past_st
 ghost use Rattle.entry_passes.specs.Inside.{fill_past};
 ghost use Rattle.extended_charts.specs.Making.{region};
 
-use crate::copies::put_copied_effects;
 use crate::departures::put_set;
 use crate::recalls::{
     Kept, asking_count, is_by_history, is_recalled, put_kept_in, put_variables, recalled_among,
@@ -18,7 +17,7 @@ use chart_elements::next;
 use core_charts::{Effect, Transition};
 use extended_charts::{
     ExtendedChart, ExtendedRegion, ExtendedState, bare, copy, count, has_some, put_copied_durings,
-    reset, sum, variable,
+    put_copied_effects, reset, sum, variable,
 };
 use sc_graph::VariableId;
 use sc_values::{Expr, Name, Value};

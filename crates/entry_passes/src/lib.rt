@@ -2,7 +2,6 @@
 //! actions.
 #![tactic(auto)]
 
-mod copies;
 mod departures;
 mod entry;
 mod exits;
