@@ -2,7 +2,7 @@
 use Rattle.std.proofs.Common.{◌≡◌, ℕ, suc, ◌+◌, Bool, true, Option, Some, None, List, [], ◌∷◌, ◌++◌, map, length, codes, refl, ap, ◌∙◌}
 use Rattle.sc_text.specs.MadeNames.{numbered}
 use Rattle.entry_passes.specs.declared.histories.Past.{Past}
-use Rattle.entry_passes.specs.declared.histories.Standing.{Standing}
+use Rattle.entry_passes.specs.declared.histories.EnclosingRegion.{EnclosingRegion}
 use Rattle.extended_charts.specs.declared.extended.ExtendedRegion.{ExtendedRegion}
 use Rattle.extended_charts.specs.declared.extended.ExtendedState.{ExtendedState}
 use Rattle.extended_charts.specs.declared.extended.ExtendedRegion.TheViews.{roll-ExtendedRegion, roll-ExtendedState}
@@ -26,9 +26,9 @@ abbrev RegionPast : ExtendedRegion → Type 0
 RegionPast r = (own : Option Past) (x : ℕ) → SameRegion ((past_region r).made own x) r
 
 abbrev StatePast : ExtendedState → Type 0
-StatePast s = (at : Standing) (recalled : Bool) (place x : ℕ) → SameState ((past_state s).made at recalled place x) s
+StatePast s = (at : EnclosingRegion) (recalled : Bool) (place x : ℕ) → SameState ((past_state s).made at recalled place x) s
 
-states_past : (states : List ExtendedState) → Each StatePast states → (at : Standing) (recalled : List ℕ) (place x : ℕ)
+states_past : (states : List ExtendedState) → Each StatePast states → (at : EnclosingRegion) (recalled : List ℕ) (place x : ℕ)
     → SameStates (all_states at recalled place x (map past_state states)) states
 states_past [] h at recalled place x around before = refl
 states_past (s ∷ states) h at recalled place x around before =
@@ -43,7 +43,7 @@ region_past : (states : List ExtendedState) → Each StatePast states → (own :
     → SameStates (made_region own recalled x (map past_state states)) states
 region_past states h own recalled x around before =
     let past : List PastState = map past_state states in
-    let at : Standing = record { count = length past; asked = x; own = own } in
+    let at : EnclosingRegion = record { count = length past; asked = x; own = own } in
     let y : ℕ = x + length (asking recalled) in
     silent_behind (all_states at recalled 0 y past) (resuming own past) (resuming_silent own past) around before
     ∙ states_past states h at recalled 0 y around before

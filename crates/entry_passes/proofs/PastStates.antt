@@ -2,7 +2,7 @@
 use Rattle.std.proofs.Common.{◌≡◌, ℕ, Bool, Option, List, ◌++◌, map, length, ap, ◌∙◌}
 use Rattle.std.proofs.lemmas.List.{length-map}
 use Rattle.entry_passes.specs.declared.histories.Past.{Past}
-use Rattle.entry_passes.specs.declared.histories.Standing.{Standing}
+use Rattle.entry_passes.specs.declared.histories.EnclosingRegion.{EnclosingRegion}
 use Rattle.extended_charts.specs.declared.extended.ExtendedRegion.{ExtendedRegion}
 use Rattle.extended_charts.specs.declared.extended.ExtendedState.{ExtendedState}
 use Rattle.extended_charts.specs.declared.extended.ExtendedRegion.TheViews.{out-ExtendedRegion, out-ExtendedState, roll-ExtendedState}
@@ -21,7 +21,7 @@ state_begins s = ap (λ p. p.is_initial) (fold_out-ExtendedState PastRegion Past
 pub state_kept : (s : ExtendedState) (b : Bool) → (past_state s).kept b ≡ kept_in b (map past_region (out-ExtendedState s).regions)
 state_kept s b = ap (λ p. p.kept b) (fold_out-ExtendedState PastRegion PastState region_step state_step s)
 
-pub state_made : (s : ExtendedState) (at : Standing) (b : Bool) (place x : ℕ) → (past_state s).made at b place x
+pub state_made : (s : ExtendedState) (at : EnclosingRegion) (b : Bool) (place x : ℕ) → (past_state s).made at b place x
     ≡ roll-ExtendedState (record {
       name = (out-ExtendedState s).name;
       is_own = (out-ExtendedState s).is_own;

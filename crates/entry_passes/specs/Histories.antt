@@ -16,7 +16,7 @@ use Rattle.core_charts.specs.declared.region.Transition.{Transition}
 use Rattle.entry_passes.specs.declared.recalls.Kept.{Kept}
 use Rattle.entry_passes.specs.declared.recalls.Kept.TheVariants as kept
 use Rattle.entry_passes.specs.declared.histories.Past.{Past}
-use Rattle.entry_passes.specs.declared.histories.Standing.{Standing}
+use Rattle.entry_passes.specs.declared.histories.EnclosingRegion.{EnclosingRegion}
 use Rattle.extended_charts.specs.declared.extended.Declared.{Declared}
 use Rattle.extended_charts.specs.declared.extended.ExtendedChart.{ExtendedChart}
 use Rattle.extended_charts.specs.declared.extended.ExtendedRegion.{ExtendedRegion}
@@ -81,7 +81,7 @@ abbrev pub noted : Option Past → (place : ℕ) → List Effect
 noted (Some past) place = set past.last (suc place) ∷ []
 noted None place = []
 
-abbrev pub led : Standing → Transition → Transition
+abbrev pub led : EnclosingRegion → Transition → Transition
 led at t =
     if is_by_history at.count t
     then record t { effects = t.effects ++ asks at.asked ∷ []; target = t.target - at.count }
@@ -105,7 +105,7 @@ pub record PastState : Type 0 where
   pub is_initial : Bool
   pub transitions : List Transition
   pub kept : (is_recalled : Bool) → List Kept
-  pub made : Standing → (is_recalled : Bool) → (place x : ℕ) → ExtendedState
+  pub made : EnclosingRegion → (is_recalled : Bool) → (place x : ℕ) → ExtendedState
 
 abbrev pub kept_in : (is_recalled : Bool) → List PastRegion → List Kept
 kept_in is_recalled [] = []
@@ -136,7 +136,7 @@ all_regions history x regions =
     walk (λ (r : PastRegion). past_own history (length r.kept)) (λ r y. r.made (own_past history y) (past_own history y) ∷ [])
     x regions
 
-abbrev pub all_states : Standing → (recalled : List ℕ) → (place x : ℕ) → List PastState → List ExtendedState
+abbrev pub all_states : EnclosingRegion → (recalled : List ℕ) → (place x : ℕ) → List PastState → List ExtendedState
 all_states at recalled place x [] = []
 all_states at recalled place x (s ∷ states) =
     s.made at (is_recalled place recalled) place x

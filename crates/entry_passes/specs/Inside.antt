@@ -5,7 +5,7 @@ use Rattle.extended_charts.specs.declared.extended.ExtendedState.{ExtendedState}
 use Rattle.extended_charts.specs.declared.extended.ExtendedRegion.TheViews.{out-ExtendedState, roll-ExtendedState}
 use Rattle.extended_charts.specs.Making.{has_some}
 use Rattle.entry_passes.specs.declared.histories.Past.{Past}
-use Rattle.entry_passes.specs.declared.histories.Standing.{Standing}
+use Rattle.entry_passes.specs.declared.histories.EnclosingRegion.{EnclosingRegion}
 use Rattle.entry_passes.specs.declared.leaving.Leaving.{Leaving}
 use Rattle.entry_passes.specs.Exits as exits
 use Rattle.entry_passes.specs.Exits.{LeftRegion, own_note, parting, left_transitions, left_in, left_region, left_state}
@@ -42,7 +42,7 @@ abbrev pub own_resumption : Past → (place : ℕ) → (is_initial : Bool) → L
 own_resumption past place true = []
 own_resumption past place false = resumption past place ∷ []
 
-abbrev pub fill_past : Standing → (is_recalled : Bool) → (place x : ℕ) → (s past : ExtendedState) → ExtendedState
+abbrev pub fill_past : EnclosingRegion → (is_recalled : Bool) → (place x : ℕ) → (s past : ExtendedState) → ExtendedState
 fill_past at is_recalled place x s past =
     roll-ExtendedState (record (out-ExtendedState past) {
       entry =

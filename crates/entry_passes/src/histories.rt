@@ -35,7 +35,7 @@ pub struct Past {
 
 /// The region in which a state stands.
 #[derive(Clone, Copy, Debug)]
-pub struct Standing {
+pub struct EnclosingRegion {
     /// How many states it has.
     pub count: u32,
     /// Whether the transition that is taken goes by history; and the next variable, whether its state was entered so.
@@ -125,7 +125,7 @@ fn put_noted(own: Option<Past>, place: u32, made: &mut Items<Effect>) -> Result<
 
 fn put_led(
     alloc: Global,
-    at: Standing,
+    at: EnclosingRegion,
     transition: &Transition,
     made: &mut Items<Transition>,
 ) -> Result<(), AllocError>
@@ -147,7 +147,7 @@ fn put_led(
 
 fn put_all_led(
     alloc: Global,
-    at: Standing,
+    at: EnclosingRegion,
     transitions: &[Transition],
     made: &mut Items<Transition>,
 ) -> Result<(), AllocError>
@@ -284,7 +284,7 @@ fn put_made(
 ) -> Result<(), AllocError>
     ensures { OnOk result (made.new ≡ made.old ++ made_region own recalled.now x (map past_state states.now)) }
 {
-    let at = Standing {
+    let at = EnclosingRegion {
         count: count(states)?,
         asked: variable(x as usize)?,
         own,
@@ -297,7 +297,7 @@ fn put_made(
 #[cycle(past)]
 fn put_states(
     alloc: Global,
-    at: Standing,
+    at: EnclosingRegion,
     recalled: &[u32],
     first: u32,
     states: &[ExtendedState],
@@ -320,7 +320,7 @@ fn put_states(
 #[tactic(auto, using(crate::proofs::PastStates::state_made))]
 fn put_state(
     alloc: Global,
-    at: Standing,
+    at: EnclosingRegion,
     is_recalled: bool,
     place: u32,
     x: u32,
@@ -344,7 +344,7 @@ fn put_state(
 #[cycle(past)]
 fn fill_past(
     alloc: Global,
-    at: Standing,
+    at: EnclosingRegion,
     is_recalled: bool,
     place: u32,
     x: u32,
