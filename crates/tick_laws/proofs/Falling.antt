@@ -31,7 +31,7 @@ StandsAt (status.At n) m = n ≡ m
 StandsAt (status.Waiting j) m = j ≡ m
 StandsAt other m = ⊥
 
-stands_priority : (q : Tables) (s : Status) (m : ℕ) → StandsAt s m → priority_of q s ≡ priority q m
+pub stands_priority : (q : Tables) (s : Status) (m : ℕ) → StandsAt s m → priority_of q s ≡ priority q m
 stands_priority q status.Absent m h = absurd h
 stands_priority q (status.At n) m h = ap (priority q) h
 stands_priority q (status.Waiting j) m h = ap (priority q) h

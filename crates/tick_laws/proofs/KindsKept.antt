@@ -15,7 +15,7 @@ use Rattle.sc_graph.specs.Steps.{Change, Keep, Put, Combine, Effect, is_kind, ta
 use Rattle.tick_laws.proofs.Lists.{same_or_not, get_set_same, get_set_other}
 use Rattle.tick_laws.proofs.Views.{Does, simple, forks, joins, Changes}
 
-kinds_same : (a b : Kind) → is_kind a b ≡ true → a ≡ b
+pub kinds_same : (a b : Kind) → is_kind a b ≡ true → a ≡ b
 kinds_same kind.Bool kind.Bool h = refl
 kinds_same kind.Int kind.Int h = refl
 kinds_same kind.Bool kind.Int h = absurd (cc)

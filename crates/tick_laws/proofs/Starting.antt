@@ -95,11 +95,11 @@ start_value inputs (a ∷ vs) (w ∷ ws) (suc x) v h =
     record { variable = rest.variable; before = rest.before; is_variable = rest.is_variable; is_before = rest.is_before; gives = rest.gives }
 
 -- an input under this name, with its place among the inputs
-record GivenAt (inputs : Inputs) (name : List ℕ) (v : Value) : Type 0 where
-  place : ℕ
-  is : slice_get inputs place ≡ Some (name, v)
+pub record GivenAt (inputs : Inputs) (name : List ℕ) (v : Value) : Type 0 where
+  pub place : ℕ
+  pub is : slice_get inputs place ≡ Some (name, v)
 
-given_at : (inputs : Inputs) (name : List ℕ) (v : Value) → given inputs name ≡ Some v → GivenAt inputs name v
+pub given_at : (inputs : Inputs) (name : List ℕ) (v : Value) → given inputs name ≡ Some v → GivenAt inputs name v
 given_at [] name v h = absurd (none-some v h)
 given_at (i ∷ inputs) name v h = at (bytes_eq i.0 name) (bytes_eq-Decides i.0 name).0 h (given_at inputs name v)
   where
