@@ -19,7 +19,7 @@ use Rattle.scl.specs.declared.statement.Statement.{Statement}
 use Rattle.scl.specs.Block.{Block, End, Label}
 use Rattle.scl.specs.Numbering.{Piece as TextPiece, Numbers, pieces_of, in_row}
 use Rattle.scl_graph_laws.proofs.Segments.{StandAt, stand_from, stand_first, stand_second}
-use Rattle.scl_graph_laws.proofs.Members.{contains_head, contains_tail}
+use Rattle.tick_laws.proofs.Lists.{contains_head, contains_tail}
 use Rattle.scl_graph_laws.proofs.Searching.{own_labels}
 use Rattle.scl_graph_laws.proofs.Scopes.{KeepsScopes, Distinct, distinct_first}
 use Rattle.chart_lowering_laws.proofs.Labels.{text_labels, own_made, label_first}

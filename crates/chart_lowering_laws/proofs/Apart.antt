@@ -12,7 +12,7 @@ use Rattle.scl.specs.Places.{Place, whole, threads_of, IsChild, Descends, Below}
 use Rattle.scl.specs.Places.{ForkedApart as ThreadsApart}
 use Rattle.scl.specs.Numbering.{Numbered}
 use Rattle.chart_lowering_laws.specs.Layout.{Layout, InRegion, IsSuper, LiesIn, IsRegionOf, ForksRegions, of_chart, of_state, Lowers}
-use Rattle.scl_graph_laws.proofs.Members.{contains_head, contains_tail, contains_none, contains_cons}
+use Rattle.tick_laws.proofs.Lists.{contains_head, contains_tail, contains_none, contains_cons}
 
 module _ (k : Table) (p : Numbered) (l : Layout) (low : Lowers k p l) where
   -- a thread that is forked is a region's, and lies in a state of its parent, or in the chart itself

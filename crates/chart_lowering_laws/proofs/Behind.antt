@@ -2,7 +2,7 @@
 use Rattle.std.proofs.Common.{◌≡◌, ℕ, ◌⊎◌, inl, inr, List, [], ◌∷◌, ◌++◌, Contains, sym, subst, ◌∙◌}
 use Rattle.scl.specs.Block.{Block, Branches}
 use Rattle.scl.specs.Places.{IsBranch, here, later}
-use Rattle.scl_graph_laws.proofs.Members.{contains_head, contains_tail}
+use Rattle.tick_laws.proofs.Lists.{contains_head, contains_tail}
 use Rattle.scl_graph_laws.proofs.Scopes.{Distinct}
 use Rattle.scl_graph_laws.proofs.Searching.{own_labels, lower_labels, labels_among}
 

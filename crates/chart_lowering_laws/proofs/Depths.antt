@@ -29,7 +29,7 @@ use Rattle.chart_lowering.specs.Lowering.{label, label_name, label_at, goto, tex
 use Rattle.chart_lowering.specs.Lowering.{state_piece as low_state, piece_of_region as low_of_region}
 use Rattle.chart_lowering_laws.specs.Layout.{Layout, Acts, Tries, Takes, TriesOut, InRegion, LiesIn, IsTree, IsSimple, IsFinal, goes_on}
 use Rattle.chart_lowering_laws.specs.Marks.{Mark, mark_at, behind_some, second_of, lows, marks_of_region, layout_of}
-use Rattle.scl_graph_laws.proofs.Members.{contains_none, contains_cons}
+use Rattle.tick_laws.proofs.Lists.{contains_none, contains_cons}
 use Rattle.chart_lowering_laws.proofs.Texts.{made, label_piece, pause_piece, if_piece}
 use Rattle.chart_lowering_laws.proofs.Finding.{MainPlace, label_found, main_label, main_pause, main_if}
 use Rattle.chart_lowering_laws.proofs.Reading.{acts_at, tries_at, tries_map}

@@ -12,7 +12,7 @@ use Rattle.core_charts.specs.Tests.{at_once, terminations}
 use Rattle.scl.specs.Block.{Block}
 use Rattle.chart_lowering_laws.specs.Layout.{Layout, all_entered, IsSimple, IsFinal, IsSuper, StandsThere, LiesIn, InRegion, IsRegionOf, IsNumberOf, IsTree}
 use Rattle.chart_lowering_laws.specs.Corresponds.{first_standing, fresh}
-use Rattle.scl_graph_laws.proofs.Members.{contains_head, contains_tail, contains_none, contains_cons}
+use Rattle.tick_laws.proofs.Lists.{contains_head, contains_tail, contains_none, contains_cons}
 use Rattle.chart_lowering_laws.proofs.NumberTests.{same_or_not, nat_differ, nat_same, same_test}
 
 -- ---- lists of moves

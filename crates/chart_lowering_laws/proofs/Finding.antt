@@ -7,7 +7,7 @@ use Rattle.sc_values.specs.declared.expression.Expr.{Expr}
 use Rattle.scl.specs.Block.{Block, Assign, Label, Goto, Pause, If, Fork, Branches}
 use Rattle.scl.specs.Labels.{before, or_else, behind_own_label, behind_lower_label, behind_label_among, behind_label}
 use Rattle.scl.specs.Places.{Place, whole, after_assign, after_label, after_goto, after_pause, after_if, after_fork, in_branch, IsBranch}
-use Rattle.scl_graph_laws.proofs.Members.{contains_head, contains_tail}
+use Rattle.tick_laws.proofs.Lists.{contains_head, contains_tail}
 use Rattle.scl_graph_laws.proofs.Searching.{own_labels, lower_labels, labels_among, found_first, found_second, own_found, own_none, among_found}
 use Rattle.scl_graph_laws.proofs.Scopes.{Distinct, KeepsScopes, Scope, distinct_first, distinct_second, distinct_apart, among_branch, distinct_branch}
 use Rattle.scl_graph_laws.proofs.Scopes.{found_in_branch, scope_at}

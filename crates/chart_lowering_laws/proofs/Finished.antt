@@ -11,7 +11,7 @@ use Rattle.scl.specs.Block.{Block}
 use Rattle.scl.specs.Meaning.{State, Doing, Away, Todo, Forked, Resting, Resuming, Finished, doing, all_finished, has_finished}
 use Rattle.chart_lowering_laws.specs.Layout.{Layout}
 use Rattle.chart_lowering_laws.specs.Corresponds.{Live}
-use Rattle.scl_graph_laws.proofs.Members.{contains_head, contains_tail, contains_none, contains_cons}
+use Rattle.tick_laws.proofs.Lists.{contains_head, contains_tail, contains_none, contains_cons}
 
 -- ---- lists of tests
 

@@ -15,7 +15,7 @@ use Rattle.scl.specs.Meaning.{State, Doing, Away, Todo, Forked, Resting, Resumin
 use Rattle.chart_lowering_laws.specs.Layout.{Layout, LiesIn, IsRegionOf, Lowers}
 use Rattle.chart_lowering_laws.specs.Corresponds.{Giving, Nothing, Ready, Turn, Past, giving, giving_in, giving_of_root, given, Fits}
 use Rattle.chart_lowering_laws.specs.Corresponds.{Corresponds}
-use Rattle.scl_graph_laws.proofs.Members.{contains_none, contains_cons}
+use Rattle.tick_laws.proofs.Lists.{contains_none, contains_cons}
 use Rattle.chart_lowering_laws.proofs.Structure.{given_top, given_in}
 use Rattle.chart_lowering_laws.proofs.RegionsWait.{forks_around}
 

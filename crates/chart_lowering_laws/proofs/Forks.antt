@@ -19,7 +19,7 @@ use Rattle.scl.specs.Rules.{Part, KeepsRules, parts_of}
 use Rattle.scl.specs.Rules.{in_row as parts_in_row}
 use Rattle.scl_graph.specs.Graph.{node, program_of}
 use Rattle.scl_graph_laws.specs.Mirrors.{leads, HasFork, Mirrors}
-use Rattle.scl_graph_laws.proofs.Members.{contains_head}
+use Rattle.tick_laws.proofs.Lists.{contains_head}
 use Rattle.scl_graph_laws.proofs.Numbers.{own_nodes, row_runs_on}
 use Rattle.scl_graph_laws.proofs.Segments.{stand_all}
 use Rattle.scl_graph_laws.proofs.Whole.{IsWhole}

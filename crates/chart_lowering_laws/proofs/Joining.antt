@@ -18,7 +18,7 @@ use Rattle.scl.specs.Meaning.{State, Doing, Away, doing}
 use Rattle.scl.specs.Meaning.{moved as threads_moved}
 use Rattle.chart_lowering_laws.specs.Layout.{Layout, InRegion, LiesIn, IsRegionOf, Lowers}
 use Rattle.chart_lowering_laws.specs.Corresponds.{Nothing, Turn, giving, giving_in, given, fresh, Fits, Corresponds}
-use Rattle.scl_graph_laws.proofs.Members.{contains_head, contains_tail, contains_none, contains_cons}
+use Rattle.tick_laws.proofs.Lists.{contains_head, contains_tail, contains_none, contains_cons}
 use Rattle.chart_lowering_laws.proofs.NumberTests.{same_or_not, nat_differ, nat_same}
 use Rattle.chart_lowering_laws.proofs.Entering.{standing_in, later, only, put, put_append, moved_at, moved_length}
 use Rattle.chart_lowering_laws.proofs.Matching.{Comes, opened_by, is_within, not_around, nothing_dropped, later_none}

@@ -24,7 +24,7 @@ use Rattle.chart_lowering.specs.Lowering.{piece_of_region as low_of_region}
 use Rattle.chart_lowering_laws.specs.Layout.{Layout, Lowers, IsTree, IsRoot, IsRegionOf, StandsThere}
 use Rattle.chart_lowering_laws.specs.Marks.{marks, layout}
 use Rattle.chart_lowering_laws.specs.Laws.{IsLowering}
-use Rattle.scl_graph_laws.proofs.Members.{contains_head}
+use Rattle.tick_laws.proofs.Lists.{contains_head}
 use Rattle.chart_lowering_laws.proofs.Texts.{made, fork_piece}
 use Rattle.chart_lowering_laws.proofs.Counting.{threads_in, branches_count, regions_count}
 use Rattle.chart_lowering_laws.proofs.Finding.{MainPlace, main_whole, main_branch}

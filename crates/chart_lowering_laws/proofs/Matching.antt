@@ -33,7 +33,7 @@ use Rattle.scl_graph_laws.specs.Standing.{IsStep}
 use Rattle.chart_lowering_laws.specs.Layout.{Layout, Acts, Tests, Tries, Takes, TriesOut, InRegion, IsSimple, IsFinal, IsSuper, StandsThere, IsRegionOf}
 use Rattle.chart_lowering_laws.specs.Layout.{IsNumberOf, Lowers}
 use Rattle.chart_lowering_laws.specs.Corresponds.{Live, HeldBy, ComesTo, Ready, giving, first_standing, fresh}
-use Rattle.scl_graph_laws.proofs.Members.{contains_head, contains_tail, contains_none, contains_cons}
+use Rattle.tick_laws.proofs.Lists.{contains_head, contains_tail, contains_none, contains_cons}
 use Rattle.chart_lowering_laws.proofs.NumberTests.{nat_differ, nat_same}
 use Rattle.chart_lowering_laws.proofs.Entering.{later, only, put, put_append, opened_in, not_opened, puts_opened}
 use Rattle.chart_lowering_laws.proofs.LeadAlike.{settled_step, is_there, tries_alike}

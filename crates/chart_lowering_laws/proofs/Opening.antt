@@ -24,7 +24,7 @@ use Rattle.scl.specs.Numbering.{Piece as TextPiece, inside as inside_numbers}
 use Rattle.scl_graph_laws.proofs.Segments.{StandAt, stand_from, stand_first, stand_second}
 use Rattle.scl_graph_laws.proofs.Scopes.{KeepsScopes}
 use Rattle.scl_graph_laws.proofs.Coming.{branch_thread}
-use Rattle.scl_graph_laws.proofs.Members.{contains_none}
+use Rattle.tick_laws.proofs.Lists.{contains_none}
 use Rattle.chart_lowering.specs.declared.targets.Targets.{Targets}
 use Rattle.chart_lowering.specs.Lowering.{RegionPiece, StatePiece, label, label_name, branches, texts, numbers, targets, labels_in_initial, labels_in_states}
 use Rattle.chart_lowering.specs.Lowering.{region_piece as low_region, state_piece as low_state, piece_of_region as low_of_region}

@@ -13,7 +13,7 @@ use Rattle.scl.specs.Places.{threads_of}
 use Rattle.scl.specs.Numbering.{Numbered}
 use Rattle.scl.specs.Meaning.{State, Doing, Away, Todo, Forked, Resting, Resuming, Finished, ThreadChange, doing, step, all_finished, joined, forked, entered}
 use Rattle.scl.specs.Meaning.{all_entered, goes_on, assigned, chosen, after, change_of, moved}
-use Rattle.scl_graph_laws.proofs.Members.{contains_head, contains_tail}
+use Rattle.tick_laws.proofs.Lists.{contains_head, contains_tail}
 use Rattle.chart_lowering_laws.proofs.Stepping.{set_doing_other}
 use Rattle.chart_lowering_laws.proofs.Silently.{doing_in}
 use Rattle.chart_lowering_laws.proofs.Joining.{not_gone}

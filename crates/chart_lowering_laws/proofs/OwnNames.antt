@@ -8,7 +8,7 @@ use Rattle.core_charts.specs.declared.region.State.{State}
 use Rattle.core_charts.specs.declared.region.Region.TheViews.{out-State}
 use Rattle.core_charts.specs.declared.region.Region.TheFolds.{fold_out-State}
 use Rattle.scl.specs.declared.statement.Statement.{Statement}
-use Rattle.scl_graph_laws.proofs.Members.{contains_head, contains_tail}
+use Rattle.tick_laws.proofs.Lists.{contains_head, contains_tail}
 use Rattle.scl_graph_laws.proofs.Scopes.{Distinct}
 use Rattle.chart_lowering.specs.declared.targets.Targets.{Targets}
 use Rattle.chart_lowering.specs.Lowering.{RegionPiece, StatePiece, label_name, label, texts, numbers, is_wanted, text_of}

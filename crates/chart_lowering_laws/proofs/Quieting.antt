@@ -19,7 +19,7 @@ use Rattle.chart_machine.specs.Machine.{machine as chart_machine}
 use Rattle.scl.specs.Block.{Block}
 use Rattle.scl.specs.Numbering.{Numbered}
 use Rattle.scl.specs.Meaning.{State, Doing, Away, Todo, Forked, Resting, Resuming, Finished, doing}
-use Rattle.scl_graph_laws.proofs.Members.{contains_none}
+use Rattle.tick_laws.proofs.Lists.{contains_none}
 use Rattle.chart_lowering_laws.proofs.Showing.{region_of}
 use Rattle.chart_lowering_laws.specs.Layout.{Layout, Tests, Tries, Takes, InRegion, IsSimple, StandsThere, IsRegionOf, IsNumberOf, Lowers}
 use Rattle.chart_lowering_laws.specs.Corresponds.{Live, HeldBy, Giving, Nothing, Ready, Turn, Past, given, first_standing, Fits, Corresponds, fresh}

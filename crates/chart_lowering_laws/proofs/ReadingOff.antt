@@ -28,7 +28,7 @@ use Rattle.chart_machine.specs.declared.table.TablePosition.{TablePosition}
 use Rattle.chart_machine.specs.Table.{state_at, within, side_by_side, region_numbers, subtree_of_region, region_subtree, state_subtree}
 use Rattle.chart_machine.specs.Table.{Subtree as Piece_of_chart, behind as behind_piece}
 use Rattle.scl_graph_laws.proofs.Segments.{StandAt, stand_from, stand_first, stand_second}
-use Rattle.scl_graph_laws.proofs.Members.{contains_none, contains_cons}
+use Rattle.tick_laws.proofs.Lists.{contains_none, contains_cons}
 use Rattle.chart_lowering_laws.proofs.Rows.{RegionRowed, open_region}
 use Rattle.chart_lowering_laws.proofs.Reading.{acts_at, tries_at}
 use Rattle.sc_text.proofs.EachItem.{Each}

@@ -23,7 +23,7 @@ use Rattle.chart_lowering_laws.specs.Shown.{AreSilent}
 use Rattle.chart_lowering_laws.proofs.Waiting.{Waiting}
 use Rattle.chart_lowering_laws.specs.Follows.{Answers}
 use Rattle.chart_lowering_laws.specs.WhichShow.{region_shows, thread_shows, shows_standing, shows_doing, has_trigger}
-use Rattle.scl_graph_laws.proofs.Members.{contains_head, contains_tail, contains_none, contains_cons}
+use Rattle.tick_laws.proofs.Lists.{contains_head, contains_tail, contains_none, contains_cons}
 use Rattle.chart_lowering_laws.proofs.NumberTests.{same_or_not, nat_differ}
 use Rattle.chart_lowering_laws.proofs.Matching.{is_within, around_less}
 use Rattle.chart_lowering_laws.proofs.Structure.{Inside, inside_or_not, inside_less, giving_closed}

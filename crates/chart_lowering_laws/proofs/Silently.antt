@@ -16,7 +16,7 @@ use Rattle.scl_graph_laws.specs.Standing.{IsStep}
 use Rattle.scl_graph_laws.specs.Settling.{Settled}
 use Rattle.chart_lowering_laws.specs.Layout.{Layout, InRegion, Opens, LiesIn, IsRegionOf, Lowers}
 use Rattle.chart_lowering_laws.specs.Corresponds.{Live, HeldBy, Giving, Nothing, Turn, giving, giving_in, giving_of_root, given, Fits, IsAtRoot, Corresponds}
-use Rattle.scl_graph_laws.proofs.Members.{contains_head, contains_tail, contains_none, contains_cons}
+use Rattle.tick_laws.proofs.Lists.{contains_head, contains_tail, contains_none, contains_cons}
 use Rattle.chart_lowering_laws.proofs.NumberTests.{same_or_not, nat_differ, nat_same}
 use Rattle.chart_lowering_laws.proofs.Structure.{given_top, given_in}
 use Rattle.chart_lowering_laws.proofs.Stepping.{OneMoved, set_doing_same, set_doing_other, set_doing_length}

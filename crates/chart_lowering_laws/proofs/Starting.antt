@@ -23,7 +23,7 @@ use Rattle.chart_lowering_laws.specs.Layout.{Layout, LiesIn, IsSuper, IsRegionOf
 use Rattle.chart_lowering_laws.specs.Corresponds.{Live, HeldBy, Giving, Nothing, Ready, Turn, Past, giving_in, giving_of_root, given, fresh}
 use Rattle.chart_lowering_laws.specs.Corresponds.{Fits, IsAtRoot, Corresponds}
 use Rattle.chart_lowering_laws.specs.Keeps.{AtRest}
-use Rattle.scl_graph_laws.proofs.Members.{contains_head, contains_none}
+use Rattle.tick_laws.proofs.Lists.{contains_head, contains_none}
 use Rattle.chart_lowering_laws.proofs.NumberTests.{nat_same, same_test}
 use Rattle.chart_lowering_laws.proofs.Entering.{standing_in, put, moved_at, moved_length, opens_up, opened_in, reaches, any_reaches, reaches_member}
 use Rattle.chart_lowering_laws.proofs.Entering.{member_reaches, none_reaches, puts_top, or_either, or_first, or_second, and_each, and_both}

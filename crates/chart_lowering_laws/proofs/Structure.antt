@@ -10,7 +10,7 @@ use Rattle.scl.specs.Numbering.{Numbered}
 use Rattle.scl.specs.Meaning.{State, Doing, Away, doing}
 use Rattle.chart_lowering_laws.specs.Layout.{Layout, LiesIn, IsRegionOf, Lowers}
 use Rattle.chart_lowering_laws.specs.Corresponds.{Giving, Nothing, giving_in, giving_of_root, given, Fits, Corresponds}
-use Rattle.scl_graph_laws.proofs.Members.{contains_head, contains_tail, contains_none, contains_cons}
+use Rattle.tick_laws.proofs.Lists.{contains_head, contains_tail, contains_none, contains_cons}
 use Rattle.chart_lowering_laws.proofs.NumberTests.{same_or_not}
 use Rattle.chart_lowering_laws.proofs.Matching.{around_less, is_within}
 

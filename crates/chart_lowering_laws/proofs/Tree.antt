@@ -16,7 +16,7 @@ use Rattle.scl_graph_laws.proofs.Segments.{StandAt, stand_from, stand_first, sta
 use Rattle.scl_graph_laws.proofs.Scopes.{KeepsScopes}
 use Rattle.chart_lowering_laws.specs.Layout.{InRegion, IsRegionOf, LiesIn, IsTree}
 use Rattle.chart_lowering_laws.specs.Marks.{Mark, layout_of, initial_among}
-use Rattle.scl_graph_laws.proofs.Members.{contains_none, contains_cons}
+use Rattle.tick_laws.proofs.Lists.{contains_none, contains_cons}
 use Rattle.chart_lowering_laws.proofs.Rows.{RegionRowed, open_region}
 use Rattle.chart_lowering_laws.proofs.Walking.{StateAt, RegionAt, Found, HeldBy, numbers_from}
 use Rattle.chart_lowering_laws.proofs.ReadingOff.{state_holds}

@@ -13,7 +13,7 @@ use Rattle.scl.specs.Meaning.{State, Doing, Away, doing}
 use Rattle.chart_lowering_laws.specs.Layout.{Layout, IsSimple, IsFinal, IsSuper, LiesIn, IsRegionOf, IsNumberOf, Lowers}
 use Rattle.chart_lowering_laws.specs.Corresponds.{Live, HeldBy, Giving, Nothing, Ready, Turn, giving, giving_in, giving_of_root, given, fresh, first_standing}
 use Rattle.chart_lowering_laws.specs.Corresponds.{Fits, IsAtRoot, Corresponds}
-use Rattle.scl_graph_laws.proofs.Members.{contains_head, contains_none}
+use Rattle.tick_laws.proofs.Lists.{contains_head, contains_none}
 use Rattle.chart_lowering_laws.proofs.NumberTests.{same_or_not, nat_differ, nat_same}
 use Rattle.chart_lowering_laws.proofs.Entering.{opens_up, opened_in, not_opened, or_first}
 use Rattle.chart_lowering_laws.proofs.Matching.{not_around, opened_by, is_within}

@@ -17,7 +17,7 @@ use Rattle.core_charts.specs.declared.features.Features.TheVariants as features
 use Rattle.sc_graph.specs.declared.program.Variable.{Variable}
 use Rattle.chart_machine.specs.declared.table.StateRow.{StateRow}
 use Rattle.std.proofs.lemmas.Option.{slice_get_within}
-use Rattle.scl_graph_laws.proofs.Members.{contains_head, contains_tail, contains_none, contains_cons}
+use Rattle.tick_laws.proofs.Lists.{contains_head, contains_tail, contains_none, contains_cons}
 use Rattle.chart_machine.specs.declared.table.Table.{Table}
 use Rattle.chart_machine.specs.declared.table.TablePosition.{TablePosition}
 use Rattle.chart_machine.specs.Table.{Subtree, state_at, region_at, region_numbers, states_in, regions_in, side_by_side, within, state_row, state_numbers}

@@ -8,7 +8,6 @@ use Rattle.std.proofs.lemmas.Option.{slice_get-map, get_or_from_slice_get}
 use Rattle.sc_values.specs.declared.value.Value.{Value}
 use Rattle.sc_values.specs.declared.value.Value.TheVariants as value
 use Rattle.sc_values.specs.declared.value.Kind.{Kind}
-use Rattle.sc_values.specs.declared.value.Kind.TheVariants as kind
 use Rattle.sc_values.specs.declared.operator.BinaryOperator.{BinaryOperator}
 use Rattle.sc_values.specs.declared.operator.BinaryOperator.TheVariants as binary
 use Rattle.sc_values.specs.declared.operator.UnaryOperator.TheVariants as unary
@@ -34,13 +33,8 @@ use Rattle.scl.specs.Labels.{settled}
 use Rattle.scl.specs.Numbering.{Numbered}
 use Rattle.scl.specs.Meaning.{ThreadChange, goes_on, assigned}
 use Rattle.scl_graph.specs.Graph.{assigns, number}
+use Rattle.tick_laws.proofs.KindsKept.{kinds_same}
 use Rattle.scl_graph_laws.proofs.Agreeing.{KeepsKinds, Agree, agree_if, GoesTo, agree_onward}
-
-kinds_same : (a b : Kind) → is_kind a b ≡ true → a ≡ b
-kinds_same kind.Bool kind.Bool h = refl
-kinds_same kind.Int kind.Int h = refl
-kinds_same kind.Bool kind.Int h = absurd (cc)
-kinds_same kind.Int kind.Bool h = absurd (cc)
 
 -- the variable becomes this value, which has to be of its kind
 abbrev pub put : ℕ → (Change → Option ThreadChange) → Option Kind → Option Value → Option ThreadChange

@@ -10,7 +10,7 @@ use Rattle.scl.specs.Block.{Block, Fork, Branches}
 use Rattle.scl.specs.Places.{Place, IsBranch, here, later, IsChild, threads_of}
 use Rattle.scl_graph.specs.Graph.{node, assigns}
 use Rattle.scl_graph_laws.specs.Mirrors.{ForkPlace}
-use Rattle.scl_graph_laws.proofs.Members.{contains_head, contains_tail}
+use Rattle.tick_laws.proofs.Lists.{contains_head, contains_tail}
 use Rattle.scl_graph_laws.proofs.Spreading.{OfNodes, OfThreads}
 
 -- where node n forks, its join is the next node, and its children are those of a fork in the text of its thread

@@ -20,7 +20,7 @@ use Rattle.scl.specs.Numbering.{Piece, Numbers, Counts, piece, piece_of, pieces_
 use Rattle.scl.specs.Rules.{Part, both, is_in, side_by_side, part, part_of, parts_of}
 use Rattle.scl.specs.Rules.{in_row as parts_in_row, thread as whole_thread}
 use Rattle.scl_graph_laws.proofs.Contents.{Gathered, content, content_among, assigned_in, tests_in, forks_in, Shallow, ShallowAmong}
-use Rattle.scl_graph_laws.proofs.Members.{contains_none, contains_cons, contains_head, contains_tail}
+use Rattle.tick_laws.proofs.Lists.{contains_none, contains_cons, contains_head, contains_tail}
 use Rattle.scl_graph_laws.proofs.Searching.{unlike, own_labels, own_gotos, lower_labels, labels_among}
 use Rattle.scl_graph_laws.proofs.Scopes.{Distinct, FindsLabels, NoneLost, NoneLostAmong}
 

@@ -9,7 +9,6 @@ mod StepsAlike
 mod Inputs
 mod Beginning
 pub mod Graphs
-pub mod Members
 pub mod Numbers
 pub mod Segments
 mod Ways

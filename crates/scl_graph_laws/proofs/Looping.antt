@@ -7,7 +7,7 @@ use Rattle.scl.specs.Labels.{Front, Jumps, Begins, front, behind_label, label_co
 use Rattle.scl.specs.Places.{Place, after_label}
 use Rattle.scl_graph.specs.Loops.{ComesTo, at_once, through, HasNoEmptyLoop}
 use Rattle.scl_graph_laws.specs.Settling.{EachSettles}
-use Rattle.scl_graph_laws.proofs.Members.{contains_head, contains_tail, contains_none, contains_cons}
+use Rattle.tick_laws.proofs.Lists.{contains_head, contains_tail, contains_none, contains_cons}
 use Rattle.scl_graph_laws.proofs.Searching.{own_labels, lower_labels, labels_among, Found, label_stands}
 use Rattle.scl_graph_laws.proofs.Scopes.{Distinct, KeepsScopes, goto_found, stay_within}
 

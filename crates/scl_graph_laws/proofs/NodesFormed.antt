@@ -31,7 +31,7 @@ use Rattle.scl_graph_laws.specs.Settling.{Settling}
 use Rattle.scl_graph_laws.specs.Mirrors.{leads, HasNode, HasNodes, HasFork, Mirrors}
 use Rattle.scl_graph_laws.proofs.Agreeing.{GoesTo}
 use Rattle.scl_graph_laws.proofs.Targets.{step_is, is_a_join, is_a_depth, goes_to}
-use Rattle.scl_graph_laws.proofs.Members.{contains_head}
+use Rattle.tick_laws.proofs.Lists.{contains_head}
 use Rattle.scl_graph_laws.proofs.Numbers.{RunsOn, own_nodes, row_runs_on}
 use Rattle.scl_graph_laws.proofs.Segments.{stand_all, each_at}
 use Rattle.scl_graph_laws.proofs.Spreading.{OfNodes}

@@ -13,7 +13,7 @@ use Rattle.scl_graph.specs.Graph.{node, program_of}
 use Rattle.scl_graph_laws.specs.Standing.{standing}
 use Rattle.scl_graph_laws.specs.Settling.{EachSettles}
 use Rattle.scl_graph_laws.specs.Keeps.{Keeps}
-use Rattle.scl_graph_laws.proofs.Members.{contains_none}
+use Rattle.tick_laws.proofs.Lists.{contains_none}
 use Rattle.scl_graph_laws.proofs.Graphs.{graph_keeps}
 use Rattle.scl_graph_laws.proofs.Jumping.{places_settle}
 use Rattle.scl_graph_laws.proofs.Scopes.{KeepsScopes, stay_within}

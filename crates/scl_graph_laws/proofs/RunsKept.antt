@@ -11,7 +11,7 @@ use Rattle.scl.specs.Rules.{in_row as parts_in_row}
 use Rattle.scl_graph.specs.Graph.{program_of}
 use Rattle.scl_graph.specs.Loops.{HasNoEmptyLoop}
 use Rattle.scl_graph_laws.specs.Keeps.{HaveOwnNames, Keeps}
-use Rattle.scl_graph_laws.proofs.Members.{contains_head, contains_tail}
+use Rattle.tick_laws.proofs.Lists.{contains_head, contains_tail}
 use Rattle.scl_graph_laws.proofs.Graphs.{graph_keeps}
 use Rattle.scl_graph_laws.proofs.Jumping.{places_settle}
 use Rattle.scl_graph_laws.proofs.Searching.{lower_labels}

@@ -9,7 +9,7 @@ use Rattle.scl.specs.Places.{Place, whole, after_assign, after_label, after_goto
 use Rattle.scl.specs.Places.{here, later}
 use Rattle.scl.proofs.Sums.{total_before}
 use Rattle.scl_graph_laws.specs.Settling.{StayWithin}
-use Rattle.scl_graph_laws.proofs.Members.{contains_head, contains_tail, contains_none, contains_cons}
+use Rattle.tick_laws.proofs.Lists.{contains_head, contains_tail, contains_none, contains_cons}
 use Rattle.scl_graph_laws.proofs.Searching.{own_labels, own_gotos, lower_listed, lower_labels, labels_among, Found, found_first, found_second}
 use Rattle.scl_graph_laws.proofs.Searching.{or_else_assoc, own_found, own_none, lower_found, lower_none, among_found, among_none, label_place}
 

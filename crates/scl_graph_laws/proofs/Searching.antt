@@ -13,7 +13,7 @@ use Rattle.scl.proofs.Sums.{AreRelated, totals_related, totals_among_related}
 use Rattle.scl_graph.specs.Graph.{end}
 use Rattle.scl_graph.proofs.Before.{before_before}
 use Rattle.scl_graph.proofs.Fronts.{own_end}
-use Rattle.scl_graph_laws.proofs.Members.{contains_head, contains_tail, contains_none, contains_cons}
+use Rattle.tick_laws.proofs.Lists.{contains_head, contains_tail, contains_none, contains_cons}
 use Rattle.scl_graph_laws.proofs.Ways.{before_end}
 
 -- the labels of a thread's text

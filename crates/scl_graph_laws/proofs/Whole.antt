@@ -15,7 +15,7 @@ use Rattle.scl_graph.specs.declared.way.Way.{Way}
 use Rattle.scl_graph.specs.declared.way.Way.TheVariants as goes
 use Rattle.scl_graph.specs.Graph.{node, thread, own, end, of_thread, below, target, program_of}
 use Rattle.scl_graph_laws.specs.Mirrors.{HasNode, HasFirst, ForkPlace, Mirrors}
-use Rattle.scl_graph_laws.proofs.Members.{contains_none, contains_cons}
+use Rattle.tick_laws.proofs.Lists.{contains_none, contains_cons}
 use Rattle.scl_graph_laws.proofs.Numbers.{own_nodes, thread_count, IsNumbered}
 use Rattle.scl_graph_laws.proofs.Segments.{StandAt, stand_first, stand_second, stand_all, EachAt, each_from, each_append, each_at}
 use Rattle.scl_graph_laws.proofs.Laying.{own_length, thread_length, forked_length, HasThread, LaidIn, laid_in}
