@@ -1,25 +1,9 @@
 -- Which regions lie in which, and which are concurrent, in a table whose rows are those of a tree.
-use Rattle.std.proofs.Common.{◌≡◌, ℕ, zero, suc, ◌<◌, ◌≤◌, ◌⊎◌, List, [], ◌∷◌, length, Contains, refl, sym, ap, subst, ◌∙◌, arith, inl, inr}
-use Rattle.std.specs.Prelude.{slice_index_or}
+use Rattle.std.proofs.Common.{◌≡◌, ℕ, ◌≤◌, ◌⊎◌, List, [], ◌∷◌, length, Contains, refl, sym, ap, subst, ◌∙◌, arith, inl, inr}
+pub use Rattle.tick_laws.proofs.Lists.{contains_none as none_in, contains_head as head_in, contains_tail as tail_in, contains_cons as head_or_tail}
 use Rattle.chart_machine.specs.declared.table.Table.{Table}
 use Rattle.chart_machine.specs.Turns.{LiesIn, itself, deeper, SideBySide, holder_of, ForkedApart}
 pub use Rattle.chart_machine_laws.specs.Tree.{IsNested, IsTree, LiesUnder, around, holder}
-
-pub none_in : (x : ℕ) → Contains [] x → ⊥
-none_in x h = let lt = h.1 in absurd (omega (lt, arith))
-
-pub head_in : (x : ℕ) (xs : List ℕ) → Contains (x ∷ xs) x
-head_in x xs = (0, omega arith, refl)
-
-pub tail_in : (x y : ℕ) (xs : List ℕ) → Contains xs y → Contains (x ∷ xs) y
-tail_in x y xs h = let lt = h.1 in (suc h.0, omega (lt, arith), h.2)
-
-pub head_or_tail : (x y : ℕ) (xs : List ℕ) → Contains (x ∷ xs) y → (x ≡ y) ⊎ Contains xs y
-head_or_tail x y xs h = at h.0 h.1 h.2
-  where
-    at : (i : ℕ) → i < length (x ∷ xs) → slice_index_or (x ∷ xs) i y ≡ y → (x ≡ y) ⊎ Contains xs y
-    at zero lt e = inl e
-    at (suc i) lt e = inr (i, omega (lt, arith), e)
 
 module _ (k : Table) (tree : IsNested k) where
   -- what r lies in is r itself, or what the region round it lies in
