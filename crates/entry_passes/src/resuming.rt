@@ -2,7 +2,7 @@
 
 ghost use Rattle.std.specs.Prelude.{◌≡◌, [], ◌∷◌, ◌++◌, IfOk, OnOk, Some, map, true};
 ghost use Rattle.extended_charts.specs.Making.{always};
-ghost use Rattle.entry_passes.specs.Histories.{was_at, resumption, initial_among, resumptions, resuming, past_state};
+ghost use Rattle.entry_passes.specs.Histories.{was_at, initial_among, resumptions, resuming, past_state};
 ghost use Rattle.entry_passes.specs.Inside.{own_resumption};
 
 use crate::departures::is_at;
