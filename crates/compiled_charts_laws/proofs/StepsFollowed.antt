@@ -1,7 +1,6 @@
 -- A step of a core chart is followed in the graph of its lowering: its thread leaves the join at which it waits, and nobody else leaves one.
-use Rattle.std.proofs.Common.{◌≡◌, ◌≢◌, ℕ, zero, suc, ◌<◌, ◌⊎◌, inl, inr, ⊎_elim, Bool, true, false, Option, Some, None, List, [], ◌∷◌, map, length}
-use Rattle.std.proofs.Common.{slice_get, unwrap_or, option_and_then, Contains, refl, sym, ap, subst, ◌∙◌, arith}
-use Rattle.std.specs.Prelude.{slice_index_or}
+use Rattle.std.proofs.Common.{◌≡◌, ◌≢◌, ℕ, zero, suc, ◌⊎◌, inl, inr, ⊎_elim, Bool, true, false, Option, Some, None, List, [], ◌∷◌, map}
+use Rattle.std.proofs.Common.{slice_get, unwrap_or, option_and_then, Contains, refl, sym, ap, subst, ◌∙◌}
 use Rattle.std.proofs.lemmas.Option.{same_Some}
 use Rattle.sc_values.specs.Runs.{Machine, Act, replay, act_of}
 use Rattle.sc_graph.specs.declared.control.Control.{Control}
@@ -12,7 +11,7 @@ use Rattle.sc_graph.specs.Machine as graph
 use Rattle.sc_graph.specs.Steps as of_nodes
 use Rattle.sc_graph.specs.Tick.{IsConfiguration}
 use Rattle.sc_graph.specs.Valid.{IsFormed}
-use Rattle.tick_laws.proofs.Lists.{map_some, contains_head, contains_tail}
+use Rattle.tick_laws.proofs.Lists.{map_some, contains_none, contains_cons, contains_head, contains_tail}
 use Rattle.tick_laws.proofs.Views.{does}
 use Rattle.tick_laws.proofs.StepMoves.{StepMoves, step_moves}
 use Rattle.tick_laws.proofs.ConfigurationKept.{after_other, configuration_kept}
@@ -52,18 +51,6 @@ use Rattle.chart_lowering_laws.proofs.Lowered.{chart_is_lowered}
 use Rattle.chart_lowering_laws.proofs.Showing.{region_of}
 use Rattle.chart_lowering_laws.proofs.TicksKept.{keeps_runs}
 use Rattle.compiled_charts_laws.specs.Stands.{StandAlike}
-
--- ---- lists of numbers
-
-none_in : (x : ℕ) → Contains [] x → ⊥
-none_in x h = let lt = h.1 in absurd (omega (lt, arith))
-
-head_or_tail : (x y : ℕ) (xs : List ℕ) → Contains (x ∷ xs) y → (x ≡ y) ⊎ Contains xs y
-head_or_tail x y xs h = at h.0 h.1 h.2
-  where
-    at : (i : ℕ) → i < length (x ∷ xs) → slice_index_or (x ∷ xs) i y ≡ y → (x ≡ y) ⊎ Contains xs y
-    at zero lt e = inl e
-    at (suc i) lt e = inr (i, omega (lt, arith), e)
 
 -- ---- where threads stand
 
@@ -158,10 +145,10 @@ module _ (c : Chart) (p : Scl) (low : IsLowering c p) (formed : IsFormed (progra
 
   by_run : (t : ℕ) (run : List ℕ) (s last : State) (m : Control) → StandsInGraph P s m → IsConfiguration G m → replay (text.machine P) run s ≡ Some last →
       EachMay (text.machine P) (LeavesJoins t) run s → (u : ℕ) → Contains run u → Free t m u
-  by_run t [] s last m x ok leads each u inside = absurd (none_in u inside)
+  by_run t [] s last m x ok leads each u inside = absurd (contains_none u inside)
   by_run t (v ∷ run) s last m x ok leads each u inside = ⊎_elim (λ same. now (sym same)) (λ tail. ⊎_elim now
       (further (λ e f y kept goes may. by_run t run e last f y kept goes may u tail)) (same_or_not u v))
-      (head_or_tail v u run inside)
+      (contains_cons v u run inside)
     where
       now : u ≡ v → Free t m u
       now same =
