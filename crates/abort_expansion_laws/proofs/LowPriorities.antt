@@ -23,7 +23,7 @@ use Rattle.tick_laws.proofs.Views.{Completes, Enabled, stands, completes, does, 
 use Rattle.tick_laws.proofs.Sound.{fork_of_join}
 use Rattle.tick_laws.proofs.StepMoves.{StepMoves, step_moves}
 use Rattle.tick_laws.proofs.ConfigurationKept.{after_other}
-use Rattle.tick_laws.proofs.Falling.{StandsAt, Came, stayed, arrived, came}
+use Rattle.tick_laws.proofs.Falling.{StandsAt, stands_priority, Came, stayed, arrived, came}
 
 -- u is t, its child or its parent
 abbrev pub Near : Program → ℕ → ℕ → Type 0
@@ -85,13 +85,6 @@ module _ (p : Program) (formed : IsFormed p) (c : Control) (ok : IsConfiguration
   near : (u : ℕ) → Enabled p (after e c) u → Stays p c (after e c) u ⊎ Near p t u
   near u (stands n at) = standing_near u n at
   near u (completes w) = completing_near u w
-
-stands_priority : (q : Tables) (s : Status) (m : ℕ) → StandsAt s m → priority_of q s ≡ priority q m
-stands_priority q status.Absent m h = absurd h
-stands_priority q (status.At n) m h = ap (priority q) h
-stands_priority q (status.Waiting j) m h = ap (priority q) h
-stands_priority q (status.Paused d) m h = absurd h
-stands_priority q status.Ended m h = absurd h
 
 -- below one of these threads, all children of r
 abbrev pub Under : Program → (ℕ → Type 0) → ℕ → Type 0
