@@ -110,12 +110,15 @@ pub mod WalkSimple
 pub mod RowsOfForks
 pub mod FlagOwners
 pub mod AddedMonitors
+pub mod SuperstateAt
+pub mod ForkPieces
 pub mod WalkFork
 pub mod WalkStaying
 pub mod WalkState
 pub mod WalkStates
 pub mod RegionEnds
 pub mod StatePlaces
+pub mod RegionPieces
 pub mod WalkRegion
 pub mod ChartWalk
 pub mod WalkedWhole

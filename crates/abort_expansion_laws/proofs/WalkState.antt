@@ -13,14 +13,11 @@ use Rattle.chart_machine.specs.declared.table.TablePosition.{TablePosition}
 use Rattle.chart_machine.specs.Table.{Subtree, states_in, past_states, next_behind, subtree_of_region as table_of_region, subtree_of_state as table_of_state}
 use Rattle.chart_machine.specs.Table.{region_subtree as table_region_piece, state_subtree as table_state_piece}
 use Rattle.chart_machine.specs.Table.{state_at}
-use Rattle.abort_expansion.specs.declared.flags.Flags.{Flags}
-use Rattle.abort_expansion.specs.declared.places.RegionPlaces.{RegionPlaces}
 use Rattle.abort_expansion.specs.declared.pieces.StatePieces.{StatePieces}
-use Rattle.abort_expansion.specs.declared.pieces.NextNumbers.{NextNumbers}
 use Rattle.abort_expansion.specs.Flags.{has_join, preparation_name}
 use Rattle.core_charts.specs.Aborts.{has_aborts}
 use Rattle.abort_expansion.specs.Pieces.{RegionPiece, StatePiece, beside}
-use Rattle.abort_expansion.specs.Superstates.{stays, is_prepared, prepared}
+use Rattle.abort_expansion.specs.Superstates.{stays, is_prepared, prepared, as_it_is}
 use Rattle.abort_expansion.specs.Expansion.{piece_of_region, piece_of_state, region_piece, state_piece}
 use Rattle.chart_machine_laws.proofs.RowsOfSubtrees.{IsSized, state_sized}
 use Rattle.chart_machine_laws.proofs.TableTrees.{NoneInitial, OnceInitial}
@@ -33,59 +30,50 @@ use Rattle.abort_expansion_laws.proofs.WalkSide.{counts_side, sized_side}
 use Rattle.abort_expansion_laws.proofs.LocalImages.{preparing}
 use Rattle.abort_expansion_laws.proofs.WalkSimple.{walk_simple, one_row, one_sized, one_begins, one_state}
 use Rattle.abort_expansion_laws.proofs.WalkStaying.{walk_staying}
-use Rattle.abort_expansion_laws.proofs.WalkFork as forks
+use Rattle.abort_expansion_laws.proofs.SuperstateAt.{SuperstateAt, regions, own_flags, inside, chart_piece, inner, variables}
+use Rattle.abort_expansion_laws.proofs.SuperstateAt as superstate
+use Rattle.abort_expansion_laws.proofs.ForkPieces as forks
+use Rattle.abort_expansion_laws.proofs.WalkFork.{fork_fits, state_fits}
 
-module _ (name : List ℕ) (initial : Bool) (r : Region) (others : List Region) (all : List Transition) (walks : Each RegionWalks (r ∷ others))
-    (few : length (map piece_of_region (r ∷ others)) < 2147483648) (flags : List Flags) (places : RegionPlaces) (numbers : NextNumbers) (a b : TablePosition)
-    (next place : ℕ) (begins : Bool) where
-  abbrev regions : List Region
-  regions = r ∷ others
-
-  abbrev piece : Subtree
-  piece = forks.chart_piece name initial r others all walks flags places numbers a b next place begins b.state
-
-  abbrev count : ℕ
-  count = forks.variables name initial r others all walks flags places numbers a b next place begins b.state
+module _ (s : SuperstateAt) (few : length (map piece_of_region (regions s)) < 2147483648) where
+  open s use {name, all, flags, places, numbers, chart_at as a, core_at as b, next, place, begins}
 
   -- without a preparation
   walk_fork : stays flags all ≡ false → is_prepared flags all ≡ false →
-      StateWalk piece (forks.made name initial r others all walks flags places numbers a b next place begins b.state) count false 2 flags places place begins
-      numbers a b next
+      StateWalk (chart_piece s) (forks.made s) (variables s) false 2 flags places place begins numbers a b next
   walk_fork apart plain =
       record {
-        image = forks.image name initial r others all walks flags places numbers a b next place begins b.state;
-        inner = (forks.inner name initial r others all walks flags places numbers a b next place begins b.state).part.states;
-        owners = forks.owners name initial r others all walks flags places numbers a b next place begins b.state;
+        image = forks.image s b.state;
+        inner = (inner s).part.states;
+        owners = forks.owners s;
         entry = refl;
         placed = refl;
-        core_sized = forks.sizes name initial r others all walks flags places numbers a b next place begins b.state;
-        core_many = forks.many name initial r others all walks flags places numbers a b next place begins b.state;
-        long_states = ap suc (forks.inner name initial r others all walks flags places numbers a b next place begins b.state).long_states;
-        long_owners = forks.long_owners name initial r others all walks flags places numbers a b next place begins b.state;
-        long_variables = forks.long_variables name initial r others all walks flags places numbers a b next place begins b.state;
+        core_sized = forks.sizes s;
+        core_many = forks.many s;
+        long_states = ap suc (inner s).long_states;
+        long_owners = forks.long_owners s;
+        long_variables = forks.long_variables s;
         wide = refl;
         first = (_, (_, refl));
         stands = (_, refl);
-        begun = λ certain. forks.fork_begins name initial r others all walks flags places numbers a b next place begins b.state ∙ certain;
-        not_initial = forks.not_initial name initial r others all walks flags places numbers a b next place begins b.state;
-        one_initial = forks.one_initial name initial r others all walks flags places numbers a b next place begins b.state;
-        final_is = λ w holds. forks.not_ends name initial r others all walks flags places numbers a b next place begins b.state w holds;
-        held_chart = λ w holds. ap (λ z. z.holder) holds.states.0;
-        held_core = λ w more rows once. forks.held_core name initial r others all walks flags places numbers a b next place begins b.state w.core more rows;
+        begun = λ certain. forks.fork_begins s ∙ certain;
+        not_initial = forks.not_initial s;
+        one_initial = forks.one_initial s;
+        final_is = λ w holds. superstate.not_ends s w.k holds;
+        held_chart = λ w holds. superstate.held s w.k holds;
+        held_core = λ w more rows once. forks.held_core s w.core more rows;
         facts = λ w more stands.
-            forks.fork_fits name initial r others all walks flags places numbers a b next place begins b.state w more stands
-            (forks.state_fits name initial r others all walks flags places numbers a b next place begins b.state w more stands few apart
-            (stands.entries.mapped.0 ∙ ap Some stands.entries.numbered)
+            fork_fits s b.state w more stands
+            (state_fits s b.state w more stands few apart (stands.entries.mapped.0 ∙ ap Some stands.entries.numbered)
             (λ certain. let wrong : true ≡ false = sym certain ∙ plain in absurd cc) (λ e. refl));
       }
 
   -- with one
-  abbrev n : ℕ
-  n = length (map piece_of_region regions)
+  abbrev many_regions : ℕ
+  many_regions = length (map piece_of_region (regions s))
 
   abbrev preparation_state : State
-  preparation_state = rolled (preparation_name numbers.superstate) begins false []
-      (preparing places (forks.f name initial r others all walks flags places numbers a b next place begins b.state) n all (suc place))
+  preparation_state = rolled (preparation_name numbers.superstate) begins false [] (preparing places (own_flags s) many_regions all (suc place))
 
   abbrev first_piece : Subtree
   first_piece = table_of_state preparation_state
@@ -96,43 +84,39 @@ module _ (name : List ℕ) (initial : Bool) (r : Region) (others : List Region) 
   abbrev later_next : ℕ
   later_next = next_behind first_piece next
 
+  -- where the fork stands behind the preparation
+  abbrev later_at : SuperstateAt
+  later_at = record s { core_at = later; next = later_next; place = suc place; begins = false }
+
   abbrev fork_made : StatePieces
-  fork_made = forks.made name initial r others all walks flags places numbers a later later_next (suc place) false b.state
+  fork_made = forks.made later_at
 
   abbrev both_made : StatePieces
-  both_made = beside (prepared n all (forks.f name initial r others all walks flags places numbers a b next place begins b.state) places place begins numbers)
-      fork_made
+  both_made = beside (prepared many_regions all (own_flags s) places place begins numbers) fork_made
 
   first_state : first_piece.states ≡ 1
-  first_state = one_state (preparation_name numbers.superstate) begins false
-      (preparing places (forks.f name initial r others all walks flags places numbers a b next place begins b.state) n all (suc place))
+  first_state = one_state (preparation_name numbers.superstate) begins false (preparing places (own_flags s) many_regions all (suc place))
 
   first_sized : IsSized first_piece
-  first_sized = one_sized (preparation_name numbers.superstate) begins false
-      (preparing places (forks.f name initial r others all walks flags places numbers a b next place begins b.state) n all (suc place))
+  first_sized = one_sized (preparation_name numbers.superstate) begins false (preparing places (own_flags s) many_regions all (suc place))
 
   first_begins : first_piece.is_initial ≡ begins
-  first_begins = one_begins (preparation_name numbers.superstate) begins false
-      (preparing places (forks.f name initial r others all walks flags places numbers a b next place begins b.state) n all (suc place))
+  first_begins = one_begins (preparation_name numbers.superstate) begins false (preparing places (own_flags s) many_regions all (suc place))
 
   none_later : NoneInitial (pieces_of fork_made.states)
-  none_later = forks.not_initial name initial r others all walks flags places numbers a later later_next (suc place) false b.state refl
+  none_later = forks.not_initial later_at refl
 
   later_rows : (w : World) (more : List Subtree) → InRegionAt w.core (pieces_of both_made.states ++ more) next b →
       OnceInitial (pieces_of both_made.states ++ more) → InRegionAt w.core (pieces_of fork_made.states ++ more) later_next later
   later_rows w more rows once = rest_holds w.core first_piece (pieces_of fork_made.states ++ more) next b first_sized once rows
 
   module _ (apart : stays flags all ≡ false) (is : is_prepared flags all ≡ true) (w : World) (more : List Subtree)
-      (stands : StateStands w piece both_made flags places place numbers a b next more
-      (forks.part name initial r others all walks flags places numbers a later later_next (suc place) false b.state)) where
-    first_row : state_at w.core b.state ≡ simple_row b.holder b.state
-        (preparing places (forks.f name initial r others all walks flags places numbers a b next place begins b.state) n all (suc place))
-    first_row = (one_row (preparation_name numbers.superstate) begins false
-        (preparing places (forks.f name initial r others all walks flags places numbers a b next place begins b.state) n all (suc place)) w.core
+      (stands : StateStands w (chart_piece s) both_made flags places place numbers a b next more (forks.part later_at b.state)) where
+    first_row : state_at w.core b.state ≡ simple_row b.holder b.state (preparing places (own_flags s) many_regions all (suc place))
+    first_row = (one_row (preparation_name numbers.superstate) begins false (preparing places (own_flags s) many_regions all (suc place)) w.core
         (pieces_of fork_made.states ++ more) next b stands.core).states.0
 
-    later_stands : StateStands w piece fork_made flags places (suc place) numbers a later later_next more
-        (forks.part name initial r others all walks flags places numbers a later later_next (suc place) false b.state)
+    later_stands : StateStands w (chart_piece s) fork_made flags places (suc place) numbers a later later_next more (forks.part later_at b.state)
     later_stands =
         record {
           chart = stands.chart;
@@ -160,78 +144,69 @@ module _ (name : List ℕ) (initial : Bool) (r : Region) (others : List Region) 
           placed = stands.placed.1;
         }
 
-    prepared_fits : Fits w a.state (a.state + piece.states) b.state (b.state + states_in (pieces_of both_made.states)) numbers.variable
-        (numbers.variable + count)
+    prepared_fits : Fits w a.state (a.state + (chart_piece s).states) b.state (b.state + states_in (pieces_of both_made.states)) numbers.variable
+        (numbers.variable + variables s)
     prepared_fits =
-        let inner = forks.fork_fits name initial r others all walks flags places numbers a later later_next (suc place) false b.state w more later_stands
-        (forks.state_fits name initial r others all walks flags places numbers a later later_next (suc place) false b.state w more later_stands few apart
+        let fork_part = fork_fits later_at b.state w more later_stands
+        (state_fits later_at b.state w more later_stands few apart
         (stands.entries.mapped.0 ∙ ap Some stands.entries.numbered)
         (λ e. (suc place, ap (λ o. unwrap_or o 0) stands.placed.1.0, first_row))
         (λ denied. let wrong : true ≡ false = sym is ∙ denied in absurd cc)) in
         record {
-          states = inner.states;
+          states = fork_part.states;
           core_states =
               range_more (CoreStateFits w) b.state (b.state + states_in (pieces_of both_made.states))
               (record {
                 origin = thread a.holder stands.region.region.here (ap (λ z. z.holder) first_row ∙ sym stands.region.thread);
                 sort =
-                    for_entry a.state
-                    (forks.here name initial r others all walks flags places numbers a later later_next (suc place) false b.state w more later_stands)
-                    (forks.super name initial r others all walks flags places numbers a later later_next (suc place) false b.state w more later_stands)
+                    for_entry a.state (superstate.here s w.k stands.chart) (superstate.super s w.k stands.chart)
                     (sym (ap (λ z. z.entry) stands.entries.images.0));
               })
               (range_to (CoreStateFits w) (suc b.state) (later.state + states_in (pieces_of fork_made.states))
               (b.state + states_in (pieces_of both_made.states)) (omega arith)
-              (subst (λ m. Range (CoreStateFits w) m (later.state + states_in (pieces_of fork_made.states))) (omega (arith, first_state)) inner.core_states));
-          owners = inner.owners;
+              (subst (λ m. Range (CoreStateFits w) m (later.state + states_in (pieces_of fork_made.states)))
+              (omega (arith, first_state)) fork_part.core_states));
+          owners = fork_part.owners;
         }
 
-  walk_prepared : stays flags all ≡ false → is_prepared flags all ≡ true → StateWalk piece both_made count false 3 flags places place begins numbers a b next
+  walk_prepared : stays flags all ≡ false → is_prepared flags all ≡ true →
+      StateWalk (chart_piece s) both_made (variables s) false 3 flags places place begins numbers a b next
   walk_prepared apart certain =
       record {
-        image = forks.image name initial r others all walks flags places numbers a later later_next (suc place) false b.state;
-        inner = (forks.inner name initial r others all walks flags places numbers a later later_next (suc place) false b.state).part.states;
-        owners = forks.owners name initial r others all walks flags places numbers a later later_next (suc place) false b.state;
+        image = forks.image later_at b.state;
+        inner = (inner later_at).part.states;
+        owners = forks.owners later_at;
         entry = refl;
         placed = refl;
-        core_sized = (first_sized, forks.sizes name initial r others all walks flags places numbers a later later_next (suc place) false b.state);
-        core_many = omega (arith, first_state, forks.many name initial r others all walks flags places numbers a later later_next (suc place) false b.state);
-        long_states = ap suc (forks.inner name initial r others all walks flags places numbers a later later_next (suc place) false b.state).long_states;
-        long_owners = forks.long_owners name initial r others all walks flags places numbers a later later_next (suc place) false b.state;
-        long_variables = forks.long_variables name initial r others all walks flags places numbers a later later_next (suc place) false b.state;
+        core_sized = (first_sized, forks.sizes later_at);
+        core_many = omega (arith, first_state, forks.many later_at);
+        long_states = ap suc (inner later_at).long_states;
+        long_owners = forks.long_owners later_at;
+        long_variables = forks.long_variables later_at;
         wide = refl;
         first = (_, (_, refl));
         stands = (_, refl);
         begun = λ certain. first_begins ∙ certain;
         not_initial = λ denied. (first_begins ∙ denied, none_later);
-        one_initial = (
-          λ initial. none_later,
-          forks.one_initial name initial r others all walks flags places numbers a later later_next
-              (suc place) false b.state,
-        );
-        final_is = λ w holds. forks.not_ends name initial r others all walks flags places numbers a later later_next (suc place) false b.state w holds;
-        held_chart = λ w holds. ap (λ z. z.holder) holds.states.0;
-        held_core = λ w more rows once.
-            forks.held_core name initial r others all walks flags places numbers a later later_next (suc place) false b.state w.core more
-            (later_rows w more rows once);
+        one_initial = (λ initial. none_later, forks.one_initial later_at);
+        final_is = λ w holds. superstate.not_ends s w.k holds;
+        held_chart = λ w holds. superstate.held s w.k holds;
+        held_core = λ w more rows once. forks.held_core later_at w.core more (later_rows w more rows once);
         facts = λ w more stands. prepared_fits apart certain w more stands;
       }
 
   -- ---- by what it needs
 
   by_split : stays flags all ≡ false → (p : Bool) → is_prepared flags all ≡ p →
-      StateWalk piece (if p then both_made else forks.made name initial r others all walks flags places numbers a b next place begins b.state) count false
-      (if p then 3 else 2) flags places place begins numbers a b next
+      StateWalk (chart_piece s) (if p then both_made else forks.made s) (variables s) false (if p then 3 else 2) flags places place begins numbers a b next
   by_split apart true is = walk_prepared apart is
   by_split apart false is = walk_fork apart is
 
-  walk_super : (s : Bool) → stays flags all ≡ s →
-      StateWalk piece (if s then Rattle.abort_expansion.specs.Superstates.as_it_is name all
-      (forks.inside name initial r others all walks flags places numbers a b
-      next place begins b.state) places begins numbers
-      else (if is_prepared flags all then both_made else forks.made name initial r others all walks flags places numbers a b next place begins b.state)) count
-      false (if s then 1 else (if is_prepared flags all then 3 else 2)) flags places place begins numbers a b next
-  walk_super true stay = walk_staying name initial r others all walks flags places numbers a b next place begins stay few
+  walk_super : (on : Bool) → stays flags all ≡ on →
+      StateWalk (chart_piece s) (if on then as_it_is name all (inside s) places begins numbers
+      else (if is_prepared flags all then both_made else forks.made s)) (variables s)
+      false (if on then 1 else (if is_prepared flags all then 3 else 2)) flags places place begins numbers a b next
+  walk_super true stay = walk_staying s stay few
   walk_super false apart = by_split apart (is_prepared flags all) refl
 
 -- ---- any state
@@ -253,7 +228,24 @@ walk_layer name initial final [] all plain few bare walks flags places place beg
 walk_layer name initial true (r ∷ others) all plain few bare walks flags places place begins numbers a b next =
     let wrong : r ∷ others ≡ [] = bare refl in absurd cc
 walk_layer name initial false (r ∷ others) all plain few bare walks flags places place begins numbers a b next =
-    walk_super name initial r others all walks few flags places numbers a b next place begins (stays flags all) refl
+    walk_super
+    (record {
+      name = name;
+      initial = initial;
+      first = r;
+      others = others;
+      all = all;
+      walks = walks;
+      flags = flags;
+      places = places;
+      numbers = numbers;
+      chart_at = a;
+      core_at = b;
+      next = next;
+      place = place;
+      begins = begins;
+    })
+    few (stays flags all) refl
 
 count_layer : (name : List ℕ) (initial final : Bool) (regions : List Region) (all : List Transition) → Each RegionWalks regions →
     StateCounts (table_state_piece (chart_layer name initial final regions all)) (state_piece (core_layer name initial final regions all))
