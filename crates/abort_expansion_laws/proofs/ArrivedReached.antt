@@ -11,10 +11,11 @@ use Rattle.abort_expansion_laws.specs.CoreRows.{IsState, Images}
 use Rattle.abort_expansion_laws.specs.Related.{Related, IsInside}
 use Rattle.abort_expansion_laws.specs.Related.{guarded, open_inside}
 use Rattle.abort_expansion_laws.proofs.StageReached.{any_in}
-use Rattle.abort_expansion_laws.proofs.JustEntered.{EntryRows, JustOpen, Live, Reach, live, Above, reach}
+use Rattle.abort_expansion_laws.proofs.JustEntered.{EntryRows, JustOpen, Live, Reach, live, reach}
 use Rattle.abort_expansion_laws.proofs.Arrives.{Arrives}
 use Rattle.abort_expansion_laws.proofs.OpenForks.{not_over, fork_of}
 use Rattle.tick_laws.proofs.Lists.{contains_map}
+use Rattle.abort_expansion_laws.proofs.AreaReached.{Above}
 
 module _ (k core : Table) (i : Images) (more : EntryRows k core i) (holds_there : (s : ℕ) → IsState k s → IsThere k (holder k s))
     (c d : Configuration) (related : Related k core i c d) (r : ℕ) (next core_next : Configuration)
@@ -82,14 +83,14 @@ module _ (k core : Table) (i : Images) (more : EntryRows k core i) (holds_there 
   arrived_reached q there lies = reach k core i more next core_next (λ z. LiesIn k z r) begins q there lies
     where
       begins : (q : ℕ) → IsThere k q → LiesIn k q r →
-          Reach k core i more next core_next q ⊎ Above k core i more next core_next (λ z. LiesIn k z r) q
+          Reach k core i more next core_next q ⊎ Above k (λ z. LiesIn k z r) q
       begins q there lies = by_round (around k q) refl
         where
           at_region : q ≡ r → Reach k core i more next core_next q
           at_region same = subst (Reach k core i more next core_next) (sym same) (live arrived_lives)
 
           by_round : (zs : List ℕ) → around k q ≡ zs →
-              Reach k core i more next core_next q ⊎ Above k core i more next core_next (λ z. LiesIn k z r) q
+              Reach k core i more next core_next q ⊎ Above k (λ z. LiesIn k z r) q
           by_round [] round = inl (at_region (top_only k more.tree.nested q r round lies))
           by_round (v ∷ vs) round =
               ⊎_elim (λ same. inl (at_region same))

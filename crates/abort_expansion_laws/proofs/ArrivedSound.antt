@@ -17,13 +17,14 @@ use Rattle.abort_expansion_laws.proofs.StageReached.{any_in}
 use Rattle.abort_expansion_laws.proofs.Pending.{Sound}
 use Rattle.abort_expansion_laws.proofs.InitialPairs.{chart_begins}
 use Rattle.abort_expansion_laws.proofs.JustEntered.{EntryRows}
-use Rattle.abort_expansion_laws.proofs.ChartEntered.{stood_of, WasEntered, ChartReach, was_entered, none_there, ChartAbove, chart_reach, stood_present}
+use Rattle.abort_expansion_laws.proofs.ChartEntered.{stood_of, WasEntered, ChartReach, was_entered, none_there, chart_reach, stood_present}
 use Rattle.abort_expansion_laws.proofs.ChartEntered.{reached_open, reached_inside, reached_guards}
 use Rattle.abort_expansion_laws.proofs.FirstTickWaits.{closes_first}
 use Rattle.abort_expansion_laws.proofs.Arrives.{Arrives}
 use Rattle.abort_expansion_laws.proofs.ArrivedReached.{outer_apart, arrived_lives}
 use Rattle.abort_expansion_laws.proofs.ArrivedWaits.{lies_or_not, outer_out}
 use Rattle.abort_expansion_laws.proofs.InsideAround.{one_in_other}
+use Rattle.abort_expansion_laws.proofs.AreaReached.{Above}
 
 module _ (k core : Table) (i : Images) (more : EntryRows k core i) (holds_there : (s : ℕ) → IsState k s → IsThere k (holder k s))
     (alone : (v : ℕ) → (state_at core v).regions ≡ [] → inside core v ≡ [])
@@ -55,13 +56,13 @@ module _ (k core : Table) (i : Images) (more : EntryRows k core i) (holds_there 
   pub chart_in : (q : ℕ) → LiesIn k q r → ChartReach k core i more f q
   chart_in q lies = chart_reach k core i more f (λ z. LiesIn k z r) begins q (lies_there q lies) lies
     where
-      begins : (q : ℕ) → IsThere k q → LiesIn k q r → ChartReach k core i more f q ⊎ ChartAbove k core i more f (λ z. LiesIn k z r) q
+      begins : (q : ℕ) → IsThere k q → LiesIn k q r → ChartReach k core i more f q ⊎ Above k (λ z. LiesIn k z r) q
       begins q q_there lies = by_round (around k q) refl
         where
           at_region : q ≡ r → ChartReach k core i more f q
           at_region is = subst (ChartReach k core i more f) (sym is) (was_entered r_entered)
 
-          by_round : (zs : List ℕ) → around k q ≡ zs → ChartReach k core i more f q ⊎ ChartAbove k core i more f (λ z. LiesIn k z r) q
+          by_round : (zs : List ℕ) → around k q ≡ zs → ChartReach k core i more f q ⊎ Above k (λ z. LiesIn k z r) q
           by_round [] round = inl (at_region (top_only k more.tree.nested q r round lies))
           by_round (v ∷ vs) round =
               ⊎_elim (λ is. inl (at_region is))

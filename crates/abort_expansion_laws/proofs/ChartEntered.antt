@@ -1,5 +1,5 @@
 -- Where something of a chart was just entered: who stands there, and that nobody is anywhere else.
-use Rattle.std.proofs.Common.{◌≡◌, ◌≢◌, ℕ, zero, suc, ◌<◌, ◌⊎◌, ⊎_elim, true, false, List, ◌∷◌, length, Contains, refl, sym, ap, subst, ◌∙◌, arith}
+use Rattle.std.proofs.Common.{◌≡◌, ◌≢◌, ℕ, suc, ◌⊎◌, ⊎_elim, true, false, List, ◌∷◌, length, Contains, refl, sym, ap, subst, ◌∙◌}
 use Rattle.core_charts.specs.declared.region.Transition.{Transition}
 use Rattle.core_charts.specs.Tests.{at_once, first_closing_tests}
 use Rattle.chart_machine.specs.declared.standing.Standing.{Standing}
@@ -15,6 +15,7 @@ use Rattle.abort_expansion_laws.proofs.StateEntry.{Entry, entry_ends, entry_trie
 use Rattle.abort_expansion_laws.proofs.FreshInside.{Fresh, Begins, NobodyIn, ElsewhereNobody, begins_closed, begins_open}
 use Rattle.abort_expansion_laws.proofs.InitialPairs.{chart_begins}
 use Rattle.abort_expansion_laws.proofs.JustEntered.{EntryRows}
+use Rattle.abort_expansion_laws.proofs.AreaReached.{Above, area_reached}
 
 -- entered without being within
 pub data IsClosed : Standing → Type 0 where
@@ -104,24 +105,8 @@ module _ (k core : Table) (i : Images) (more : EntryRows k core i) (f : ℕ → 
     reach_deeper (none_there none) =
         none_there (λ p lies. none p (lies_in_outer k more.tree.nested (around k p) p q (holder k u) refl lies (deeper u in_u refl)))
 
-  pub record ChartAbove (In : ℕ → Type 0) (q : ℕ) : Type 0 where
-    pub next : ℕ
-    pub rest : List ℕ
-    pub round : around k q ≡ next ∷ rest
-    pub there : IsThere k (holder k next)
-    pub inner : In (holder k next)
-
-  pub chart_reach : (In : ℕ → Type 0) → ((q : ℕ) → IsThere k q → In q → ChartReach q ⊎ ChartAbove In q) → (q : ℕ) → IsThere k q → In q → ChartReach q
-  chart_reach In begins q there inner = below_number (suc q) q (omega arith) there inner
-    where
-      below_number : (bound q : ℕ) → q < bound → IsThere k q → In q → ChartReach q
-      below_number zero q lt there inner = absurd (omega (lt, arith))
-      below_number (suc bound) q lt there inner =
-          ⊎_elim (λ here. here)
-          (λ a.
-          let up = more.tree.deeper q a.next (in_u q a.next a.rest there a.round) in
-          reach_deeper q a.next a.rest there a.round (below_number bound (holder k a.next) (omega (up, lt, arith)) a.there a.inner))
-          (begins q there inner)
+  pub chart_reach : (In : ℕ → Type 0) → ((q : ℕ) → IsThere k q → In q → ChartReach q ⊎ Above k In q) → (q : ℕ) → IsThere k q → In q → ChartReach q
+  chart_reach In begins q there inner = area_reached k In more.tree ChartReach reach_deeper begins q there inner
 
   -- ---- what follows for one region that was reached
 

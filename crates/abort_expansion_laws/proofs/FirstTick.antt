@@ -26,9 +26,10 @@ use Rattle.abort_expansion_laws.proofs.EnteredAlike.{AreEntered}
 use Rattle.abort_expansion_laws.proofs.FreshInside.{Begins, all_entered, all_apart, in_one, look, begins_alike, nobody, nobody_there, nobody_size}
 use Rattle.abort_expansion_laws.proofs.InitialPairs.{Initials, initials, held_by, held_there, once_mapped}
 use Rattle.abort_expansion_laws.proofs.BeginningSorts.{Sort, sort_of, begins_so}
-use Rattle.abort_expansion_laws.proofs.JustEntered.{EntryRows, Live, Reach, live, nowhere, Above, reach}
-use Rattle.abort_expansion_laws.proofs.ChartEntered.{Stood, stood_of, WasEntered, ChartReach, was_entered, none_there, ChartAbove, chart_reach, stood_present}
+use Rattle.abort_expansion_laws.proofs.JustEntered.{EntryRows, Live, Reach, live, nowhere, reach}
+use Rattle.abort_expansion_laws.proofs.ChartEntered.{Stood, stood_of, WasEntered, ChartReach, was_entered, none_there, chart_reach, stood_present}
 use Rattle.abort_expansion_laws.proofs.NumberedRegions.{is_region}
+use Rattle.abort_expansion_laws.proofs.AreaReached.{Above}
 
 -- ---- where nobody was, the regions of the chart are entered
 
@@ -192,10 +193,10 @@ module _ (k core : Table) (i : Images) (more : EntryRows k core i)
   pub chart_reached : (q : ℕ) → IsThere k q → ChartReach k core i more f q
   chart_reached q there = chart_reach k core i more f Anywhere begins q there tt
     where
-      begins : (q : ℕ) → IsThere k q → Anywhere q → ChartReach k core i more f q ⊎ ChartAbove k core i more f Anywhere q
+      begins : (q : ℕ) → IsThere k q → Anywhere q → ChartReach k core i more f q ⊎ Above k Anywhere q
       begins q there inner = by_round (around k q) refl
         where
-          by_round : (zs : List ℕ) → around k q ≡ zs → ChartReach k core i more f q ⊎ ChartAbove k core i more f Anywhere q
+          by_round : (zs : List ℕ) → around k q ≡ zs → ChartReach k core i more f q ⊎ Above k Anywhere q
           by_round [] round =
               ⊎_elim (λ h. inl (was_entered (top_stands q there round h))) (λ out. inl (none_there (chart_apart q round out))) (contained tops q)
           by_round (v ∷ vs) round =
@@ -206,11 +207,11 @@ module _ (k core : Table) (i : Images) (more : EntryRows k core i)
   reached q there = reach k core i more at_first core_at_first Anywhere begins q there tt
     where
       begins : (q : ℕ) → IsThere k q → Anywhere q →
-          Reach k core i more at_first core_at_first q ⊎ Above k core i more at_first core_at_first Anywhere q
+          Reach k core i more at_first core_at_first q ⊎ Above k Anywhere q
       begins q there inner = by_round (around k q) refl
         where
           by_round : (zs : List ℕ) → around k q ≡ zs →
-              Reach k core i more at_first core_at_first q ⊎ Above k core i more at_first core_at_first Anywhere q
+              Reach k core i more at_first core_at_first q ⊎ Above k Anywhere q
           by_round [] round =
               ⊎_elim (λ h. inl (live (top_lives q there round h))) (λ out. inl (nowhere (chart_apart q round out) (core_apart q round out)))
               (contained tops q)

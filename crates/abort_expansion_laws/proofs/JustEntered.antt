@@ -1,6 +1,6 @@
 -- Where something was just entered: each region in it stands with its thread, is hidden behind a preparation, or nobody is there.
-use Rattle.std.proofs.Common.{◌≡◌, ◌≢◌, ℕ, zero, suc, ◌<◌, ◌⊎◌, ⊎_elim, true, false, None, List, [], ◌∷◌, length, Contains}
-use Rattle.std.proofs.Common.{refl, sym, ap, subst, ◌∙◌, arith}
+use Rattle.std.proofs.Common.{◌≡◌, ◌≢◌, ℕ, suc, ◌⊎◌, ⊎_elim, true, false, None, List, [], ◌∷◌, length, Contains}
+use Rattle.std.proofs.Common.{refl, sym, ap, subst, ◌∙◌}
 use Rattle.core_charts.specs.declared.region.Transition.{Transition}
 use Rattle.core_charts.specs.Tests.{first_closing_tests}
 use Rattle.chart_machine.specs.declared.standing.Standing.{Standing}
@@ -25,6 +25,7 @@ use Rattle.abort_expansion_laws.proofs.FreshInside.{Fresh, NobodyIn, ElsewhereNo
 use Rattle.abort_expansion_laws.proofs.InitialPairs.{both_begin, held_by}
 use Rattle.abort_expansion_laws.proofs.BeginningSorts.{Sort, sort_ends, sort_counts, sort_tries, sort_guards, sort_prepares, sort_opens, sort_of, begins_so}
 use Rattle.abort_expansion_laws.proofs.ThreadsAround.{thread_within}
+use Rattle.abort_expansion_laws.proofs.AreaReached.{Above, area_reached}
 
 -- what is asked of both tables, where something is entered
 pub record EntryRows (k core : Table) (i : Images) : Type 0 where
@@ -189,21 +190,5 @@ module _ (k core : Table) (i : Images) (more : EntryRows k core i) (c e : Config
 
   -- ---- all of an area: each region in it was entered, or the one around it lies in it
 
-  pub record Above (In : ℕ → Type 0) (q : ℕ) : Type 0 where
-    pub next : ℕ
-    pub rest : List ℕ
-    pub round : around k q ≡ next ∷ rest
-    pub there : IsThere k (holder k next)
-    pub inner : In (holder k next)
-
-  pub reach : (In : ℕ → Type 0) → ((q : ℕ) → IsThere k q → In q → Reach q ⊎ Above In q) → (q : ℕ) → IsThere k q → In q → Reach q
-  reach In begins q there inner = below_number (suc q) q (omega arith) there inner
-    where
-      below_number : (bound q : ℕ) → q < bound → IsThere k q → In q → Reach q
-      below_number zero q lt there inner = absurd (omega (lt, arith))
-      below_number (suc bound) q lt there inner =
-          ⊎_elim (λ here. here)
-          (λ a.
-          let up = more.tree.deeper q a.next (in_u q a.next a.rest there a.round) in
-          reach_deeper q a.next a.rest there a.round (below_number bound (holder k a.next) (omega (up, lt, arith)) a.there a.inner))
-          (begins q there inner)
+  pub reach : (In : ℕ → Type 0) → ((q : ℕ) → IsThere k q → In q → Reach q ⊎ Above k In q) → (q : ℕ) → IsThere k q → In q → Reach q
+  reach In begins q there inner = area_reached k In more.tree Reach reach_deeper begins q there inner

@@ -152,6 +152,7 @@ pub mod StateEntry
 pub mod FreshInside
 pub mod InitialPairs
 pub mod BeginningSorts
+pub mod AreaReached
 pub mod JustEntered
 pub mod EnteredWaits
 pub mod EnteredMonitors

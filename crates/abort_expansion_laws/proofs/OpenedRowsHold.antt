@@ -22,11 +22,12 @@ use Rattle.abort_expansion_laws.proofs.OpenedRows.{Opens, OpenedRows}
 use Rattle.abort_expansion_laws.proofs.InitialPairs.{watcher_stands}
 use Rattle.abort_expansion_laws.proofs.FreshInside.{Fresh, moved_alike}
 use Rattle.abort_expansion_laws.proofs.BeginningSorts.{Sort, sort_ends, sort_counts, sort_tries, sort_guards, sort_prepares, sort_opens}
-use Rattle.abort_expansion_laws.proofs.JustEntered.{EntryRows, JustOpen, Live, Reach, live, Above, opened_both, reach}
+use Rattle.abort_expansion_laws.proofs.JustEntered.{EntryRows, JustOpen, Live, Reach, live, opened_both, reach}
 use Rattle.abort_expansion_laws.proofs.EnteredWaits.{entered_waits}
 use Rattle.abort_expansion_laws.proofs.EnteredMonitors.{Unflagged, entered_watched, entered_flags, entered_covered}
 use Rattle.abort_expansion_laws.proofs.MonitorEntered.{monitor_entered}
 use Rattle.abort_expansion_laws.proofs.EnteredReady.{opened_later, over_now}
+use Rattle.abort_expansion_laws.proofs.AreaReached.{Above}
 
 module _ (k core : Table) (i : Images) (more : EntryRows k core i) (lone : AloneRows k core i) (start_rows : StartRows k core i more.rows)
     (alone : (v : ℕ) → (state_at core v).regions ≡ [] → inside core v ≡ [])
@@ -51,10 +52,10 @@ module _ (k core : Table) (i : Images) (more : EntryRows k core i) (lone : Alone
     child_lives : (q : ℕ) (vs : List ℕ) → IsThere k q → around k q ≡ s ∷ vs → Live k core i more c e q
     child_lives q vs there round = opened_both k core i more c e q s vs there round core_fresh fresh just_open o.free
 
-    begins : (q : ℕ) → IsThere k q → Contains (around k q) s → Reached q ⊎ Above k core i more c e (λ p. Contains (around k p) s) q
+    begins : (q : ℕ) → IsThere k q → Contains (around k q) s → Reached q ⊎ Above k (λ p. Contains (around k p) s) q
     begins q there inner = by_round (around k q) refl
       where
-        by_round : (zs : List ℕ) → around k q ≡ zs → Reached q ⊎ Above k core i more c e (λ p. Contains (around k p) s) q
+        by_round : (zs : List ℕ) → around k q ≡ zs → Reached q ⊎ Above k (λ p. Contains (around k p) s) q
         by_round [] round = absurd (none_in s (subst (λ zs. Contains zs s) round inner))
         by_round (v ∷ vs) round =
             ⊎_elim
