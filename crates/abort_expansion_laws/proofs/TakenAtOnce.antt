@@ -19,17 +19,17 @@ use Rattle.chart_machine_laws.proofs.LyingIn.{IsNested, around, holder}
 use Rattle.abort_expansion_laws.proofs.TablesCorrespond.{IsThere}
 use Rattle.abort_expansion_laws.proofs.MoreValues.{verdict_over_more}
 use Rattle.abort_expansion_laws.specs.CoreRows.{IsState, Images, CoreRows}
-use Rattle.abort_expansion_laws.specs.Related.{held_back, acting, Watches, Related}
+use Rattle.abort_expansion_laws.specs.Related.{held_back, Related}
 use Rattle.abort_expansion_laws.proofs.Unchanged.{never_guarded, stands_same}
 use Rattle.abort_expansion_laws.proofs.RegionGoesOn.{GoesOn, goes_on, same_shape}
 use Rattle.abort_expansion_laws.proofs.StageReached.{Stage}
 use Rattle.abort_expansion_laws.proofs.ImageSteps.{pair, ImageMove, image_to}
-use Rattle.abort_expansion_laws.proofs.KnownVariables.{present_there, trigger_known}
+use Rattle.abort_expansion_laws.proofs.KnownVariables.{trigger_known}
 use Rattle.chart_machine.specs.Turns.{inside}
 use Rattle.abort_expansion.specs.Transitions.{counting, place_of}
-use Rattle.abort_expansion_laws.proofs.TestFails.{IsTrying, trying_back, no_front, watch_other, trying_no_inside}
+use Rattle.abort_expansion_laws.proofs.TestFails.{trying_there, trying_stands}
 use Rattle.abort_expansion.specs.Transitions.{put}
-use Rattle.abort_expansion_laws.proofs.TestHolds.{acting_no_inside}
+use Rattle.abort_expansion_laws.proofs.TestHolds.{acting_goes_on}
 use Rattle.abort_expansion_laws.proofs.Owed.{Enters, chart_enters}
 use Rattle.abort_expansion_laws.proofs.EffectAhead.{BeginsAt, overwritten, any_same}
 use Rattle.abort_expansion_laws.proofs.TakesTarget.{GoesIn, goes_in, entered_after, test_enters, test_counts}
@@ -49,10 +49,7 @@ module _ (k core : Table) (i : Images) (rows : CoreRows k core i) (tree : IsNest
     (core_first : BeginsAt (i.thread_of q) (state_at core (i.entry_of (state_in k q t.target))).entered)
     (free : is_guarded k c (around k q) ≡ false) (true_there : verdict c.variables t.trigger ≡ Some true) where
   there : IsThere k q
-  there = present_there k core i c d related q (λ w. let wrong : at.Trying s (t ∷ tests) ≡ at.Outside = sym stands ∙ w in absurd cc)
-
-  thread : IsTrying k core i c q s (t ∷ tests) (standing_of d (i.thread_of q))
-  thread = trying_back k core i c q (standing_of c q) (standing_of d (i.thread_of q)) (related.regions q there) s (t ∷ tests) stands
+  there = trying_there k core i c d related q s t tests stands
 
   -- as if there were one effect more
   abbrev one : Effect
@@ -71,35 +68,10 @@ module _ (k core : Table) (i : Images) (rows : CoreRows k core i) (tree : IsNest
   d1 = record { variables = d.variables; regions = slice_set d.regions (i.thread_of q) z }
 
   core_stands : standing_of d (i.thread_of q) ≡ at.Trying (i.main_of s) (led (i.places_of q) t ∷ (map (led (i.places_of q)) tests ++ held_back k core i q))
-  core_stands = thread.is ∙ ap (at.Trying (i.main_of s)) (no_front k core i c q (t ∷ tests) free)
+  core_stands = trying_stands k core i c d related q s t tests stands free
 
   goes : GoesOn k core i rows c d q y z c1 d1
-  goes =
-      record {
-        there = there;
-        chart = refl;
-        core_too = refl;
-        ends = rw (stands) refl;
-        guards_alike = rw (stands) refl;
-        was_there = λ w. let wrong : at.Trying s (t ∷ tests) ≡ at.Outside = sym stands ∙ w in absurd cc;
-        is_there = λ w. absurd cc;
-        stands = acting s (i.main_of s) t.target one [] target_there;
-        watches = λ o in_chart has held.
-            watch_other k core i o (standing_of c q) (standing_of d (i.watcher_of o)) y
-            (subst (λ p. Watches k core i o (standing_of c p) (standing_of d (i.watcher_of o))) held (related.watchers o in_chart has))
-            (λ others w. let wrong : at.Trying s (t ∷ tests) ≡ at.Guarding o others = sym stands ∙ w in absurd cc)
-            (λ others w. let wrong : at.Trying s (t ∷ tests) ≡ at.Within o others = sym stands ∙ w in absurd cc)
-            (λ others w. absurd cc) (λ others w. absurd cc);
-        inside = λ u held inner. absurd (trying_no_inside k core i u s (t ∷ tests) (standing_of c q) stands inner);
-        inside_back = λ u held inner. absurd (acting_no_inside k core i u s t.target (one ∷ []) y refl inner);
-        closes = λ v others its w. absurd cc;
-        free = free;
-        more = related.more;
-        variables = related.variables;
-        flag_count = related.flag_count;
-        values = related.values;
-        flags = λ x le. refl;
-      }
+  goes = acting_goes_on k core i rows c d related q s t tests stands free one [] target_there
 
   move : ImageMove k core i rows tree counts written_at c d q y z c1 d1 (access_of_trigger t.trigger)
   move =

@@ -76,6 +76,20 @@ module _ (k core : Table) (i : Images) (c : Configuration) (r : ℕ) where
       tests_of k core i c r tests ≡ map (led (i.places_of r)) tests ++ held_back k core i r
   no_front tests free = ap (λ zs. zs ++ map (led (i.places_of r)) tests ++ held_back k core i r) (front_free k core i c r free false)
 
+-- ---- where the thread of a region stands that tries this test
+
+module _ (k core : Table) (i : Images) (c d : Configuration) (related : Related k core i c d) (q s : ℕ) (t : Transition) (tests : List Transition)
+    (stands : standing_of c q ≡ at.Trying s (t ∷ tests)) where
+  pub trying_there : IsThere k q
+  trying_there = present_there k core i c d related q (λ e. let wrong : at.Trying s (t ∷ tests) ≡ at.Outside = sym stands ∙ e in absurd cc)
+
+  pub trying_thread : IsTrying k core i c q s (t ∷ tests) (standing_of d (i.thread_of q))
+  trying_thread = trying_back k core i c q (standing_of c q) (standing_of d (i.thread_of q)) (related.regions q trying_there) s (t ∷ tests) stands
+
+  pub trying_stands : is_guarded k c (around k q) ≡ false →
+      standing_of d (i.thread_of q) ≡ at.Trying (i.main_of s) (led (i.places_of q) t ∷ (map (led (i.places_of q)) tests ++ held_back k core i q))
+  trying_stands free = trying_thread.is ∙ ap (at.Trying (i.main_of s)) (no_front k core i c q (t ∷ tests) free)
+
 -- ---- no monitor watches a simple state
 
 module _ (k core : Table) (i : Images) where
@@ -95,18 +109,15 @@ module _ (k core : Table) (i : Images) where
 module _ (k core : Table) (i : Images) (rows : CoreRows k core i) (tree : IsNested k) (counts : ℕ → Bool) (written_at : ℕ → ℕ)
     (c d : Configuration) (related : Related k core i c d) (q s : ℕ) (t : Transition) (tests : List Transition)
     (stands : standing_of c q ≡ at.Trying s (t ∷ tests)) where
-  there : IsThere k q
-  there = present_there k core i c d related q (λ e. let wrong : at.Trying s (t ∷ tests) ≡ at.Outside = sym stands ∙ e in absurd cc)
-
   thread : IsTrying k core i c q s (t ∷ tests) (standing_of d (i.thread_of q))
-  thread = trying_back k core i c q (standing_of c q) (standing_of d (i.thread_of q)) (related.regions q there) s (t ∷ tests) stands
+  thread = trying_thread k core i c d related q s t tests stands
 
   module _ (free : is_guarded k c (around k q) ≡ false) where
     abbrev rest : List Transition
     rest = map (led (i.places_of q)) tests ++ held_back k core i q
 
     core_stands : standing_of d (i.thread_of q) ≡ at.Trying (i.main_of s) (led (i.places_of q) t ∷ (map (led (i.places_of q)) tests ++ held_back k core i q))
-    core_stands = thread.is ∙ ap (at.Trying (i.main_of s)) (no_front k core i c q (t ∷ tests) free)
+    core_stands = trying_stands k core i c d related q s t tests stands free
 
     -- a test that fails
     pub failing : verdict c.variables t.trigger ≡ Some false → has_work k c (standing_of c q) ≡ true →
@@ -118,7 +129,7 @@ module _ (k core : Table) (i : Images) (rows : CoreRows k core i) (tree : IsNest
         record {
           goes =
               record {
-                there = there;
+                there = trying_there k core i c d related q s t tests stands;
                 chart = refl;
                 core_too = refl;
                 ends = rw (stands) refl;

@@ -17,18 +17,18 @@ use Rattle.abort_expansion.specs.Transitions.{led}
 use Rattle.abort_expansion_laws.specs.Stages.{Entry, Image}
 use Rattle.abort_expansion_laws.proofs.Segments.{Segment}
 use Rattle.chart_machine_laws.proofs.LyingIn.{IsNested, around}
-use Rattle.abort_expansion_laws.proofs.TablesCorrespond.{IsThere}
 use Rattle.abort_expansion_laws.proofs.MoreValues.{verdict_over_more}
 use Rattle.abort_expansion_laws.specs.CoreRows.{Images, CoreRows}
-use Rattle.abort_expansion_laws.specs.Related.{held_back, Stands, acting, Watches, IsInside, guarded, open_inside, Related}
+use Rattle.abort_expansion_laws.specs.Related.{held_back, acting, Watches, IsInside, guarded, open_inside, Related}
 use Rattle.abort_expansion_laws.proofs.Unchanged.{never_guarded}
 use Rattle.abort_expansion_laws.proofs.StageReached.{Stage}
+use Rattle.abort_expansion_laws.proofs.RegionGoesOn.{GoesOn}
 use Rattle.abort_expansion_laws.proofs.ImageSteps.{pair, ImageStep, image_segment}
-use Rattle.abort_expansion_laws.proofs.KnownVariables.{Stepped, stepped, present_there, trigger_known}
+use Rattle.abort_expansion_laws.proofs.KnownVariables.{Stepped, stepped, trigger_known}
 use Rattle.chart_machine.specs.Turns.{inside}
 use Rattle.abort_expansion.specs.declared.places.RegionPlaces.{RegionPlaces}
 use Rattle.abort_expansion.specs.Transitions.{on, count_down, counting, place_of}
-use Rattle.abort_expansion_laws.proofs.TestFails.{tested_is, IsTrying, trying_back, no_front, watch_other, trying_no_inside}
+use Rattle.abort_expansion_laws.proofs.TestFails.{tested_is, trying_there, trying_stands, watch_other, trying_no_inside}
 use Rattle.abort_expansion_laws.proofs.CoreSteps.{takes}
 
 pub counting_first : (places : RegionPlaces) (target : ℕ) (e : Effect) (es : List Effect) → counting places target (e ∷ es) ≡ e ∷ counting places target es
@@ -42,23 +42,59 @@ pub acting_no_inside : (k core : Table) (i : Images) (s u p : ℕ) (effects : Li
 acting_no_inside k core i s u p effects _ e (guarded others) = absurd cc
 acting_no_inside k core i s u p effects _ e (open_inside others) = absurd cc
 
+-- ---- from the test the region comes to do effects, and so does its thread
+
+module _ (k core : Table) (i : Images) (rows : CoreRows k core i) (c d : Configuration) (related : Related k core i c d) (q s : ℕ) (t : Transition)
+    (tests : List Transition) (stands : standing_of c q ≡ at.Trying s (t ∷ tests)) (free : is_guarded k c (around k q) ≡ false)
+    (e : Effect) (es : List Effect) (target_there : t.target < length (region_at k q).states) where
+  abbrev acts : Standing
+  acts = at.Acting s (e ∷ es) t.target
+
+  abbrev thread_acts : Standing
+  thread_acts = at.Acting (i.main_of s) (counting (i.places_of q) t.target (e ∷ es)) (place_of (i.places_of q) t.target)
+
+  pub acting_goes_on : GoesOn k core i rows c d q acts thread_acts (record { variables = c.variables; regions = slice_set c.regions q acts })
+      (record { variables = d.variables; regions = slice_set d.regions (i.thread_of q) thread_acts })
+  acting_goes_on =
+      record {
+        there = trying_there k core i c d related q s t tests stands;
+        chart = refl;
+        core_too = refl;
+        ends = rw (stands) refl;
+        guards_alike = rw (stands) refl;
+        was_there = λ w. let wrong : at.Trying s (t ∷ tests) ≡ at.Outside = sym stands ∙ w in absurd cc;
+        is_there = λ w. absurd cc;
+        stands = acting s (i.main_of s) t.target e es target_there;
+        watches = λ o in_chart has held.
+            watch_other k core i o (standing_of c q) (standing_of d (i.watcher_of o)) acts
+            (subst (λ p. Watches k core i o (standing_of c p) (standing_of d (i.watcher_of o))) held (related.watchers o in_chart has))
+            (λ others w. let wrong : at.Trying s (t ∷ tests) ≡ at.Guarding o others = sym stands ∙ w in absurd cc)
+            (λ others w. let wrong : at.Trying s (t ∷ tests) ≡ at.Within o others = sym stands ∙ w in absurd cc)
+            (λ others w. absurd cc) (λ others w. absurd cc);
+        inside = λ u held inner. absurd (trying_no_inside k core i u s (t ∷ tests) (standing_of c q) stands inner);
+        inside_back = λ u held inner. absurd (acting_no_inside k core i u s t.target (e ∷ es) acts refl inner);
+        closes = λ v others its w. absurd cc;
+        free = free;
+        more = related.more;
+        variables = related.variables;
+        flag_count = related.flag_count;
+        values = related.values;
+        flags = λ x le. refl;
+      }
+
+-- ---- the step
+
 module _ (k core : Table) (i : Images) (rows : CoreRows k core i) (tree : IsNested k) (counts : ℕ → Bool) (written_at : ℕ → ℕ)
     (c d : Configuration) (related : Related k core i c d) (q s : ℕ) (t : Transition) (tests : List Transition)
     (stands : standing_of c q ≡ at.Trying s (t ∷ tests))
     (e : Effect) (es : List Effect) (has_effects : t.effects ≡ e ∷ es) (target_there : t.target < length (region_at k q).states)
     (alone : inside k s ≡ []) (core_alone : inside core (i.main_of s) ≡ []) where
-  there : IsThere k q
-  there = present_there k core i c d related q (λ w. let wrong : at.Trying s (t ∷ tests) ≡ at.Outside = sym stands ∙ w in absurd cc)
-
-  thread : IsTrying k core i c q s (t ∷ tests) (standing_of d (i.thread_of q))
-  thread = trying_back k core i c q (standing_of c q) (standing_of d (i.thread_of q)) (related.regions q there) s (t ∷ tests) stands
-
   module _ (free : is_guarded k c (around k q) ≡ false) where
     abbrev rest : List Transition
     rest = map (led (i.places_of q)) tests ++ held_back k core i q
 
     core_stands : standing_of d (i.thread_of q) ≡ at.Trying (i.main_of s) (led (i.places_of q) t ∷ (map (led (i.places_of q)) tests ++ held_back k core i q))
-    core_stands = thread.is ∙ ap (at.Trying (i.main_of s)) (no_front k core i c q (t ∷ tests) free)
+    core_stands = trying_stands k core i c d related q s t tests stands free
 
     abbrev pub core_acts : Standing
     core_acts = at.Acting (i.main_of s) (e ∷ counting (i.places_of q) t.target es) (place_of (i.places_of q) t.target)
@@ -74,34 +110,13 @@ module _ (k core : Table) (i : Images) (rows : CoreRows k core i) (tree : IsNest
     holding true_there works =
         record {
           goes =
-              record {
-                there = there;
-                chart = refl;
-                core_too = refl;
-                ends = rw (stands) refl;
-                guards_alike = rw (stands) refl;
-                was_there = λ w. let wrong : at.Trying s (t ∷ tests) ≡ at.Outside = sym stands ∙ w in absurd cc;
-                is_there = λ w. absurd cc;
-                stands =
-                    subst (λ fs. Stands k core i c q (at.Acting s (e ∷ es) t.target) (at.Acting (i.main_of s) fs (place_of (i.places_of q) t.target)))
-                    (counting_first (i.places_of q) t.target e es)
-                    (acting s (i.main_of s) t.target e es target_there);
-                watches = λ o in_chart has held.
-                    watch_other k core i o (standing_of c q) (standing_of d (i.watcher_of o)) (at.Acting s (e ∷ es) t.target)
-                    (subst (λ p. Watches k core i o (standing_of c p) (standing_of d (i.watcher_of o))) held (related.watchers o in_chart has))
-                    (λ others w. let wrong : at.Trying s (t ∷ tests) ≡ at.Guarding o others = sym stands ∙ w in absurd cc)
-                    (λ others w. let wrong : at.Trying s (t ∷ tests) ≡ at.Within o others = sym stands ∙ w in absurd cc)
-                    (λ others w. absurd cc) (λ others w. absurd cc);
-                inside = λ u held inner. absurd (trying_no_inside k core i u s (t ∷ tests) (standing_of c q) stands inner);
-                inside_back = λ u held inner. absurd (acting_no_inside k core i u s t.target (e ∷ es) (at.Acting s (e ∷ es) t.target) refl inner);
-                free = free;
-                closes = λ v others its w. absurd cc;
-                more = related.more;
-                variables = related.variables;
-                flag_count = related.flag_count;
-                values = related.values;
-                flags = λ x le. refl;
-              };
+              subst (λ fs. GoesOn k core i rows c d q (at.Acting s (e ∷ es) t.target) (at.Acting (i.main_of s) fs (place_of (i.places_of q) t.target))
+              (record { variables = c.variables; regions = slice_set c.regions q (at.Acting s (e ∷ es) t.target) })
+              (record {
+                variables = d.variables;
+                regions = slice_set d.regions (i.thread_of q) (at.Acting (i.main_of s) fs (place_of (i.places_of q) t.target));
+              }))
+              (counting_first (i.places_of q) t.target e es) (acting_goes_on k core i rows c d related q s t tests stands free e es target_there);
           works = works;
           free = free;
           steps =
