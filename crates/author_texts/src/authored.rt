@@ -1,14 +1,11 @@
 //! The text of a reduced chart, and the states of the author of the extended one.
 
 ghost use Rattle.std.specs.Prelude.{◌≡◌, IfErr, IfNone, IfOk, IfSome, string_bytes};
-ghost use Rattle.std.specs.Str.{IsUtf8};
 ghost use Rattle.author_states.specs.Author.{author_states};
 ghost use Rattle.author_texts.specs.Authored.{HasAuthored, IsAuthored};
 ghost use Rattle.author_texts.specs.Inside.{IsUnreduced};
 ghost use Rattle.command_files.specs.Counting.{files_failed};
 ghost use Rattle.command_files.specs.Standing.{AreAsWritten, BytesLackReduced, BytesLackSource};
-ghost use Rattle.extended_reader.specs.Read.{IsRead};
-ghost use Rattle.extended_sources.specs.Sources.{SpellsNoExtended};
 ghost use Rattle.reduced_texts.specs.ReducedText.{IsReducedText};
 
 use abort_expansion::ExpandFault;
@@ -17,30 +14,15 @@ use chart_reduction::ReduceFault;
 use command_files::LoadFault;
 use compiler::CompileFault;
 use extended_charts::ExtendedChart;
-use extended_reader::read_extended;
-use extended_sources::begins_extended;
+use extended_sources::{begins_extended, extended_in};
 use reduced_texts::reduced_text;
-use sc_text::{FaultKind, ReadFault};
 use std::alloc::Global;
-use std::str;
 
 /// The text of the chart to which an extended chart is reduced, and the states of its author.
 #[derive(Drop)]
 pub struct Authored {
     pub source: String,
     pub states: AuthorStates,
-}
-
-// The extended chart that these bytes spell as text. Err: they spell none.
-fn extended_in(alloc: Global, bytes: &[u8]) -> Result<ExtendedChart, ReadFault>
-    ensures text { IfOk result (λ _. IsUtf8 bytes.now) }
-    ensures read { IfOk result (IsRead bytes.now) }
-    ensures fault { IfErr result (SpellsNoExtended bytes.now) }
-{
-    match str::from_utf8(bytes) {
-        Ok(text) => read_extended(alloc, text),
-        Err(_) => Err(ReadFault::Text(FaultKind::Token, 0)),
-    }
 }
 
 // The text of the chart to which an extended chart is reduced, and the states of its author. Err: it is reduced to no

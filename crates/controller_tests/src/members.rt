@@ -1,7 +1,6 @@
 //! The output in which two lines of a trace differ.
 
 ghost use Rattle.std.specs.Prelude.{◌≡◌, ℕ, IfOk, IfSome, Some, List, string_bytes};
-ghost use Rattle.json.specs.Print.{quoted};
 ghost use Rattle.serde_json.specs.Find.{get};
 ghost use Rattle.serde_json.specs.Read.{read};
 ghost use Rattle.serde_json.specs.View.{view};
@@ -9,6 +8,7 @@ ghost use Rattle.controller_tests.specs.Told.{ShowsValue, TellsData, TellsLines,
 
 use serde_json::{Map, Value as Json};
 use std::alloc::{AllocError, Global};
+use trace_lines::quoted;
 
 // The JSON value that a line is. None: it is none.
 fn json_of(alloc: Global, line: &[u8]) -> Result<Option<Json>, AllocError>
@@ -19,13 +19,6 @@ fn json_of(alloc: Global, line: &[u8]) -> Result<Option<Json>, AllocError>
         Err(error) if error.is_memory() => Err(AllocError),
         Err(_) => Ok(None),
     }
-}
-
-// A text as JSON writes it.
-fn quoted(alloc: Global, text: &str) -> Result<String, AllocError>
-    ensures { IfOk result (λ shown. string_bytes shown ≡ quoted text.now) }
-{
-    Json::String(String::from_str(alloc, text)?).to_string(alloc)
 }
 
 // What the member of this name is, or that there is none.

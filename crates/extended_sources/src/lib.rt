@@ -6,4 +6,4 @@ mod first_word;
 mod sources;
 
 pub use first_word::begins_extended;
-pub use sources::{Unreduced, reduced_of};
+pub use sources::{Unreduced, extended_in, reduced_of};

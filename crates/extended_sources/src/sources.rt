@@ -32,8 +32,8 @@ impl From<AllocError> for Unreduced {
     }
 }
 
-// The extended chart that these bytes spell as text. Err: they spell none.
-fn extended_in(alloc: Global, bytes: &[u8]) -> Result<ExtendedChart, ReadFault>
+/// The extended chart that these bytes spell as text. Err: they spell none, or memory was refused.
+pub fn extended_in(alloc: Global, bytes: &[u8]) -> Result<ExtendedChart, ReadFault>
     ensures text { IfOk result (λ _. IsUtf8 bytes.now) }
     ensures read { IfOk result (IsRead bytes.now) }
     ensures fault { IfErr result (SpellsNoExtended bytes.now) }
