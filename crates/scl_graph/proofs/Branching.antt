@@ -1,7 +1,9 @@
 -- The threads that a text forks are laid branch by branch.
-use Rattle.std.proofs.Common.{◌≡◌, ℕ, ◌+◌, arith, Option, Some, List, [], ◌∷◌, ◌++◌, map, refl, ap, sym, subst, ◌∙◌, append_assoc}
+use Rattle.std.proofs.Common.{◌≡◌, ◌≤◌, ◌<◌, ℕ, ◌+◌, arith, Option, Some, List, [], ◌∷◌, ◌++◌, drop, get_or, length, map, refl, ap, sym, subst, ◌∙◌}
+use Rattle.std.proofs.Common.{append_assoc}
 use Rattle.std.proofs.lemmas.List.{append-nil}
 use Rattle.sc_values.specs.declared.expression.Expr.{Expr}
+use Rattle.sc_graph.specs.Limits.{count_limit}
 use Rattle.sc_graph.specs.declared.program.Node.{Node}
 use Rattle.sc_graph.specs.declared.program.Thread.{Thread}
 use Rattle.sc_graph.specs.declared.program.Step.TheVariants as step
@@ -22,7 +24,7 @@ use Rattle.scl_graph.specs.Counting.{counts_of, counts_of_all, sizes}
 use Rattle.scl_graph.specs.Inside.Laying.{HasRoom, IsLaid, after, past, text, way_in, with_goto}
 use Rattle.scl_graph.specs.Inside.Forking.{AreForkedLaid, AreBranchesLaid, HasBranchRoom, HasBranchesRoom, IsThreadLaid, body, inside, past_branch}
 use Rattle.scl_graph.proofs.Before.{made_before, own_before, way_before, before_before, end_before}
-use Rattle.scl_graph.proofs.Laid.{leads_in}
+use Rattle.scl_graph.proofs.Laid.{leads_in, split_at}
 use Rattle.scl_graph.proofs.Pieces.{piece_of_assign, piece_of_label, piece_of_goto, piece_of_pause, piece_of_if, piece_of_fork}
 
 -- statements stand before what follows them
@@ -218,6 +220,12 @@ branches_more target t b branches at w x y z k l m n one nested others =
           ∙ append_assoc k (own_nodes ++ below_it) rest;
     }
 
+-- the branches from an index on begin with what stands there
+pub branches_at : (at : NodeNumbers) (items : List (List Statement)) (i : ℕ) (b body : List Statement) → HasBranchesRoom at (drop i items)
+    → i < length items → b ≡ get_or items i b → body ≡ b → HasBranchesRoom at (body ∷ drop (i + 1) items)
+branches_at at items i b body room lt is same =
+    subst (λ x. HasBranchesRoom at (x ∷ drop (i + 1) items)) (sym same) (subst (λ zs. HasBranchesRoom at zs) (split_at items i b lt is) room)
+
 -- a branch and what follows it have room where all have
 pub branch_room : (at : NodeNumbers) (b : List Statement) (branches : List (List Statement)) → HasBranchesRoom at (b ∷ branches)
     → HasBranchRoom at (counts_of_all b)
@@ -251,6 +259,38 @@ fork_room at s branches is room =
     (ap counts_of is ∙ ap (λ p. sizes p.counts) (piece_of_fork branches)) room in
     record {
       small = record { nodes = omega (arith, h.small.nodes); threads = omega (arith, h.small.threads); lower = omega (arith, h.small.lower) };
+      thread = omega (arith, h.thread);
+      base = omega (arith, h.base);
+    }
+
+-- the lists of an if have room where the if has
+if_counts : (s : Statement) (e : Expr) (a b : List Statement) → s ≡ variant.If e a b
+    → counts_of s ≡ sizes (piece (tree.If e (map piece_of a) (map piece_of b))).counts
+if_counts s e a b is = ap counts_of is ∙ ap (λ p. sizes p.counts) (piece_of_if e a b)
+
+pub if_room_node : (at : NodeNumbers) (s : Statement) (e : Expr) (a b : List Statement) → s ≡ variant.If e a b → HasRoom at (counts_of s)
+    → at.node + 1 ≤ count_limit
+if_room_node at s e a b is room =
+    let h : _ = (subst (λ c. HasRoom at c) (if_counts s e a b is) room).node in omega (arith, h)
+
+pub if_room_first : (at : NodeNumbers) (s : Statement) (e : Expr) (a b : List Statement) → s ≡ variant.If e a b → HasRoom at (counts_of s)
+    → HasRoom (after 1 at) (counts_of_all a)
+if_room_first at s e a b is room =
+    let h : HasRoom at (sizes (piece (tree.If e (map piece_of a) (map piece_of b))).counts) = subst (λ c. HasRoom at c) (if_counts s e a b is) room in
+    record {
+      small = record { nodes = omega (arith, h.small.nodes); threads = omega (arith, h.small.threads); lower = omega (arith, h.small.lower) };
+      node = omega (arith, h.node);
+      thread = omega (arith, h.thread);
+      base = omega (arith, h.base);
+    }
+
+pub if_room_second : (at : NodeNumbers) (s : Statement) (e : Expr) (a b : List Statement) → s ≡ variant.If e a b → HasRoom at (counts_of s)
+    → HasRoom (past (after 1 at) (counts_of_all a)) (counts_of_all b)
+if_room_second at s e a b is room =
+    let h : HasRoom at (sizes (piece (tree.If e (map piece_of a) (map piece_of b))).counts) = subst (λ c. HasRoom at c) (if_counts s e a b is) room in
+    record {
+      small = record { nodes = omega (arith, h.small.nodes); threads = omega (arith, h.small.threads); lower = omega (arith, h.small.lower) };
+      node = omega (arith, h.node);
       thread = omega (arith, h.thread);
       base = omega (arith, h.base);
     }

@@ -68,6 +68,26 @@ leads_behind s rest here ahead behind is =
     ≡ way_in rest (here.node + p.counts.nodes) behind in
     subst Leads (sym (fold_out-Statement Piece piece s)) (behind_at (out-Statement s) rest here ahead behind is)
 
+-- a list from an index on begins with what stands there
+pub split_at : {A : Type 0} (xs : List A) (i : ℕ) (x : A) → i < length xs → x ≡ get_or xs i x → drop i xs ≡ x ∷ drop (i + 1) xs
+split_at xs i x lt is = rw add-one (drop-cons xs i x lt ∙ ap (λ y. y ∷ drop (suc i) xs) (sym is))
+
+-- what has room for statements has room for each of them
+room_first : (at : NodeNumbers) (s : Statement) (rest : List Statement) → HasRoom at (counts_of_all (s ∷ rest)) → HasRoom at (counts_of s)
+room_first at s rest h =
+    record {
+      small = record { nodes = omega (arith, h.small.nodes); threads = omega (arith, h.small.threads); lower = omega (arith, h.small.lower) };
+      node = omega (arith, h.node);
+      thread = omega (arith, h.thread);
+      base = omega (arith, h.base);
+    }
+
+pub room_at : (at : NodeNumbers) (xs : List Statement) (i : ℕ) (s : Statement) → HasRoom at (counts_of_all (drop i xs)) → i < length xs
+    → s ≡ get_or xs i s → HasRoom at (counts_of s)
+room_at at xs i s room lt is =
+    let Fits : List Statement → Type 0 = λ zs. HasRoom at (counts_of_all zs) in
+    room_first at s (drop (i + 1) xs) (subst Fits (split_at xs i s lt is) room)
+
 -- what has room for statements has room behind the first of them
 pub room_more : (at : NodeNumbers) (s : Statement) (rest : List Statement) → HasRoom at (counts_of_all (s ∷ rest))
     → HasRoom (past at (counts_of s)) (counts_of_all rest)
@@ -85,10 +105,6 @@ room_more at s rest h =
 pub ok_then : {T E : Type 0} (r : Result T E) (P Q : T → Type 0) → ((v : T) → P v → Q v) → IfOk r P → IfOk r Q
 ok_then (Ok v) P Q f h = f v h
 ok_then (Err e) P Q f h = h
-
--- a list from an index on begins with what stands there
-pub split_at : {A : Type 0} (xs : List A) (i : ℕ) (x : A) → i < length xs → x ≡ get_or xs i x → drop i xs ≡ x ∷ drop (i + 1) xs
-split_at xs i x lt is = rw add-one (drop-cons xs i x lt ∙ ap (λ y. y ∷ drop (suc i) xs) (sym is))
 
 -- nothing is laid
 pub laid_none : (target : Way → ℕ) (t : ℕ) (at : NodeNumbers) (behind : Way) (nodes : List Node) → IsLaid target t [] at behind nodes nodes

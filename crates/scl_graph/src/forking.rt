@@ -7,11 +7,13 @@ ghost use Rattle.scl_graph.specs.Inside.Laying.{HasRoom};
 ghost use Rattle.scl_graph.specs.Inside.Tallies.{tally_of};
 
 use crate::fault::GraphFault;
+use crate::laid_threads::Laid;
 use crate::laying::lay;
 use crate::numbers::NodeNumbers;
+use crate::steps::lay_end;
 use crate::tallies::{Tally, known_counts, known_statement_counts};
 use crate::way::{Targets, Way, way_of};
-use sc_graph::{Node, Step, Thread, ThreadId};
+use sc_graph::{Thread, ThreadId};
 use scl::Statement;
 use std::alloc::Global;
 
@@ -26,20 +28,17 @@ pub(crate) fn lay_forked<T: Targets>(
     owner: ThreadId,
     at: NodeNumbers,
     targets: &T,
-    threads: &mut Vec<Thread>,
-    nodes: &mut Vec<Node>,
+    laid: &mut Laid,
 ) -> Result<(), GraphFault>
     requires room { HasRoom at (counts_of_all statements.now) }
     requires tallied { tallies.now ≡ map tally_of statements.now }
     ensures { IfOk result (λ _. AreForkedLaid (T.target targets.now) owner statements.now at
-        threads.old.items threads.new.items nodes.old.items nodes.new.items) }
+        laid.old.threads laid.new.threads laid.old.nodes laid.new.nodes) }
 {
     let mut here = at;
     for (i, statement) in statements.iter().enumerate() {
         let tally = &tallies[i];
-        lay_forked_by(
-            alloc, statement, tally, owner, here, targets, threads, nodes,
-        )?;
+        lay_forked_by(alloc, statement, tally, owner, here, targets, laid)?;
         here = here.past(known_statement_counts(statement, tally));
     }
     Ok(())
@@ -55,13 +54,12 @@ fn lay_forked_by<T: Targets>(
     owner: ThreadId,
     at: NodeNumbers,
     targets: &T,
-    threads: &mut Vec<Thread>,
-    nodes: &mut Vec<Node>,
+    laid: &mut Laid,
 ) -> Result<(), GraphFault>
     requires room { HasRoom at (counts_of statement.now) }
     requires tallied { tally.now ≡ tally_of statement.now }
     ensures { IfOk result (λ _. AreForkedLaid (T.target targets.now) owner
-        (statement.now ∷ []) at threads.old.items threads.new.items nodes.old.items nodes.new.items) }
+        (statement.now ∷ []) at laid.old.threads laid.new.threads laid.old.nodes laid.new.nodes) }
 {
     match statement {
         Statement::Assign { .. } => Ok(()),
@@ -77,26 +75,8 @@ fn lay_forked_by<T: Targets>(
             let second = second.as_slice();
             let inside = at.after_a_node();
             let further = inside.past(known_counts(first, tally.part(0)));
-            lay_forked(
-                alloc,
-                first,
-                tally.part(0),
-                owner,
-                inside,
-                targets,
-                threads,
-                nodes,
-            )?;
-            lay_forked(
-                alloc,
-                second,
-                tally.part(1),
-                owner,
-                further,
-                targets,
-                threads,
-                nodes,
-            )
+            lay_forked(alloc, first, tally.part(0), owner, inside, targets, laid)?;
+            lay_forked(alloc, second, tally.part(1), owner, further, targets, laid)
         }
         Statement::Fork { branches } => {
             let bodies = branches.as_slice();
@@ -115,12 +95,9 @@ fn lay_forked_by<T: Targets>(
                     thread,
                     inside,
                     targets,
-                    threads,
-                    nodes,
+                    laid,
                 )?;
-                lay_forked(
-                    alloc, body, tallies, thread, inside, targets, threads, nodes,
-                )?;
+                lay_forked(alloc, body, tallies, thread, inside, targets, laid)?;
                 here = here.past_branch(counts);
             }
             Ok(())
@@ -137,22 +114,26 @@ pub(crate) fn lay_thread<T: Targets>(
     thread: ThreadId,
     at: NodeNumbers,
     targets: &T,
-    threads: &mut Vec<Thread>,
-    nodes: &mut Vec<Node>,
+    laid: &mut Laid,
 ) -> Result<(), GraphFault>
     requires room { HasRoom at (counts_of_all body.now) }
     requires tallied { tallies.now ≡ map tally_of body.now }
     ensures { IfOk result (λ _. IsThreadLaid (T.target targets.now) parent thread body.now at
-        threads.old.items threads.new.items nodes.old.items nodes.new.items) }
+        laid.old.threads laid.new.threads laid.old.nodes laid.new.nodes) }
 {
     let end = at.node + known_counts(body, tallies).nodes;
     let behind = Way::At(end);
     let entry = targets.target(&way_of(body, at.node, &behind));
-    threads.push(Thread { parent, entry })?;
-    lay(alloc, body, tallies, thread, at, &behind, targets, nodes)?;
-    nodes.push(Node {
-        owner: thread,
-        step: Step::Exit,
-    })?;
-    Ok(())
+    laid.threads.push(Thread { parent, entry })?;
+    lay(
+        alloc,
+        body,
+        tallies,
+        thread,
+        at,
+        &behind,
+        targets,
+        &mut laid.nodes,
+    )?;
+    lay_end(thread, &mut laid.nodes)
 }

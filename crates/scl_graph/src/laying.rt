@@ -29,12 +29,12 @@ pub(crate) fn lay<T: Targets>(
     at: NodeNumbers,
     behind: &Way,
     targets: &T,
-    nodes: &mut Vec<Node>,
+    nodes: &mut Items<Node>,
 ) -> Result<(), GraphFault>
     requires room { HasRoom at (counts_of_all statements.now) }
     requires tallied { tallies.now ≡ map tally_of statements.now }
     ensures { IfOk result
-        (λ _. IsLaid (T.target targets.now) owner statements.now at behind.now nodes.old.items nodes.new.items) }
+        (λ _. IsLaid (T.target targets.now) owner statements.now at behind.now nodes.old nodes.new) }
 {
     let mut here = at;
     let mut ahead = way_of(statements, at.node, behind);
@@ -60,12 +60,12 @@ fn lay_statement<T: Targets>(
     at: NodeNumbers,
     behind: &Way,
     targets: &T,
-    nodes: &mut Vec<Node>,
+    nodes: &mut Items<Node>,
 ) -> Result<(), GraphFault>
     requires room { HasRoom at (counts_of statement.now) }
     requires tallied { tally.now ≡ tally_of statement.now }
     ensures { IfOk result (λ _. IsLaid (T.target targets.now) owner
-        (statement.now ∷ []) at behind.now nodes.old.items nodes.new.items) }
+        (statement.now ∷ []) at behind.now nodes.old nodes.new) }
 {
     match statement {
         Statement::Label(_) => Ok(()),

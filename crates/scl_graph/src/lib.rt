@@ -1,13 +1,13 @@
 //! The graph of an SCL program: its threads and nodes, numbered in the order of the text.
 #![tactic(auto)]
 
-mod counting;
 mod fault;
 mod forking;
 mod gathering;
 mod graph;
 mod hops;
 mod labels;
+mod laid_threads;
 mod landing;
 mod laying;
 mod numbers;
@@ -19,7 +19,6 @@ mod tallies;
 mod totals;
 mod way;
 
-pub use counting::counts;
 pub use fault::GraphFault;
 pub use graph::graph_of;
 pub use numbers::NodeCounts;

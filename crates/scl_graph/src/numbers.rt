@@ -4,12 +4,11 @@ ghost use Rattle.std.specs.Prelude.{◌≡◌, ◌+◌, ◌≤◌};
 ghost use Rattle.sc_graph.specs.Limits.{count_limit};
 ghost use Rattle.scl_graph.specs.Inside.Laying.{HasRoom, after, past};
 ghost use Rattle.scl_graph.specs.Inside.Forking.{HasBranchRoom, inside, past_branch};
-ghost use Rattle.std.specs.Option.{SomeIff};
-ghost use Rattle.scl_graph.specs.Counting.{AreSmall, as_branch, sum};
+ghost use Rattle.scl_graph.specs.Counting.{AreSmall, sum};
 ghost use Rattle.scl_graph.specs.Inside.Tallies.{sizes_of};
 
 use crate::totals::Totals;
-use sc_graph::{NODE_LIMIT, NodeId, ThreadId};
+use sc_graph::{NodeId, ThreadId};
 
 /// How many nodes of its own thread a text has, how many threads it forks, and how many nodes these have.
 #[derive(Clone, Copy, Debug)]
@@ -39,43 +38,6 @@ impl NodeCounts {
         }
     }
 
-    // Those of so many nodes.
-    pub(crate) fn nodes(nodes: u16) -> NodeCounts
-        ensures { result ≡ record { nodes = nodes; threads = 0; lower = 0 } }
-    {
-        NodeCounts {
-            nodes,
-            threads: 0,
-            lower: 0,
-        }
-    }
-
-    // What a branch counts whose text counts this: one thread more, and the node of its end.
-    pub(crate) fn as_branch(self) -> Option<NodeCounts>
-        requires { AreSmall self }
-        ensures { SomeIff result (AreSmall (as_branch self)) (as_branch self) }
-    {
-        let branch = NodeCounts {
-            nodes: 0,
-            threads: self.threads + 1,
-            lower: self.nodes + 1 + self.lower,
-        };
-        branch.if_small()
-    }
-
-    // Those of two texts together. None: one of them is above the limit of nodes.
-    pub(crate) fn plus(self, other: NodeCounts) -> Option<NodeCounts>
-        requires { AreSmall self × AreSmall other }
-        ensures { SomeIff result (AreSmall (sum self other)) (sum self other) }
-    {
-        let both = NodeCounts {
-            nodes: self.nodes + other.nodes,
-            threads: self.threads + other.threads,
-            lower: self.lower + other.lower,
-        };
-        both.if_small()
-    }
-
     // Those of two texts together, which are small.
     pub(crate) fn and(self, other: NodeCounts) -> NodeCounts
         requires { AreSmall (sum self other) }
@@ -97,18 +59,6 @@ impl NodeCounts {
             nodes: totals.nodes as u16,
             threads: totals.threads as u16,
             lower: totals.lower as u16,
-        }
-    }
-
-    // These counts. None: one of them is above the limit of nodes.
-    fn if_small(self) -> Option<NodeCounts>
-        ensures { SomeIff result (AreSmall self) self }
-    {
-        let most = NODE_LIMIT as u16;
-        if self.nodes <= most && self.threads <= most && self.lower <= most {
-            Some(self)
-        } else {
-            None
         }
     }
 }

@@ -5,16 +5,12 @@ ghost use Rattle.sc_graph.specs.Limits.{count_limit};
 ghost use Rattle.sc_graph.specs.declared.program.Step.TheVariants as step;
 ghost use Rattle.sc_values.specs.Assignment.{assignment_of};
 ghost use Rattle.sc_values.specs.Expr.{postorder};
-ghost use Rattle.scl_graph.specs.Counting.{AreSmall, branches_counts, counts_of_all};
 ghost use Rattle.scl_graph.specs.Graph.{assigns, node};
-ghost use Rattle.scl_graph.specs.Inside.Laying.{children, step_coded};
+ghost use Rattle.scl_graph.specs.Inside.Laying.{step_coded};
 
-use crate::counting::counts;
 use crate::fault::GraphFault;
-use crate::numbers::NodeCounts;
 use sc_graph::{Node, NodeId, Step, ThreadId, VariableId};
 use sc_values::{Code, CodedAssignment, Expr};
-use scl::Statement;
 use sqlite_items::Items;
 
 /// Puts the node of an assignment behind the others.
@@ -23,17 +19,15 @@ pub(crate) fn lay_assignment(
     value: &Expr,
     owner: ThreadId,
     next: NodeId,
-    nodes: &mut Vec<Node>,
+    nodes: &mut Items<Node>,
 ) -> Result<(), GraphFault>
-    ensures { IfOk result (λ _. nodes.new.items ≡ nodes.old.items ++ node owner
+    ensures { IfOk result (λ _. nodes.new ≡ nodes.old ++ node owner
         (assigns variable (assignment_of variable value.now) next) ∷ []) }
 {
     let Some(assignment) = CodedAssignment::of(variable, value) else {
         return Err(GraphFault::Limit);
     };
-    let step = step_of(variable, assignment, next);
-    nodes.push(Node { owner, step })?;
-    Ok(())
+    put(owner, step_of(variable, assignment, next), nodes)
 }
 
 // The step of an assignment.
@@ -61,17 +55,15 @@ pub(crate) fn lay_test(
     owner: ThreadId,
     then: NodeId,
     other: NodeId,
-    nodes: &mut Vec<Node>,
+    nodes: &mut Items<Node>,
 ) -> Result<(), GraphFault>
-    ensures { IfOk result (λ _. nodes.new.items ≡ nodes.old.items ++ node owner
+    ensures { IfOk result (λ _. nodes.new ≡ nodes.old ++ node owner
         (step.Cond (postorder test.now) then other) ∷ []) }
 {
     let Some(code) = Code::postorder(test) else {
         return Err(GraphFault::Limit);
     };
-    let step = Step::Cond { code, then, other };
-    nodes.push(Node { owner, step })?;
-    Ok(())
+    put(owner, Step::Cond { code, then, other }, nodes)
 }
 
 /// Puts the surface and the depth of a pause behind the others; the surface has the number `at`.
@@ -79,21 +71,14 @@ pub(crate) fn lay_pause(
     at: NodeId,
     owner: ThreadId,
     next: NodeId,
-    nodes: &mut Vec<Node>,
+    nodes: &mut Items<Node>,
 ) -> Result<(), GraphFault>
     requires { at + 1 ≤ count_limit }
-    ensures { IfOk result (λ _. nodes.new.items ≡ nodes.old.items ++ node owner (step.Surf (suc at)) ∷ node owner
+    ensures { IfOk result (λ _. nodes.new ≡ nodes.old ++ node owner (step.Surf (suc at)) ∷ node owner
         (step.Depth next) ∷ []) }
 {
-    nodes.push(Node {
-        owner,
-        step: Step::Surf { depth: at + 1 },
-    })?;
-    nodes.push(Node {
-        owner,
-        step: Step::Depth { next },
-    })?;
-    Ok(())
+    put(owner, Step::Surf { depth: at + 1 }, nodes)?;
+    put(owner, Step::Depth { next }, nodes)
 }
 
 /// Puts a fork of these children and its join behind the others; the fork has the number `at`.
@@ -102,20 +87,28 @@ pub(crate) fn lay_fork(
     owner: ThreadId,
     children: Items<ThreadId>,
     next: NodeId,
-    nodes: &mut Vec<Node>,
+    nodes: &mut Items<Node>,
 ) -> Result<(), GraphFault>
     requires { at + 1 ≤ count_limit }
-    ensures { IfOk result (λ _. nodes.new.items ≡ nodes.old.items ++ node owner
+    ensures { IfOk result (λ _. nodes.new ≡ nodes.old ++ node owner
         (step.Fork children (suc at)) ∷ node owner (step.Join next) ∷ []) }
 {
     let join = at + 1;
-    nodes.push(Node {
-        owner,
-        step: Step::Fork { children, join },
-    })?;
-    nodes.push(Node {
-        owner,
-        step: Step::Join { next },
-    })?;
+    put(owner, Step::Fork { children, join }, nodes)?;
+    put(owner, Step::Join { next }, nodes)
+}
+
+/// Puts the end of a thread behind the others.
+pub(crate) fn lay_end(owner: ThreadId, nodes: &mut Items<Node>) -> Result<(), GraphFault>
+    ensures { IfOk result (λ _. nodes.new ≡ nodes.old ++ node owner step.Exit ∷ []) }
+{
+    put(owner, Step::Exit, nodes)
+}
+
+// Puts a node behind the others.
+fn put(owner: ThreadId, step: Step, nodes: &mut Items<Node>) -> Result<(), GraphFault>
+    ensures { IfOk result (λ _. nodes.new ≡ nodes.old ++ node owner step ∷ []) }
+{
+    nodes.push(Node { owner, step })?;
     Ok(())
 }

@@ -1,11 +1,13 @@
 -- The labels of a program resolved, or the first goto that leads back to itself.
 use Rattle.std.specs.Prelude.{ℕ, suc, ◌+◌, ◌≡◌, ◌≤◌, List, [], map, nat_le, if◌then◌else◌}
 use Rattle.sc_graph.specs.Limits.{count_limit, node_limit, thread_limit}
+use Rattle.sc_graph.specs.declared.program.Node.{Node}
+use Rattle.sc_graph.specs.declared.program.Thread.{Thread}
 use Rattle.sc_graph.specs.declared.program.Variable.{Variable}
 use Rattle.scl.specs.declared.statement.Statement.{Statement}
 use Rattle.scl.specs.Block.{Block}
 use Rattle.scl.specs.Numbering.{Numbered, in_row, numbered_body, piece_of}
-use Rattle.scl_graph.specs.Graph.{target}
+use Rattle.scl_graph.specs.Graph.{program_by, target}
 use Rattle.scl_graph.specs.Loops.{HasNoEmptyLoop, IsFirstEmptyLoop}
 use Rattle.scl_graph.specs.declared.fault.GraphFault.{GraphFault}
 use Rattle.scl_graph.specs.declared.fault.GraphFault.TheVariants as fault
@@ -61,3 +63,8 @@ abbrev pub IsUnresolved : List Statement → GraphFault → Type 0
 IsUnresolved statements (fault.EmptyLoop name) = IsFirstEmptyLoop (root_of statements) name
 IsUnresolved statements fault.Limit = ⊥
 IsUnresolved statements fault.Memory = Unit {0}
+
+-- these are the threads of a program of these statements, and their nodes
+pub record AreThreadsLaid (target : Way → ℕ) (statements : List Statement) (threads : List Thread) (nodes : List Node) : Type 0 where
+  pub made : (variables : List Variable) → record { variables = variables; threads = threads; nodes = nodes }
+      ≡ program_by target (numbered_of variables statements)

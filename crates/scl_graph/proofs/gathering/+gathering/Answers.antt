@@ -1,14 +1,19 @@
-use Rattle.std.proofs.Common.{◌≡◌, ℕ, ◌+◌, List, [], ◌∷◌, drop, ap, sym, subst, ◌∙◌}
+use borrow.Author.Rules.{get_or_read}
+use Rattle.std.proofs.Common.{rules, ◌≡◌, ℕ, ◌+◌, List, [], ◌∷◌, drop, map, ap, sym, subst, ◌∙◌}
 use Rattle.std.proofs.lemmas.List.{drop_all, take_rest}
 use Rattle.scl.specs.declared.statement.Statement.{Statement}
+use Rattle.scl.specs.declared.statement.Statement.TheFolds as statement
 use Rattle.scl.specs.declared.statement.Statement.TheViews.{out-Statement}
 use Rattle.scl_graph.specs.declared.landing.Landing.{Landing}
 use Rattle.scl_graph.specs.declared.numbers_ahead.NumbersAhead.{NumbersAhead}
-use Rattle.scl_graph.specs.Inside.Totals.{HasRoom, after, past, totals_of, totals_of_all}
+use Rattle.scl_graph.specs.declared.totals.Totals.{Totals}
+use Rattle.scl_graph.specs.Inside.Tallies.{tally_of}
+use Rattle.scl_graph.specs.Inside.Totals.{AreCounted, HasRoom, after, past, totals_of, totals_of_all}
 use Rattle.scl_graph.specs.Inside.Gathering.{IsGathered, Noted, landing_behind, landing_in}
 use Rattle.scl_graph.proofs.Laid.{ok_then, split_at}
 use Rattle.scl_graph.proofs.Gathered.{gathered_if, gathered_more, gathered_none, lands_behind}
-use Rattle.scl_graph.proofs.NumberRooms.{numbers_room_more}
+use Rattle.scl_graph.proofs.NumberRooms.{numbers_if_first, numbers_if_node, numbers_if_second, numbers_room_at, numbers_room_more}
+use Rattle.scl_graph.proofs.Tallied.{first_part, second_part, tally_at}
 use Rattle.scl_graph.proofs.gathering.+gathering.Goals as goal
 
 pub gather-loop-i-init : goal.gather-loop-i-init
@@ -79,3 +84,67 @@ gather_statement-returns-in_ok-gather-in-If t c =
     (λ v. IsGathered (s ∷ []) at behind x z)
     (λ v h. gathered_if s at behind x y z c.in-If.test a b c.in-If.is first (subst SecondAt further (subst SecondOf c.as_slice-second.ensures h)))
     c.gather-in-If.ensures
+
+pub gather-gather_statement-requires : goal.gather-gather_statement-requires
+gather-gather_statement-requires t c =
+    let xs : List Statement = c.args.statements.now in
+    let s : Statement = c.index-statements-i.result in
+    let i : ℕ = c.loop-i.i in
+    let room : HasRoom c.loop-i.here (totals_of s) = numbers_room_at c.loop-i.here xs i s c.loop-i.invariant.room c.loop-i-test.true c.index-statements-i.is in
+    let tallied : c.index-tallies-i.result ≡ tally_of s =
+    tally_at xs c.args.tallies.now i s c.index-tallies-i.result c.requires.tallied c.loop-i-test.true c.index-statements-i.is c.index-tallies-i.is in
+    (search (rules, statement.the_lemmas, get_or_read), (room, tallied))
+
+pub gather-past-next-requires : goal.gather-past-next-requires
+gather-past-next-requires t c =
+    let s : Statement = c.index-statements-i.result in
+    let Fits : Totals → Type 0 = λ k. HasRoom c.loop-i.here k in
+    subst Fits (sym c.known_statement_totals.ensures)
+    (numbers_room_at c.loop-i.here c.args.statements.now c.loop-i.i s c.loop-i.invariant.room c.loop-i-test.true c.index-statements-i.is)
+
+pub gather_statement-after_a_node-inside-requires : goal.gather_statement-after_a_node-inside-requires
+gather_statement-after_a_node-inside-requires t c =
+    numbers_if_node c.args.at c.args.statement.now c.in-If.test c.in-If.first c.in-If.second c.in-If.is c.requires.room
+
+pub gather_statement-known_totals-requires-clause-counted : goal.gather_statement-known_totals-requires-clause-counted
+gather_statement-known_totals-requires-clause-counted t c =
+    let Small : List Statement → Type 0 = λ zs. AreCounted (totals_of_all zs) in
+    subst Small (sym c.as_slice-first.ensures)
+    (numbers_if_first c.args.at c.args.statement.now c.in-If.test c.in-If.first c.in-If.second c.in-If.is c.requires.room).counted
+
+pub gather_statement-past-further-requires : goal.gather_statement-past-further-requires
+gather_statement-past-further-requires t c =
+    let counts : c.known_totals.result ≡ totals_of_all c.in-If.first = c.known_totals.ensures.totals ∙ ap totals_of_all c.as_slice-first.ensures in
+    let At : NumbersAhead → Type 0 = λ m. HasRoom m c.known_totals.result in
+    let Of : Totals → Type 0 = λ k. HasRoom (after 1 c.args.at) k in
+    subst At (sym c.after_a_node-inside.ensures)
+    (subst Of (sym counts) (numbers_if_first c.args.at c.args.statement.now c.in-If.test c.in-If.first c.in-If.second c.in-If.is c.requires.room))
+
+pub gather_statement-gather-requires : goal.gather_statement-gather-requires
+gather_statement-gather-requires t c =
+    let At : NumbersAhead → Type 0 = λ m. HasRoom m (totals_of_all c.as_slice-first.result.now) in
+    let Of : List Statement → Type 0 = λ zs. HasRoom (after 1 c.args.at) (totals_of_all zs) in
+    let room : HasRoom c.after_a_node-inside.result (totals_of_all c.as_slice-first.result.now) =
+    subst At (sym c.after_a_node-inside.ensures) (subst Of (sym c.as_slice-first.ensures)
+    (numbers_if_first c.args.at c.args.statement.now c.in-If.test c.in-If.first c.in-If.second c.in-If.is c.requires.room)) in
+    let tallied : c.part-in-If.result.now ≡ map tally_of c.as_slice-first.result.now =
+    c.part-in-If.ensures
+    ∙ first_part c.args.statement.now c.args.tally.now c.in-If.test c.in-If.first c.in-If.second c.in-If.is c.requires.tallied
+    ∙ ap (map tally_of) (sym c.as_slice-first.ensures) in
+    (search (rules, statement.the_lemmas), (room, tallied))
+
+pub gather_statement-gather-requires-in-If : goal.gather_statement-gather-requires-in-If
+gather_statement-gather-requires-in-If t c =
+    let counts : c.known_totals.result ≡ totals_of_all c.in-If.first = c.known_totals.ensures.totals ∙ ap totals_of_all c.as_slice-first.ensures in
+    let further : c.past-further.result ≡ past (after 1 c.args.at) (totals_of_all c.in-If.first) =
+    c.past-further.ensures ∙ ap (λ m. past m c.known_totals.result) c.after_a_node-inside.ensures ∙ ap (past (after 1 c.args.at)) counts in
+    let At : NumbersAhead → Type 0 = λ m. HasRoom m (totals_of_all c.as_slice-second.result.now) in
+    let Of : List Statement → Type 0 = λ zs. HasRoom (past (after 1 c.args.at) (totals_of_all c.in-If.first)) (totals_of_all zs) in
+    let room : HasRoom c.past-further.result (totals_of_all c.as_slice-second.result.now) =
+    subst At (sym further) (subst Of (sym c.as_slice-second.ensures)
+    (numbers_if_second c.args.at c.args.statement.now c.in-If.test c.in-If.first c.in-If.second c.in-If.is c.requires.room)) in
+    let tallied : c.part-in-If-2.result.now ≡ map tally_of c.as_slice-second.result.now =
+    c.part-in-If-2.ensures
+    ∙ second_part c.args.statement.now c.args.tally.now c.in-If.test c.in-If.first c.in-If.second c.in-If.is c.requires.tallied
+    ∙ ap (map tally_of) (sym c.as_slice-second.ensures) in
+    (search (rules, statement.the_lemmas), (room, tallied))

@@ -8,6 +8,6 @@ abbrev pub invariant-lay-loop-i : goal.invariant-lay-loop-i
 invariant-lay-loop-i g l = record {
   room : HasRoom l.here (counts_of_all (drop l.i l.statements));
   ahead : l.ahead ≡ way_in (drop l.i l.statements) l.here.node l.behind;
-  laid : (new : List Node) → IsLaid (g.T.Targets.target l.targets) l.owner (drop l.i l.statements) l.here l.behind l.nodes.items new
-      → IsLaid (g.T.Targets.target l.targets) l.owner l.statements l.fn.at l.behind l.initial.nodes.items new;
+  laid : (new : List Node) → IsLaid (g.T.Targets.target l.targets) l.owner (drop l.i l.statements) l.here l.behind l.nodes new
+      → IsLaid (g.T.Targets.target l.targets) l.owner l.statements l.fn.at l.behind l.initial.nodes new;
 }
