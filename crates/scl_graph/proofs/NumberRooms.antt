@@ -7,7 +7,8 @@ use Rattle.scl.specs.declared.statement.Statement.TheVariants as variant
 use Rattle.scl.specs.Numbering.{piece, piece_of}
 use Rattle.scl_graph.specs.declared.numbers_ahead.NumbersAhead.{NumbersAhead}
 use Rattle.scl_graph.specs.declared.totals.Totals.{Totals}
-use Rattle.scl_graph.specs.Inside.Totals.{HasBranchRoom, HasBranchesRoom, HasRoom, after, inside, number_limit, past, past_branch, totals, totals_of, totals_of_all}
+use Rattle.scl_graph.specs.Inside.Totals.{HasBranchRoom, HasBranchesRoom, HasRoom, after, inside, number_limit, past, past_branch}
+use Rattle.scl_graph.specs.Inside.Totals.{totals, totals_of, totals_of_all}
 use Rattle.scl_graph.proofs.Laid.{split_at}
 use Rattle.scl_graph.proofs.Pieces.{piece_of_fork, piece_of_if}
 

@@ -177,7 +177,8 @@ lay_forked-lay_forked_by-requires g t c =
 
 pub lay_forked-known_statement_counts-requires-clause-small : goal.lay_forked-known_statement_counts-requires-clause-small
 lay_forked-known_statement_counts-requires-clause-small g t c =
-    (room_at c.loop-i.here c.args.statements.now c.loop-i.i c.index-statements-i.result c.loop-i.invariant.room c.loop-i-test.true c.index-statements-i.is).small
+    let s : Statement = c.index-statements-i.result in
+    (room_at c.loop-i.here c.args.statements.now c.loop-i.i s c.loop-i.invariant.room c.loop-i-test.true c.index-statements-i.is).small
 
 pub lay_forked-past-here-requires : goal.lay_forked-past-here-requires
 lay_forked-past-here-requires g t c =

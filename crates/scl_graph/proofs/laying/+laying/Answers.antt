@@ -145,7 +145,8 @@ lay-lay_statement-requires g t c =
 
 pub lay-known_statement_counts-requires-clause-small : goal.lay-known_statement_counts-requires-clause-small
 lay-known_statement_counts-requires-clause-small g t c =
-    (room_at c.loop-i.here c.args.statements.now c.loop-i.i c.index-statements-i.result c.loop-i.invariant.room c.loop-i-test.true c.index-statements-i.is).small
+    let s : Statement = c.index-statements-i.result in
+    (room_at c.loop-i.here c.args.statements.now c.loop-i.i s c.loop-i.invariant.room c.loop-i-test.true c.index-statements-i.is).small
 
 pub lay-past-next-requires : goal.lay-past-next-requires
 lay-past-next-requires g t c =
