@@ -23,26 +23,22 @@ use Rattle.abort_expansion.specs.declared.pieces.NextNumbers.{NextNumbers}
 use Rattle.abort_expansion.specs.Flags.{weak_around, aborts_around, one}
 use Rattle.abort_expansion.specs.Pieces.{RegionPiece, StatePiece}
 use Rattle.abort_expansion.specs.Expansion.{piece_of_region, region_piece, state_piece, places, states_among}
-use Rattle.abort_expansion.specs.Expansion.{variables_among, initial_number}
-use Rattle.abort_expansion.specs.Expansion.{new_initial}
+use Rattle.abort_expansion.specs.Expansion.{variables_among, initial_number, new_initial}
 use Rattle.abort_expansion_laws.specs.CoreRows.{own, is_final, flags_around, counter_over, RegionImage}
 use Rattle.abort_expansion_laws.proofs.InRegionRows.{InRegionAt, more_hold}
 use Rattle.abort_expansion_laws.proofs.SideRows.{states_append, side_head}
 use Rattle.abort_expansion_laws.proofs.Walked.{World, ValuesAt, values_from, values_first, values_second, i, RegionFits, InRegion}
-use Rattle.abort_expansion_laws.proofs.Walked.{CoreStateFits, CoreSort, for_start, for_nothing, thread, Range, range_both, range_to}
-use Rattle.abort_expansion_laws.proofs.Walked.{thread_by, places_by}
+use Rattle.abort_expansion_laws.proofs.Walked.{CoreStateFits, CoreSort, for_start, for_nothing, thread, Range, range_both, range_to, thread_by, places_by}
 use Rattle.abort_expansion_laws.proofs.Walks.{Fits, RegionsStand, RegionsWalk, RegionWalks, StateWalks, pieces_of}
 use Rattle.abort_expansion_laws.proofs.RowsOfForks.{region_rows}
-use Rattle.abort_expansion_laws.proofs.WalkStates.{expanded_pieces, EachPlace, FirstFits, StatesStand, numbers_append}
-use Rattle.abort_expansion_laws.proofs.WalkStates.{numbers_long, pieces_long}
+use Rattle.abort_expansion_laws.proofs.WalkStates.{expanded_pieces, EachPlace, FirstFits, StatesStand, numbers_append, numbers_long, pieces_long}
 use Rattle.abort_expansion_laws.proofs.StatePlaces.{region_there_at, each_place, first_there, initial_held, begins_where, first_number}
 use Rattle.abort_expansion_laws.proofs.RegionEnds.{new_sized, new_many, new_long, new_variables, new_held}
 use Rattle.abort_expansion.specs.Transitions.{go, on, count_down}
-use Rattle.abort_expansion_laws.proofs.RegionEnds.{new_first, new_none, new_row, new_does, left_bare}
+use Rattle.abort_expansion_laws.proofs.RegionEnds.{new_first, new_none, new_row, new_does, left_bare, left_held, left_there}
 use Rattle.abort_expansion_laws.proofs.EnteredAlike.{BeginsAs, AreEntered}
 use Rattle.abort_expansion_laws.proofs.InitialStates.{initial_at, HasInitial, has_first, has_left, has_right, at_first, at_later, states_entered}
 use Rattle.abort_expansion_laws.proofs.ThreadBegins.{initial_final, Told, initial_told, begins_as}
-use Rattle.abort_expansion_laws.proofs.RegionEnds.{left_held, left_there}
 use Rattle.abort_expansion_laws.proofs.RegionPieces.{RegionAt, sized_states, states, chart_pieces, expanded, anew, begin, positions, target, number, news, text}
 use Rattle.abort_expansion_laws.proofs.RegionPieces.{lefts, all_states, new_pieces, text_pieces, left_pieces, later_pieces, split_pieces, pieces_are}
 use Rattle.abort_expansion_laws.proofs.RegionPieces.{core_layer, chart_piece, core_region, core_piece, text_at, chart_next, region_next, core_next, middle}
@@ -310,8 +306,13 @@ module _ (r : RegionAt) where
           states = inner.states;
           core_states =
               range_to (CoreStateFits w) b.state ((left_at r).state + states_in (left_pieces r)) (b.state + states_in (table_of_region (core_region r) ∷ []))
-              (omega (arith, region_states r, ap states_in (pieces_are r),
-              states_append (new_pieces r) (later_pieces r), states_append (text_pieces r) (left_pieces r)))
+              (omega (
+                arith,
+                region_states r,
+                ap states_in (pieces_are r),
+                states_append (new_pieces r) (later_pieces r),
+                states_append (text_pieces r) (left_pieces r),
+              ))
               (range_both (CoreStateFits w) b.state (text_at r).state ((left_at r).state + states_in (left_pieces r))
               (held_fits b.state (text_at r).state
               (new_held counter (target r) (number r) (anew r) w.core (later_pieces r) (region_next r) (inside_region b) split_rows)
