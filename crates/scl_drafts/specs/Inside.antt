@@ -1,7 +1,6 @@
 -- What private functions that read the parts of a program say. It is proved, and no public contract rests on what it means.
 pub mod Apart
 pub mod Survey
-
 use Rattle.std.specs.Prelude.{ℕ, ◌≡◌, List, [], ◌∷◌, ◌++◌, drop, map}
 use Rattle.std.specs.List.{flat_map}
 use Rattle.grammar.specs.Grammar.{seq, many}
