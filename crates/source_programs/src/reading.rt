@@ -50,7 +50,7 @@ fn lowered(alloc: Global, chart: &Chart) -> Result<(CoreChart, Scl), ExpandFault
 }
 
 // A text of a chart, and its SCL program. Err: its fault, or that its chart has no core chart; or memory was refused.
-#[tactic(auto, using(chart_reader::proofs::ReadText::unflawed, chart_reader::proofs::ReadText::shaped, crate::proofs::Spelling::faulty_chart, crate::proofs::Spelling::no_core, crate::proofs::Spelling::no_memory))]
+#[tactic(auto, using(chart_reader::proofs::Reading::unflawed, chart_reader::proofs::Reading::shaped, crate::proofs::Spelling::faulty_chart, crate::proofs::Spelling::no_core, crate::proofs::Spelling::no_memory))]
 fn read_as_chart(alloc: Global, text: &str) -> Result<(ReadChart, Scl), SourceFault>
     requires { IsIn text.now language.Chart }
     ensures kept { IfOk result (λ made. KeepsChart text.now made.1 made.0) }
@@ -63,7 +63,7 @@ fn read_as_chart(alloc: Global, text: &str) -> Result<(ReadChart, Scl), SourceFa
 }
 
 // A text of SCL, and its program. Err: its fault; or memory was refused.
-#[tactic(auto, using(scl_reader::proofs::ReadText::unflawed, scl_reader::proofs::ReadText::shaped, crate::proofs::Spelling::faulty_scl, crate::proofs::Spelling::no_memory))]
+#[tactic(auto, using(scl_reader::proofs::Reading::unflawed, scl_reader::proofs::Reading::shaped, crate::proofs::Spelling::faulty_scl, crate::proofs::Spelling::no_memory))]
 fn read_as_scl(alloc: Global, text: &str) -> Result<(Draft, Scl), SourceFault>
     requires { IsIn text.now language.Scl }
     ensures kept { IfOk result (λ made. KeepsDraft text.now made.1 made.0) }
