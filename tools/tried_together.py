@@ -9,21 +9,21 @@ import os
 import re
 import subprocess
 import tempfile
+from types import SimpleNamespace
 
 from taken_as_proved import folders_of, modules_of_types, with_others_taken
 
 # How many edits one check may have.
-MOST = 16
+MOST = 20
 ROOT = "wrong_bodies"
 
 
 class Copy:
-    """A crate with some of its edits in it, under a name of its own."""
+    """A crate with some of its edits in it, under a name of its own, of which the functions at some places are asked, or all."""
 
-    def __init__(self, tool, crate, texts, edits, name):
-        self.crate, self.name, self.edits = crate, name, edits
-        self.places = {place for it in edits for place in it.places}
-        self.is_whole = None in self.places or not edits
+    def __init__(self, tool, crate, texts, edits, name, places):
+        self.crate, self.name, self.edits, self.places = crate, name, edits, places
+        self.is_whole = None in places
         texts = {path: text for path, text in texts.items() if text is not None}
         if not self.is_whole:
             other = with_others_taken(crate, texts, self.places, lambda it: tool.name_of(it, ""))
@@ -75,28 +75,21 @@ def texts_of(top, parts, crate):
     return found
 
 
-def as_it_is(tool, crate, texts, copies):
-    """Returns the crate without an edit, under a name of its own, of which as much is asked as of these copies."""
-    control = Copy(tool, crate, texts, [], f"{crate}_as_it_is")
-    if not any(it.is_whole for it in copies):
-        control.asked = sorted({f"{control.name}{asked.removeprefix(it.name)}" for it in copies for asked in it.asked})
-    return control
-
-
 def copies_of(tool, crate, edits):
     """Returns the copies of a crate in which its edits stand: the first under its own name, and behind the others one without."""
     texts = texts_of(tool.TOP, tool.PARTS, crate)
     good = [it for it in edits if not it.apply(texts)[1]]
     apart = [it for it in good if not it.is_in_functions()]
 
-    class Texts:
-        pass
-
-    bench = Texts()
-    bench.texts = texts
-    rows = [*tool.batches_of(bench, [it for it in good if it not in apart]), *([[it], it.apply(texts)[0]] for it in apart)]
-    copies = [Copy(tool, crate, made, row, f"{crate}_{at}" if at else crate) for at, (row, made) in enumerate(rows)]
-    return copies + [as_it_is(tool, crate, texts, copies[1:])] * (len(copies) > 1)
+    # what asks for the whole crate comes first, so that the copy without an edit is asked for it only where two do
+    rows = [[[it], it.apply(texts)[0]] for it in apart]
+    rows += tool.batches_of(SimpleNamespace(texts=texts), [it for it in good if it not in apart])
+    copies = []
+    for at, (row, made) in enumerate(rows):
+        places = {place for it in row for place in it.places}
+        copies.append(Copy(tool, crate, made, row, f"{crate}_{at}" if at else crate, places))
+    others = set().union(*(it.places for it in copies[1:]))
+    return copies + [Copy(tool, crate, texts, [], f"{crate}_as_it_is", others)] * (len(copies) > 1)
 
 
 def levels(listed, below):
