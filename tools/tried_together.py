@@ -78,7 +78,7 @@ def texts_of(top, parts, crate):
 def copies_of(tool, crate, edits):
     """Returns the copies of a crate in which its edits stand: the first under its own name, and behind the others one without."""
     texts = texts_of(tool.TOP, tool.PARTS, crate)
-    good = [it for it in edits if not it.apply(texts)[1]]
+    good = [it for it in edits if not it.apply(texts)[1] and not it.is_alone]
     apart = [it for it in good if not it.is_in_functions()]
 
     # what asks for the whole crate comes first, so that the copy without an edit is asked for it only where two do
