@@ -16,6 +16,8 @@ from taken_as_proved import folders_of, modules_of_types, with_others_taken
 # How many edits one check may have.
 MOST = 20
 ROOT = "wrong_bodies"
+# A crate with more files of proofs than this costs more at each copy than at a check of its own.
+PROOFS = 200
 
 
 class Copy:
@@ -84,6 +86,8 @@ def copies_of(tool, crate, edits):
     # what asks for the whole crate comes first, so that the copy without an edit is asked for it only where two do
     rows = [[[it], it.apply(texts)[0]] for it in apart]
     rows += tool.batches_of(SimpleNamespace(texts=texts), [it for it in good if it not in apart])
+    if sum(path.startswith("proofs/") for path in texts) > PROOFS:
+        rows = rows[:1]
     copies = []
     for at, (row, made) in enumerate(rows):
         places = {place for it in row for place in it.places}
