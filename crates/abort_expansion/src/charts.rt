@@ -10,8 +10,9 @@ use crate::fault::ExpandFault;
 use crate::pieces::NextNumbers;
 use crate::regions::expanded_regions;
 use crate::state_map::StateMap;
-use core_charts::{Chart, CoreChart, copied_variables};
+use core_charts::{Chart, CoreChart};
 use sc_graph::{VARIABLE_LIMIT, Variable};
+use sqlite_items::Items;
 use std::alloc::{AllocError, Global};
 
 /// The core chart of a chart, and for which states of the chart those of the core chart stand. `Limit`: with
@@ -46,7 +47,7 @@ fn expanded(alloc: Global, chart: &Chart) -> Result<(CoreChart, StateMap), Alloc
     let declared = chart.variables();
     let whole = whole(declared)?;
     let made = expanded_regions(alloc, chart.regions(), &[], None, whole)?;
-    let mut variables = copied_variables(alloc, declared)?;
+    let mut variables = Items::from_slice(alloc, declared)?;
     variables.append(made.variables)?;
     let core = CoreChart::known(chart.name(), variables, made.regions);
     Ok((

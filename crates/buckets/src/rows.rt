@@ -10,7 +10,7 @@ use std::marker::Model;
 
 /// Items, numbered from 0, in rows by class. Contracts see how many items each row has room for, and
 /// in which row each item stands.
-#[derive(Debug, Drop)]
+#[derive(Drop)]
 pub struct Rows {
     rooms: Vec<usize>,
     classes: Vec<Option<u16>>,

@@ -5,14 +5,14 @@ use drafts::{Declaration, Named, TextExpression};
 use sqlite_items::Items;
 
 /// An assignment of a transition.
-#[derive(Debug, Drop)]
+#[derive(Drop)]
 pub struct DraftEffect {
     pub variable: Named,
     pub value: TextExpression,
 }
 
 /// A transition. It stands at the word that tells its kind.
-#[derive(Debug, Drop)]
+#[derive(Drop)]
 pub struct DraftTransition {
     pub kind: TransitionKind,
     pub at: usize,
@@ -23,7 +23,7 @@ pub struct DraftTransition {
 }
 
 /// A region.
-#[derive(Debug, Drop)]
+#[derive(Drop)]
 #[cycle(draft)]
 pub struct DraftRegion {
     pub named: Named,
@@ -31,7 +31,7 @@ pub struct DraftRegion {
 }
 
 /// A state.
-#[derive(Debug, Drop)]
+#[derive(Drop)]
 #[cycle(draft)]
 pub struct DraftState {
     pub is_initial: bool,
@@ -42,7 +42,7 @@ pub struct DraftState {
 }
 
 /// A chart.
-#[derive(Debug, Drop)]
+#[derive(Drop)]
 pub struct DraftChart {
     pub named: Named,
     pub variables: Items<Declaration>,

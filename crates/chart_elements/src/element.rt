@@ -2,7 +2,7 @@
 
 /// An element of a chart. Those of each sort are numbered from 0 in the order of the text; a state's own transitions
 /// come before those in it.
-#[derive(Clone, Copy, Debug, PartialEq, Eq)]
+#[derive(Clone, Copy, PartialEq, Eq)]
 pub enum Element {
     /// The chart as a whole.
     Chart,

@@ -8,7 +8,7 @@ use core_charts::Transition;
 use std::alloc::AllocError;
 
 /// The numbers that come next: of a region, of a state, of a transition, of an effect.
-#[derive(Clone, Copy, Debug)]
+#[derive(Clone, Copy)]
 pub struct Numbers {
     pub region: u32,
     pub state: u32,

@@ -6,7 +6,7 @@ ghost use Rattle.chart_lowering.specs.Inside.SomeChart.{IsSomeChart};
 ghost use Rattle.chart_lowering.specs.Lowering.{piece_of_region, root, lowered};
 
 use crate::regions::branches_of;
-use core_charts::{Chart, CoreChart, Region, chart_has_aborts, copied_variables};
+use core_charts::{Chart, CoreChart, Region, chart_has_aborts};
 use sc_graph::Variable;
 use sc_values::Name;
 use scl::{Scl, Statement};
@@ -55,6 +55,6 @@ fn program(
     body.push(Statement::Fork {
         branches: forked.bodies,
     })?;
-    let declared = copied_variables(alloc, variables)?;
+    let declared = Items::from_slice(alloc, variables)?;
     Ok(Scl::known(name, declared, body))
 }

@@ -7,7 +7,7 @@ use sc_values::Name;
 use sqlite_items::Items;
 
 /// The labels to which a region's states go.
-#[derive(Debug, Drop)]
+#[derive(Drop)]
 pub struct Targets {
     /// Those of its states, in the order of the chart.
     pub states: Items<Name>,

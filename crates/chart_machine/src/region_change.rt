@@ -6,7 +6,7 @@ use sc_values::Value;
 use sqlite_items::Items;
 
 /// A variable becomes a value.
-#[derive(Drop)]
+#[derive(Clone, Copy)]
 pub struct Write {
     pub variable: VariableId,
     pub value: Value,

@@ -9,7 +9,7 @@ use crate::entering::put_entered;
 use crate::numbering::{past_initial, past_regions, region_numbers, state_numbers};
 use crate::standing::Move;
 use crate::table::{RegionRow, StateRow, SubtreeRows, Table, TablePosition};
-use core_charts::{Chart, CoreChart, Region, State, copied_transitions, copied_variables};
+use core_charts::{Chart, CoreChart, Region, State, copied_transitions};
 use sc_graph::Variable;
 use sqlite_items::Items;
 use std::alloc::{AllocError, Global};
@@ -42,7 +42,7 @@ fn table_of(alloc: Global, variables: &[Variable], regions: &[Region]) -> Result
     };
     let mut rows = SubtreeRows::none(alloc);
     put_side_by_side(alloc, regions, whole, &mut rows)?;
-    let variables = copied_variables(alloc, variables)?;
+    let variables = Items::from_slice(alloc, variables)?;
     Ok(Table {
         variables,
         states: rows.states,

@@ -6,7 +6,7 @@ use sc_values::{Kind, Name};
 use sqlite_items::Items;
 
 /// What a parameter is declared as. None of these: another word than `const` stands before it.
-#[derive(Clone, Copy, Debug)]
+#[derive(Clone, Copy)]
 pub enum ParameterRole {
     Input,
     Output,
@@ -15,7 +15,7 @@ pub enum ParameterRole {
 }
 
 /// A parameter of a module, and the place of its first word.
-#[derive(Clone, Copy, Debug)]
+#[derive(Clone, Copy)]
 pub struct Parameter {
     pub role: ParameterRole,
     pub at: usize,
@@ -24,14 +24,14 @@ pub struct Parameter {
 }
 
 /// What stands before the body of a module.
-#[derive(Debug, Drop)]
+#[derive(Drop)]
 pub struct ModuleHead {
     pub named: Named,
     pub parameters: Items<Parameter>,
 }
 
 /// A use of a module: its name, the arguments, the word before the name of the use, and that.
-#[derive(Debug, Drop)]
+#[derive(Drop)]
 pub struct ModuleUse {
     pub called: Named,
     pub arguments: Items<Token>,
@@ -40,7 +40,7 @@ pub struct ModuleUse {
 }
 
 /// A module that uses no other: its parameters, its items, and its regions.
-#[derive(Debug, Drop)]
+#[derive(Drop)]
 pub struct Module {
     pub named: Named,
     pub parameters: Items<Parameter>,
@@ -49,14 +49,14 @@ pub struct Module {
 }
 
 /// A name, and the token that stands in place of it.
-#[derive(Clone, Copy, Debug)]
+#[derive(Clone, Copy)]
 pub struct Replacement {
     pub name: Name,
     pub by: TokenKind,
 }
 
 /// A name that is declared where a module is used.
-#[derive(Clone, Copy, Debug)]
+#[derive(Clone, Copy)]
 pub struct Known {
     pub kind: Kind,
     pub is_constant: bool,

@@ -10,7 +10,7 @@ use std::alloc::{AllocError, Global};
 
 /// Where elements of a chart stand in its text, of each sort in the order of their numbers: regions and states at their
 /// names, transitions at their words, and effects at their variables.
-#[derive(Debug, Drop)]
+#[derive(Drop)]
 pub struct PlaceRows {
     pub regions: Items<usize>,
     pub states: Items<usize>,
@@ -19,7 +19,7 @@ pub struct PlaceRows {
 }
 
 /// Where a chart stands in its text, by its name, where its elements do, and in which states.
-#[derive(Debug, Drop)]
+#[derive(Drop)]
 pub struct Places {
     pub chart: usize,
     pub rows: PlaceRows,

@@ -14,7 +14,7 @@ use sc_text::ReadFault;
 use std::alloc::Global;
 
 /// The chart that a text spells, and where its elements stand in the text.
-#[derive(Debug, Drop)]
+#[derive(Drop)]
 pub struct Placed {
     pub chart: Chart,
     pub places: Places,

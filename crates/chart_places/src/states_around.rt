@@ -9,7 +9,7 @@ use sqlite_items::Items;
 use std::alloc::{AllocError, Global};
 
 /// A state of a text: where the name of its region stands, and where its own one does.
-#[derive(Clone, Copy, Debug)]
+#[derive(Clone, Copy)]
 pub struct StateAround {
     pub region: usize,
     pub state: usize,
@@ -17,7 +17,7 @@ pub struct StateAround {
 
 /// In which state the elements of a chart stand, of each sort in the order of their numbers: each state in itself, a
 /// transition and its effects in the state that it leaves.
-#[derive(Debug, Drop)]
+#[derive(Drop)]
 pub struct StatesAround {
     pub states: Items<StateAround>,
     pub transitions: Items<StateAround>,

@@ -68,11 +68,7 @@ fn variables(alloc: Global, declared: &[Declared]) -> Result<Items<Variable>, Al
 {
     let mut made = Items::new(alloc);
     for one in declared {
-        made.push(Variable {
-            name: one.variable.name,
-            kind: one.variable.kind,
-            role: one.variable.role,
-        })?;
+        made.push(one.variable)?;
     }
     Ok(made)
 }

@@ -13,7 +13,7 @@ use std::alloc::{AllocError, Global};
 
 /// Of each state and each transition of a reduced chart, in the order of its text, the number of the author's, if it is
 /// one of his.
-#[derive(Debug, Drop)]
+#[derive(Drop)]
 pub struct AuthorRows {
     pub states: Items<Option<u32>>,
     pub transitions: Items<Option<u32>>,

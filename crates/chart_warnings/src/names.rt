@@ -10,7 +10,7 @@ use core_charts::{Effect, Transition};
 use sc_values::Expr;
 
 /// In which way a transition names a variable.
-#[derive(Clone, Copy, Debug, PartialEq, Eq)]
+#[derive(Clone, Copy, PartialEq, Eq)]
 pub enum Mention {
     /// It needs its value, in its trigger or for another variable.
     Asked,

@@ -14,7 +14,7 @@ use sqlite_items::Items;
 use std::alloc::{AllocError, Global};
 
 /// What was met so far: how many states, and what is warned of.
-#[derive(Debug, Drop)]
+#[derive(Drop)]
 pub struct Told {
     states: usize,
     warnings: Items<Warning>,

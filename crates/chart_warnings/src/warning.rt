@@ -9,7 +9,7 @@ use std::alloc::AllocError;
 
 /// What a chart says and most likely does not mean. States are numbered from 0 in the order of the text, those of the
 /// whole chart; transitions and regions within their state, variables as the chart has them.
-#[derive(Clone, Copy, Debug, PartialEq, Eq)]
+#[derive(Clone, Copy, PartialEq, Eq)]
 pub enum Warning {
     /// W01: this abort leaves an output as the inside of the superstate has set it.
     StaysOn {

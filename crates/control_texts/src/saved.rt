@@ -7,7 +7,7 @@ use sc_graph::Control;
 use std::alloc::AllocError;
 
 /// A configuration, and the number of the tick that ended in it.
-#[derive(Debug, Drop)]
+#[derive(Drop)]
 pub struct Saved {
     /// The number of the tick.
     pub ticks: u64,

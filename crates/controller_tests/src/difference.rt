@@ -7,7 +7,7 @@ use crate::lines::next_line;
 use std::alloc::{AllocError, Global};
 
 /// The first line in which a trace is not the one that is wanted.
-#[derive(Drop, Debug)]
+#[derive(Drop)]
 pub struct Difference {
     /// The number of the line, from 1.
     pub line: u64,

@@ -13,7 +13,7 @@ use trace_player::PlayFault;
 use verifier::Verified;
 
 /// What a test comes to.
-#[derive(Drop, Debug)]
+#[derive(Drop)]
 pub enum Outcome {
     /// The trace has the lines that are wanted.
     Passed,

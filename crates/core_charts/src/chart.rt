@@ -15,7 +15,7 @@ use std::marker::Model;
 
 /// A chart that texts can spell: its variables, named by their numbers, and its regions. It keeps the rules
 /// and limits of chart text. Contracts see its parts.
-#[derive(Debug, Drop)]
+#[derive(Drop)]
 pub struct Chart {
     name: Name,
     variables: Items<Variable>,
@@ -107,7 +107,7 @@ impl Chart {
 /// A chart without strong and weak aborts, as their expansion makes it: it keeps the rules and limits of
 /// chart text, but for 64 regions a superstate, names that may begin with `_`, and no limit on states,
 /// transitions and effects. Contracts see its parts.
-#[derive(Debug, Drop)]
+#[derive(Drop)]
 pub struct CoreChart {
     name: Name,
     variables: Items<Variable>,

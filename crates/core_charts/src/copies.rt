@@ -3,7 +3,6 @@
 ghost use Rattle.std.specs.Prelude.{◌≡◌, IfOk};
 
 use crate::region::{Effect, Transition};
-use sc_graph::Variable;
 use sc_values::Expr;
 use sqlite_items::Items;
 use std::alloc::{AllocError, Global};
@@ -66,24 +65,6 @@ pub fn copied_transitions(
     let mut copy = Vec::with_capacity(alloc, transitions.len())?;
     for transition in transitions {
         copy.push(transition.copied(alloc)?)?;
-    }
-    Ok(Items::from_vec(copy))
-}
-
-/// A copy of a list of variables. Err: memory was refused.
-pub fn copied_variables(
-    alloc: Global,
-    variables: &[Variable],
-) -> Result<Items<Variable>, AllocError>
-    ensures { IfOk result (λ copy. copy ≡ variables.now) }
-{
-    let mut copy = Vec::with_capacity(alloc, variables.len())?;
-    for variable in variables {
-        copy.push(Variable {
-            name: variable.name,
-            kind: variable.kind,
-            role: variable.role,
-        })?;
     }
     Ok(Items::from_vec(copy))
 }

@@ -23,7 +23,7 @@ pub const TRANSITION_LIMIT: usize = 64;
 pub const EFFECT_LIMIT: usize = 16;
 
 /// What charts may have.
-#[derive(Clone, Copy, Debug, PartialEq, Eq)]
+#[derive(Clone, Copy, PartialEq, Eq)]
 pub enum Features {
     /// What texts spell: with strong and weak aborts.
     Extended,

@@ -10,7 +10,7 @@ mod rules;
 
 pub use aborts::{chart_has_aborts, has_aborts, has_strong, has_weak};
 pub use chart::{Chart, CoreChart};
-pub use copies::{copied_effects, copied_transitions, copied_trigger, copied_variables};
+pub use copies::{copied_effects, copied_transitions, copied_trigger};
 pub use features::{
     DEPTH_LIMIT, EFFECT_LIMIT, Features, REGION_LIMIT, STATE_LIMIT, TRANSITION_LIMIT,
 };

@@ -10,7 +10,7 @@ use sc_values::{Expr, Name};
 use sqlite_items::Items;
 
 /// When a transition is tested.
-#[derive(Clone, Copy, Debug, PartialEq, Eq)]
+#[derive(Clone, Copy, PartialEq, Eq)]
 pub enum TransitionKind {
     /// Of a simple state.
     Go,
@@ -55,14 +55,14 @@ impl TransitionKind {
 }
 
 /// An assignment of a transition: the variable becomes the value of the expression.
-#[derive(Debug, Drop)]
+#[derive(Drop)]
 pub struct Effect {
     pub variable: VariableId,
     pub value: Expr,
 }
 
 /// A transition to a state of the same region.
-#[derive(Debug, Drop)]
+#[derive(Drop)]
 pub struct Transition {
     pub kind: TransitionKind,
     /// Whether it is tested in the tick of entry too.
@@ -76,7 +76,7 @@ pub struct Transition {
 }
 
 /// A region: it is in one of its states, or has ended.
-#[derive(Debug, Drop)]
+#[derive(Drop)]
 #[cycle(chart)]
 pub struct Region {
     pub name: Name,
@@ -84,7 +84,7 @@ pub struct Region {
 }
 
 /// A state. With regions it is a superstate, else a simple one.
-#[derive(Debug, Drop)]
+#[derive(Drop)]
 #[cycle(chart)]
 pub struct State {
     pub name: Name,

@@ -4,7 +4,7 @@ ghost use Rattle.std.specs.Prelude.{◌≡◌, ◌<◌, ◌+◌, length, take};
 ghost use Rattle.diagnostics.specs.LinesColumns.{begins_character, IsLineColumn};
 
 /// A place in a text: its line and its column, each from 1. Columns count characters; a tab is one.
-#[derive(Clone, Copy, Debug, PartialEq, Eq)]
+#[derive(Clone, Copy, PartialEq, Eq)]
 pub struct LineColumn {
     pub line: usize,
     pub column: usize,

@@ -7,7 +7,7 @@ ghost use Rattle.drafts.specs.Flaws.{is_full};
 use sc_text::FaultKind;
 
 /// A flaw of a draft: what is broken, and its place in the text.
-#[derive(Clone, Copy, Debug)]
+#[derive(Clone, Copy)]
 pub struct Flaw {
     pub broken: FaultKind,
     pub at: usize,

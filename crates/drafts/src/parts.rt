@@ -6,14 +6,14 @@ use sc_values::{Kind, Name};
 use sqlite_items::Items;
 
 /// A name, and the place of its first byte in the text.
-#[derive(Clone, Copy, Debug)]
+#[derive(Clone, Copy)]
 pub struct Named {
     pub name: Name,
     pub at: usize,
 }
 
 /// A variable.
-#[derive(Clone, Copy, Debug)]
+#[derive(Clone, Copy)]
 pub struct Declaration {
     pub role: Role,
     pub kind: Kind,
@@ -21,7 +21,7 @@ pub struct Declaration {
 }
 
 /// An expression: the place of its first byte, and its operations, each behind its operands.
-#[derive(Debug, Drop)]
+#[derive(Drop)]
 pub struct TextExpression {
     pub start: usize,
     pub operations: Items<TextOperation>,

@@ -11,7 +11,7 @@ use std::alloc::{AllocError, Global};
 /// A variable: 0 is a truth value and 1 an integer; 0 is an input, 1 an output, 2 a local variable; and how many bytes
 /// its name has.
 #[repr(C)]
-#[derive(Clone, Copy, Debug, PartialEq, Eq)]
+#[derive(Clone, Copy, PartialEq, Eq)]
 pub struct VariableRow {
     pub kind: u32,
     pub role: u32,

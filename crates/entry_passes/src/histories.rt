@@ -25,7 +25,7 @@ use sqlite_items::Items;
 use std::alloc::{AllocError, Global};
 
 /// A region that goes on where it was, in a state that was entered by history.
-#[derive(Clone, Copy, Debug)]
+#[derive(Clone, Copy)]
 pub struct Past {
     /// Whether it was.
     pub history: VariableId,
@@ -34,7 +34,7 @@ pub struct Past {
 }
 
 /// The region in which a state stands.
-#[derive(Clone, Copy, Debug)]
+#[derive(Clone, Copy)]
 pub struct EnclosingRegion {
     /// How many states it has.
     pub count: u32,

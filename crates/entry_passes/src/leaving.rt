@@ -12,7 +12,7 @@ use sqlite_items::Items;
 use std::alloc::{AllocError, Global};
 
 /// A region that notes in a variable in which of its states with exit actions it is. These count from 1.
-#[derive(Debug, Drop)]
+#[derive(Drop)]
 pub struct Leaving {
     pub variable: VariableId,
     /// What each of these states does as it is left.

@@ -14,7 +14,7 @@ use sqlite_items::Items;
 use std::alloc::{AllocError, Global};
 
 /// A variable that histories need.
-#[derive(Clone, Copy, Debug)]
+#[derive(Clone, Copy)]
 pub enum Kept {
     /// Whether the transition of a region that is taken goes by history.
     Asked,

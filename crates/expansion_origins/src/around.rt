@@ -9,7 +9,7 @@ use core_charts::{Transition, TransitionKind, has_aborts};
 use std::alloc::AllocError;
 
 /// Which transitions of a superstate are meant.
-#[derive(Clone, Copy, Debug)]
+#[derive(Clone, Copy)]
 pub enum Sort {
     Strong,
     Weak,
@@ -30,7 +30,7 @@ impl Sort {
 }
 
 /// The aborts of a superstate: the numbers of its first strong and of its first weak one.
-#[derive(Clone, Copy, Debug)]
+#[derive(Clone, Copy)]
 pub struct Around {
     pub strong: Option<u32>,
     pub weak: Option<u32>,

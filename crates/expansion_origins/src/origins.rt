@@ -8,7 +8,7 @@ use sqlite_items::Items;
 use std::alloc::{AllocError, Global};
 
 /// The elements of a chart from which those of its core chart come, of each sort in the order of their numbers.
-#[derive(Debug, Drop)]
+#[derive(Drop)]
 pub struct Origins {
     pub regions: Items<Element>,
     pub states: Items<Element>,

@@ -13,7 +13,7 @@ use sqlite_items::Items;
 use std::alloc::AllocError;
 
 /// Which transitions of a state are meant.
-#[derive(Clone, Copy, Debug)]
+#[derive(Clone, Copy)]
 pub(crate) enum Choice {
     All,
     /// The immediate strong aborts, which are tested where their superstate is entered.
@@ -34,7 +34,7 @@ impl Choice {
 }
 
 /// How a region ends: of each of its states whether it is final, and whether the superstate that holds it counts.
-#[derive(Debug, Drop)]
+#[derive(Drop)]
 pub struct Ends {
     pub finals: Items<bool>,
     pub counts: bool,

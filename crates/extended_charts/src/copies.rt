@@ -2,9 +2,8 @@
 
 ghost use Rattle.std.specs.Prelude.{◌≡◌, ◌++◌, IfOk, OnOk};
 
-use crate::extended::{Declared, During};
+use crate::extended::During;
 use core_charts::{Effect, copied_effects, copied_trigger};
-use sc_graph::Variable;
 use sqlite_items::Items;
 use std::alloc::{AllocError, Global};
 
@@ -47,25 +46,4 @@ pub fn put_copied_effects(
         Ok(copies) => made.append(copies),
         Err(error) => Err(error),
     }
-}
-
-/// A copy of declarations. Err: memory was refused.
-pub fn copied_declarations(
-    alloc: Global,
-    variables: &[Declared],
-) -> Result<Items<Declared>, AllocError>
-    ensures { IfOk result (λ copy. copy ≡ variables.now) }
-{
-    let mut copy = Vec::with_capacity(alloc, variables.len())?;
-    for declared in variables {
-        copy.push(Declared {
-            variable: Variable {
-                name: declared.variable.name,
-                kind: declared.variable.kind,
-                role: declared.variable.role,
-            },
-            initial: declared.initial,
-        })?;
-    }
-    Ok(Items::from_vec(copy))
 }

@@ -9,14 +9,14 @@ use sqlite_items::Items;
 pub const ELAPSED: u16 = 65535;
 
 /// A variable, and what it holds before the first tick; none counts as `false` or 0.
-#[derive(Drop)]
+#[derive(Clone, Copy)]
 pub struct Declared {
     pub variable: Variable,
     pub initial: Option<Value>,
 }
 
 /// A name for a value.
-#[derive(Drop)]
+#[derive(Clone, Copy)]
 pub struct Constant {
     pub name: Name,
     pub value: Value,

@@ -10,7 +10,7 @@ mod making;
 mod reading;
 mod signals;
 
-pub use copies::{copied_declarations, put_copied_durings, put_copied_effects};
+pub use copies::{put_copied_durings, put_copied_effects};
 pub use durings::{put_immediate_ones, put_steps, put_ways_on, with_durings};
 pub use extended::{
     Constant, Declared, During, ELAPSED, ExtendedChart, ExtendedRegion, ExtendedState,

@@ -17,7 +17,7 @@ pub struct ItemBody {
 
 /// A variable, or what stands among variables behind a word that charts don't have: an input of the chart then. The
 /// word before its name where it is a signal, and its value where it has one.
-#[derive(Debug, Drop)]
+#[derive(Drop)]
 pub struct DraftItem {
     pub declared: Declaration,
     pub word: Option<Named>,
@@ -45,7 +45,7 @@ pub enum EffectEnd {
 
 /// What is done as a state is entered or left, or while it goes on, by the word before it; behind `immediate`, and
 /// where a trigger is true.
-#[derive(Debug, Drop)]
+#[derive(Drop)]
 pub struct DraftEntry {
     pub immediate: bool,
     pub word: Named,
@@ -54,14 +54,14 @@ pub struct DraftEntry {
 }
 
 /// The actions of a state, and whether some may be made while it goes on: it is not final.
-#[derive(Debug, Drop)]
+#[derive(Drop)]
 pub struct StateActions {
     pub entries: Items<DraftEntry>,
     pub may_last: bool,
 }
 
 /// A condition of which ticks are counted, behind a word.
-#[derive(Debug, Drop)]
+#[derive(Drop)]
 pub struct DraftCount {
     pub word: Named,
     pub condition: TextExpression,
@@ -69,7 +69,7 @@ pub struct DraftCount {
 
 /// What a transition waits for: so many ticks, behind a word, all or those in which a condition is true; or, of a
 /// termination, its trigger, without a word.
-#[derive(Debug, Drop)]
+#[derive(Drop)]
 pub struct DraftDelay {
     pub word: Option<Named>,
     pub until: TextExpression,
@@ -77,7 +77,7 @@ pub struct DraftDelay {
 }
 
 /// The two words before a target that is entered by its history.
-#[derive(Clone, Copy, Debug)]
+#[derive(Clone, Copy)]
 pub struct HistoryWords {
     pub shallow: Named,
     pub history: Named,
@@ -91,7 +91,7 @@ pub struct DraftLead {
 }
 
 /// What is new of a transition: what it waits for, and the words by which its target is entered by its history.
-#[derive(Debug, Drop)]
+#[derive(Drop)]
 pub struct DraftWay {
     pub delay: Option<DraftDelay>,
     pub history: Option<HistoryWords>,
@@ -99,7 +99,7 @@ pub struct DraftWay {
 
 /// What is new in states and transitions: a row of actions for each state, in the order in which states begin in the
 /// text, and one for each transition, in the order of the text.
-#[derive(Debug, Drop)]
+#[derive(Drop)]
 pub struct DraftRows {
     pub entries: Items<StateActions>,
     pub ways: Items<DraftWay>,
@@ -107,7 +107,7 @@ pub struct DraftRows {
 
 /// An extended chart: the word before `chart`, the chart without what is new, an item for each of its variables, and
 /// the rows of its states and transitions.
-#[derive(Debug, Drop)]
+#[derive(Drop)]
 pub struct ExtendedDraft {
     pub word: Named,
     pub core: DraftChart,

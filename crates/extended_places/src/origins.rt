@@ -10,7 +10,7 @@ use std::alloc::{AllocError, Global};
 
 /// The element of the author's from which one of a reduced chart comes: his own one, or, where it is made, that for
 /// which it is made.
-#[derive(Clone, Copy, Debug)]
+#[derive(Clone, Copy)]
 pub struct AuthorOrigin {
     pub from: Element,
     pub is_made: bool,
@@ -18,7 +18,7 @@ pub struct AuthorOrigin {
 
 /// The origins of the elements of a reduced chart, of each sort in the order of their numbers, and how many of its
 /// regions are the author's.
-#[derive(Debug, Drop)]
+#[derive(Drop)]
 pub struct AuthorOrigins {
     pub regions: Items<AuthorOrigin>,
     pub states: Items<AuthorOrigin>,

@@ -21,7 +21,7 @@ use std::alloc::{AllocError, Global};
 
 /// The chart to which an extended chart is reduced, from which elements of the author's its elements come, and where
 /// those stand in his text.
-#[derive(Debug, Drop)]
+#[derive(Drop)]
 pub struct AuthorPlaced {
     pub chart: Chart,
     pub origins: AuthorOrigins,

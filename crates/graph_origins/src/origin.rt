@@ -2,7 +2,7 @@
 
 /// From which point of a text a node comes. Points are the statements and the ends of threads, numbered from 0 in the
 /// order of the text, a statement before those in it.
-#[derive(Clone, Copy, Debug, PartialEq, Eq)]
+#[derive(Clone, Copy, PartialEq, Eq)]
 pub enum NodeOrigin {
     /// The only node of this point, or the first one: the surface of a pause, or a fork.
     First(u32),

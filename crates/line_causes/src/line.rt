@@ -1,7 +1,7 @@
 //! A line as it is kept.
 
 /// A line of an input.
-#[derive(Clone, Copy, Debug)]
+#[derive(Clone, Copy)]
 pub enum Line<'b> {
     /// The line.
     Whole(&'b [u8]),

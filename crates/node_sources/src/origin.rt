@@ -4,7 +4,7 @@ ghost use Rattle.std.specs.Prelude.{◌≡◌};
 ghost use Rattle.node_sources.specs.SclOrigins.{statement_at};
 
 /// What stands at the place of an origin.
-#[derive(Clone, Copy, Debug, PartialEq, Eq)]
+#[derive(Clone, Copy, PartialEq, Eq)]
 pub enum Part {
     /// A statement of SCL text, or the word that opens a branch or the text.
     Statement,
@@ -25,7 +25,7 @@ pub enum Part {
 }
 
 /// Where a node of a program comes from.
-#[derive(Clone, Copy, Debug)]
+#[derive(Clone, Copy)]
 pub struct Origin {
     /// The first byte in the text, from 0.
     pub at: usize,

@@ -4,7 +4,7 @@ use sqlite_items::Items;
 use std::alloc::{AllocError, Global};
 
 /// A line and a column, each from 1. Columns count characters; a tab is one.
-#[derive(Clone, Copy, Debug, PartialEq, Eq)]
+#[derive(Clone, Copy, PartialEq, Eq)]
 pub struct Position {
     pub line: usize,
     pub column: usize,

@@ -14,7 +14,7 @@ use sqlite_items::Items;
 use std::alloc::{AllocError, Global};
 
 /// The program of a text, and for each of its nodes, in order, where it comes from.
-#[derive(Debug, Drop)]
+#[derive(Drop)]
 pub struct Sources {
     pub program: Program,
     pub origins: Items<Origin>,

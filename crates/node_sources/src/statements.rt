@@ -11,7 +11,7 @@ use std::alloc::{AllocError, Global};
 
 /// Where a statement, or the end of a thread, stands: the place of its only node or of its first one, and that of its
 /// second one.
-#[derive(Clone, Copy, Debug)]
+#[derive(Clone, Copy)]
 pub struct StatementPlace {
     pub first: usize,
     pub second: usize,

@@ -13,7 +13,7 @@ use std::marker::Model;
 use verifier::Verified;
 
 /// An output: its name and its value.
-#[derive(Clone, Copy, Debug, PartialEq, Eq)]
+#[derive(Clone, Copy, PartialEq, Eq)]
 pub struct Output {
     pub name: Name,
     pub value: Value,

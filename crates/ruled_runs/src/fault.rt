@@ -10,7 +10,7 @@ use std::alloc::AllocError;
 use trace_player::PlayFault;
 
 /// Why a run ends, or is not begun.
-#[derive(Debug, Drop)]
+#[derive(Drop)]
 pub enum RuledFault {
     /// A file gives no image, or cannot be read or written; or memory was refused.
     Files(LoadFault),

@@ -17,7 +17,7 @@ use std::alloc::Global;
 use verifier::Verified;
 
 /// The files of a run, by their names.
-#[derive(Clone, Copy, Debug, PartialEq, Eq)]
+#[derive(Clone, Copy, PartialEq, Eq)]
 pub struct RunFiles<'a> {
     /// The image.
     pub image: &'a str,

@@ -9,7 +9,7 @@ use std::alloc::{AllocError, Global};
 use tick_core::Control;
 
 /// Where a trace stands: between two lines of its input.
-#[derive(Debug, Drop)]
+#[derive(Drop)]
 pub struct RunPlace {
     /// How many lines were read.
     pub lines: u64,

@@ -1,7 +1,7 @@
 //! What is asked of the lines of a trace.
 
 /// What is asked of the lines of a trace.
-#[derive(Clone, Copy, Debug, PartialEq, Eq)]
+#[derive(Clone, Copy, PartialEq, Eq)]
 pub struct Rules {
     /// Whether each line has to name every input.
     pub strict: bool,

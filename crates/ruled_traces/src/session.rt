@@ -19,7 +19,7 @@ use trace_lines::{Interface, LineFault, LineRoom};
 use trace_player::{PlayFault, next_number};
 
 /// What a line says.
-#[derive(Debug, Drop)]
+#[derive(Drop)]
 pub(crate) enum Said {
     /// It gives these inputs.
     Gives(Inputs),

@@ -9,7 +9,7 @@ use sc_values::Value;
 use sqlite_items::Items;
 
 /// Where a thread stands: its control point.
-#[derive(Clone, Copy, Debug, PartialEq, Eq)]
+#[derive(Clone, Copy, PartialEq, Eq)]
 pub enum Status {
     /// Not there: not forked, or its fork was left.
     Absent,
@@ -24,7 +24,7 @@ pub enum Status {
 }
 
 /// A configuration: a value for each variable and a status for each thread, in their order.
-#[derive(Debug, Drop)]
+#[derive(Drop)]
 pub struct Control {
     pub variables: Items<Value>,
     pub statuses: Items<Status>,

@@ -18,7 +18,7 @@ pub(crate) enum Link {
 }
 
 /// What a pass over the nodes has found for one number: no node, one alone, or several.
-#[derive(Clone, Copy, Debug, PartialEq, Eq)]
+#[derive(Clone, Copy, PartialEq, Eq)]
 pub enum Found {
     Nobody,
     Alone(NodeId),
@@ -27,7 +27,7 @@ pub enum Found {
 
 /// The links of a program, found in one pass over its nodes: for each thread the only fork of which
 /// it is a child, for each join its only fork, for each depth its only pause.
-#[derive(Debug, Drop)]
+#[derive(Drop)]
 pub struct Links {
     forks: Items<Found>,
     joins: Items<Found>,

@@ -24,7 +24,7 @@ pub type ThreadId = u16;
 pub type NodeId = u16;
 
 /// Who writes a variable, and who sees it.
-#[derive(Clone, Copy, Debug, PartialEq, Eq)]
+#[derive(Clone, Copy, PartialEq, Eq)]
 pub enum Role {
     Input,
     Output,
@@ -32,7 +32,7 @@ pub enum Role {
 }
 
 /// A variable of a program.
-#[derive(Debug, Drop)]
+#[derive(Clone, Copy)]
 pub struct Variable {
     pub name: Name,
     pub kind: Kind,
@@ -40,14 +40,14 @@ pub struct Variable {
 }
 
 /// A thread: the thread that forks it, which the root alone lacks, and the node where it begins.
-#[derive(Debug, Drop)]
+#[derive(Clone, Copy)]
 pub struct Thread {
     pub parent: Option<ThreadId>,
     pub entry: NodeId,
 }
 
 /// What a step of a thread does at a node, and where it goes on.
-#[derive(Debug, Drop)]
+#[derive(Drop)]
 pub enum Step {
     /// The variable becomes the code's value.
     Assign {
@@ -90,7 +90,7 @@ pub enum Step {
 }
 
 /// A node, and the thread that owns it.
-#[derive(Debug, Drop)]
+#[derive(Drop)]
 pub struct Node {
     pub owner: ThreadId,
     pub step: Step,
@@ -120,7 +120,7 @@ impl Error for ProgramFault {}
 
 /// A program: its variables, its threads and their nodes, in counts that an image can hold.
 /// Contracts see the three lists.
-#[derive(Debug, Drop)]
+#[derive(Drop)]
 pub struct Program {
     variables: Items<Variable>,
     threads: Items<Thread>,

@@ -8,7 +8,7 @@ use sqlite_items::Items;
 
 /// The certificate of a program: a priority, a weight and an end bit for each node, a bound for
 /// each thread, and the budget of a tick.
-#[derive(Debug, Drop)]
+#[derive(Drop)]
 pub struct Tables {
     pub priorities: Items<u16>,
     pub weights: Items<u16>,

@@ -13,7 +13,7 @@ use crate::word::Word;
 use sc_values::{BinaryOperator, Divisor, UnaryOperator};
 
 /// A level of infix operators, from the one that binds weakest.
-#[derive(Clone, Copy, Debug)]
+#[derive(Clone, Copy)]
 pub enum Level {
     Disjunction,
     Conjunction,

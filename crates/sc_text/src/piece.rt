@@ -9,7 +9,7 @@ ghost use Rattle.sc_text.specs.Inside.{is_of, IsPieceAt, BeginsComment, BeginsSi
 use crate::sign::Sign;
 
 /// What a piece is.
-#[derive(Clone, Copy, Debug)]
+#[derive(Clone, Copy)]
 pub enum Piece {
     /// A letter or `_`, then letters, digits and `_`.
     Word,
@@ -21,7 +21,7 @@ pub enum Piece {
 }
 
 /// The bytes that a row is made of.
-#[derive(Clone, Copy, Debug)]
+#[derive(Clone, Copy)]
 pub enum Row {
     /// Letters, digits and `_`.
     Word,

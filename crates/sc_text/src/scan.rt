@@ -50,7 +50,7 @@ fn put(tokens: &mut Items<Token>, at: usize, kind: Option<TokenKind>) -> Result<
 }
 
 // The longest piece at the front of a text, and its token, if it is one.
-#[derive(Clone, Copy, Debug)]
+#[derive(Clone, Copy)]
 struct Step {
     length: usize,
     kind: Option<TokenKind>,

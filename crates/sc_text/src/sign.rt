@@ -5,7 +5,7 @@ ghost use Rattle.sc_text.specs.Words.{sign_text};
 ghost use Rattle.sc_text.specs.declared.sign.Sign.{Sign};
 
 /// A sign, of charts or of SCL.
-#[derive(Clone, Copy, Debug, PartialEq, Eq)]
+#[derive(Clone, Copy, PartialEq, Eq)]
 pub enum Sign {
     OpenBrace,
     CloseBrace,

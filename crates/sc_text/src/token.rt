@@ -5,7 +5,7 @@ use crate::word::Word;
 use sc_values::Name;
 
 /// What a token is.
-#[derive(Clone, Copy, Debug)]
+#[derive(Clone, Copy)]
 pub enum TokenKind {
     /// A name that is no reserved word.
     Name(Name),
@@ -16,7 +16,7 @@ pub enum TokenKind {
 }
 
 /// A token, and the place of its first byte in the text, from 0.
-#[derive(Clone, Copy, Debug)]
+#[derive(Clone, Copy)]
 pub struct Token {
     pub kind: TokenKind,
     pub at: usize,

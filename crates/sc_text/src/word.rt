@@ -5,7 +5,7 @@ ghost use Rattle.sc_text.specs.Words.{word_text};
 ghost use Rattle.sc_text.specs.declared.word.Word.{Word};
 
 /// A reserved word, of charts or of SCL.
-#[derive(Clone, Copy, Debug, PartialEq, Eq)]
+#[derive(Clone, Copy, PartialEq, Eq)]
 pub enum Word {
     Chart,
     Scl,

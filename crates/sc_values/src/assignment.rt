@@ -15,7 +15,7 @@ use crate::operation::Operation;
 use crate::operator::{BinaryOperator, Combination, UnaryOperator};
 
 /// What an assignment is, with the code of the value that it needs.
-#[derive(Debug, Drop)]
+#[derive(Drop)]
 pub enum CodedAssignment {
     /// The variable becomes the code's value.
     Init(Code),

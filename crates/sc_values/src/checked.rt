@@ -17,7 +17,7 @@ use std::marker::Model;
 
 /// A code that is well formed under some kinds of the variables, with the kinds of its loads. `eval`
 /// runs it without a test. It borrows the code.
-#[derive(Drop, Clone, Debug)]
+#[derive(Drop, Clone)]
 pub struct CheckedCode<'a> {
     code: &'a Code,
     // of its loads, in their order

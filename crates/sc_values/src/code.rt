@@ -20,7 +20,7 @@ use std::marker::Model;
 
 /// A postfix code: at most 64 operations, in the order in which they run. Contracts see it as their
 /// list. A code need not spell an expression: `CheckedCode` is one that does.
-#[derive(Drop, Clone, Debug)]
+#[derive(Drop, Clone)]
 pub struct Code {
     operations: ArrayVec<Operation, OPERATION_LIMIT>,
 }

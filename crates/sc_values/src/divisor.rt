@@ -3,7 +3,7 @@
 ghost use Rattle.std.specs.Prelude.{◌<◌, unsigned_abs};
 
 /// What a division divides by: an integer that is not 0.
-#[derive(Clone, Copy, Debug, PartialEq, Eq)]
+#[derive(Clone, Copy, PartialEq, Eq)]
 pub struct Divisor {
     number: i32,
     ghost not_zero: { 0 < unsigned_abs number },

@@ -14,7 +14,7 @@ use sqlite_items::Boxed;
 use std::alloc::{AllocError, Global};
 
 /// An expression, as a tree. A variable is named by its number.
-#[derive(Debug, Drop)]
+#[derive(Drop)]
 pub enum Expr {
     Literal(Value),
     Load(u16),

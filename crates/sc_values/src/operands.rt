@@ -14,7 +14,7 @@ use std::marker::Model;
 
 /// What the loads of a code take, in the order of the loads: at most 16 values. Contracts see them
 /// as their list.
-#[derive(Drop, Clone, Debug)]
+#[derive(Drop, Clone)]
 pub struct Operands {
     values: ArrayVec<Value, LOAD_LIMIT>,
 }

@@ -6,7 +6,7 @@ use crate::operator::{BinaryOperator, UnaryOperator};
 use crate::value::Value;
 
 /// One operation of a postfix code: it takes its operands from a stack and leaves its value there.
-#[derive(Clone, Copy, Debug, PartialEq, Eq)]
+#[derive(Clone, Copy, PartialEq, Eq)]
 pub enum Operation {
     /// Leaves this value.
     Literal(Value),

@@ -9,7 +9,7 @@ use crate::divisor::Divisor;
 use crate::value::{Kind, Value};
 
 /// An operator of one operand. A division is one: its divisor is part of it.
-#[derive(Clone, Copy, Debug, PartialEq, Eq)]
+#[derive(Clone, Copy, PartialEq, Eq)]
 pub enum UnaryOperator {
     Negate,
     Not,
@@ -20,7 +20,7 @@ pub enum UnaryOperator {
 }
 
 /// An operator of two operands. `Min` and `Max` are written as calls, the others as infixes.
-#[derive(Clone, Copy, Debug, PartialEq, Eq)]
+#[derive(Clone, Copy, PartialEq, Eq)]
 pub enum BinaryOperator {
     Add,
     Subtract,
@@ -39,7 +39,7 @@ pub enum BinaryOperator {
 
 /// The function by which an update combines a variable with a value: six functions of which the
 /// order of updates does not matter.
-#[derive(Clone, Copy, Debug, PartialEq, Eq)]
+#[derive(Clone, Copy, PartialEq, Eq)]
 pub enum Combination {
     Add,
     Multiply,

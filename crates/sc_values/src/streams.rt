@@ -10,7 +10,7 @@ ghost use Rattle.sc_values.specs.Streams.{failed_reads, failed_writes, progress_
 pub struct Failed;
 
 /// How far a source was read.
-#[derive(Clone, Copy, Debug, PartialEq, Eq)]
+#[derive(Clone, Copy, PartialEq, Eq)]
 pub enum Progress {
     /// It has not said its end: that no byte is to come.
     Open,

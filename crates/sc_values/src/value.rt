@@ -12,7 +12,7 @@ pub enum Kind {
 }
 
 /// A value of one of the two kinds. An integer has 32 bits, in two's complement.
-#[derive(Clone, Copy, Debug, PartialEq, Eq)]
+#[derive(Clone, Copy, PartialEq, Eq)]
 pub enum Value {
     Bool(bool),
     Int(i32),

@@ -9,7 +9,7 @@ use sqlite_items::Items;
 
 /// A program: its variables, named by their numbers, and the statements of its first thread. It keeps the
 /// rules and limits of SCL, those that texts have among them.
-#[derive(Debug, Drop)]
+#[derive(Drop)]
 pub struct Scl {
     pub name: Name,
     pub variables: Items<Variable>,

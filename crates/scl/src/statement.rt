@@ -5,7 +5,7 @@ use sc_values::{Expr, Name};
 use sqlite_items::Items;
 
 /// A statement. A variable is named by its number, a label by its name.
-#[derive(Debug, Drop)]
+#[derive(Drop)]
 pub enum Statement {
     /// The variable becomes the value of the expression.
     Assign {

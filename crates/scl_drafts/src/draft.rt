@@ -6,7 +6,7 @@ use sc_values::Name;
 use sqlite_items::Items;
 
 /// A program as its text has it: names are not yet resolved, and no rule but those of the grammar is kept.
-#[derive(Debug, Drop)]
+#[derive(Drop)]
 pub struct Draft {
     pub name: Name,
     pub declarations: Items<Declaration>,

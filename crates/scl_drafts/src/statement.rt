@@ -4,7 +4,7 @@ use drafts::{Named, TextExpression};
 use sqlite_items::Items;
 
 /// A statement of a program's text. Names are not yet resolved. A place is that of a first byte in the text.
-#[derive(Debug, Drop)]
+#[derive(Drop)]
 pub enum TextStatement {
     /// The variable of this name becomes the value.
     Assign {

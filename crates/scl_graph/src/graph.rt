@@ -19,7 +19,7 @@ use crate::way::Targets;
 use sc_graph::{Program, Variable};
 use scl::{Scl, Statement};
 use sqlite_items::Items;
-use std::alloc::{AllocError, Global};
+use std::alloc::Global;
 
 /// The graph of a program. Err: E14 with the label of the first goto that leads through labels and gotos alone
 /// back to itself; else E07, where the graph has more nodes or threads than an image may; E52.
@@ -96,7 +96,7 @@ fn program_of(alloc: Global, variables: &[Variable], laid: Laid) -> Result<Progr
         (λ p. p ≡ record { variables = variables.now; threads = laid.threads; nodes = laid.nodes }) }
 {
     let Laid { threads, nodes } = laid;
-    match copied(alloc, variables) {
+    match Items::from_slice(alloc, variables) {
         Ok(variables) => match Program::of(variables, threads, nodes) {
             Ok(program) => Ok(program),
             Err(_) => Err(GraphFault::Limit),
@@ -107,19 +107,4 @@ fn program_of(alloc: Global, variables: &[Variable], laid: Laid) -> Result<Progr
             Err(GraphFault::Memory)
         }
     }
-}
-
-// The same variables.
-fn copied(alloc: Global, variables: &[Variable]) -> Result<Items<Variable>, AllocError>
-    ensures { IfOk result (λ copies. copies ≡ variables.now) }
-{
-    let mut copies = Items::new(alloc);
-    for variable in variables {
-        copies.push(Variable {
-            name: variable.name,
-            kind: variable.kind,
-            role: variable.role,
-        })?;
-    }
-    Ok(copies)
 }

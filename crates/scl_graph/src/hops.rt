@@ -7,7 +7,7 @@ ghost use Rattle.scl_graph.specs.Inside.Settling.{AreNodes, IsSettled, at_place,
 use std::alloc::{AllocError, Global};
 
 /// What stands at a place.
-#[derive(Clone, Copy, Debug)]
+#[derive(Clone, Copy)]
 pub(crate) enum Hop {
     /// The node of this number.
     Node(u64),

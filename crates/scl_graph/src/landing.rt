@@ -7,7 +7,7 @@ use sc_values::Name;
 use scl::Statement;
 
 /// What stands at a place of a thread's text, past labels.
-#[derive(Clone, Copy, Debug)]
+#[derive(Clone, Copy)]
 pub(crate) enum Landing {
     /// The node of this number.
     Node(u64),

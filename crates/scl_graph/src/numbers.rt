@@ -11,7 +11,7 @@ use crate::totals::Totals;
 use sc_graph::{NodeId, ThreadId};
 
 /// How many nodes of its own thread a text has, how many threads it forks, and how many nodes these have.
-#[derive(Clone, Copy, Debug)]
+#[derive(Clone, Copy)]
 pub struct NodeCounts {
     pub nodes: u16,
     pub threads: u16,
@@ -19,7 +19,7 @@ pub struct NodeCounts {
 }
 
 /// The numbers that come next: of a node of the thread, of a thread, and of that thread's first node.
-#[derive(Clone, Copy, Debug)]
+#[derive(Clone, Copy)]
 pub(crate) struct NodeNumbers {
     pub node: NodeId,
     pub thread: ThreadId,

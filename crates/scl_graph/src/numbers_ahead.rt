@@ -7,7 +7,7 @@ use crate::totals::Totals;
 
 /// The numbers that come next at a place of a text, however long this is: of a node of the thread, of a
 /// thread, of that thread's first node, and of a goto.
-#[derive(Clone, Copy, Debug)]
+#[derive(Clone, Copy)]
 pub(crate) struct NumbersAhead {
     pub(crate) node: u64,
     pub(crate) thread: u64,

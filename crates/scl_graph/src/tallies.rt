@@ -14,7 +14,7 @@ use sqlite_items::Items;
 use std::alloc::{AllocError, Global};
 
 /// What a statement counts, and the tallies of the statements in each of its lists.
-#[derive(Debug, Drop)]
+#[derive(Drop)]
 pub(crate) struct Tally {
     totals: Totals,
     parts: Items<Items<Tally>>,

@@ -14,7 +14,7 @@ const TOTAL_LIMIT: u64 = 4_611_686_018_427_387_904;
 
 /// How many nodes of its own thread a text has, how many threads it forks, how many nodes these have, and
 /// how many gotos stand in it.
-#[derive(Clone, Copy, Debug)]
+#[derive(Clone, Copy)]
 pub(crate) struct Totals {
     pub(crate) nodes: u64,
     pub(crate) threads: u64,

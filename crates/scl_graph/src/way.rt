@@ -9,7 +9,7 @@ use sc_values::Name;
 use scl::Statement;
 
 /// Where a thread goes on, past labels.
-#[derive(Clone, Copy, Debug)]
+#[derive(Clone, Copy)]
 pub enum Way {
     /// At this node.
     At(NodeId),

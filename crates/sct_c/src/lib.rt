@@ -58,7 +58,7 @@ const CONTROL: i32 = 9;
 
 /// How many bytes there are of what a call gives, and of the words of a fault.
 #[repr(C)]
-#[derive(Clone, Copy, Debug)]
+#[derive(Clone, Copy)]
 pub struct Lengths {
     pub given: usize,
     pub words: usize,
@@ -67,7 +67,7 @@ pub struct Lengths {
 /// What an image counts: variables and threads, the states of its chart, and the bytes of the names of both, a zero
 /// byte behind each.
 #[repr(C)]
-#[derive(Clone, Copy, Debug)]
+#[derive(Clone, Copy)]
 pub struct Counts {
     pub variables: usize,
     pub threads: usize,

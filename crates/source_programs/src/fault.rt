@@ -10,7 +10,7 @@ use sc_text::ReadFault;
 use std::alloc::AllocError;
 
 /// Why a source text spells no SCL program.
-#[derive(Debug, Drop)]
+#[derive(Clone, Copy)]
 pub enum SourceFault {
     /// It has a fault, or memory was refused.
     Text(ReadFault),

@@ -7,7 +7,7 @@ use extended_sources::begins_extended;
 use sc_text::{Language, language_of};
 
 /// The grammars by which texts are read.
-#[derive(Clone, Copy, Debug, PartialEq, Eq)]
+#[derive(Clone, Copy, PartialEq, Eq)]
 pub enum Grammar {
     Chart,
     ExtendedChart,

@@ -6,14 +6,14 @@ use sc_graph::ThreadId;
 use sqlite_items::Items;
 
 /// One step of a tick: the thread that took it, and the worker on whose claim.
-#[derive(Clone, Copy, Debug, PartialEq, Eq)]
+#[derive(Clone, Copy, PartialEq, Eq)]
 pub struct Entry {
     pub thread: ThreadId,
     pub worker: u8,
 }
 
 /// The steps of a finished tick: its history, and for each worker from 0 how many of them bear it.
-#[derive(Debug, Drop)]
+#[derive(Drop)]
 pub struct Report {
     pub history: Items<Entry>,
     pub by: [u32; 9],

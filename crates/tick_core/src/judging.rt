@@ -22,7 +22,7 @@ use std::alloc::Global;
 use verifier::Verified;
 
 /// What a given list of threads is to a tick. Places count from 0.
-#[derive(Debug, Drop)]
+#[derive(Drop)]
 pub enum Judged {
     /// No run: the thread at this place is the first that isn't enabled where its turn comes.
     NotRun(usize),

@@ -177,7 +177,7 @@ pub enum Turn<'a> {
 pub struct StaleClaim;
 
 /// The place of a committed step in the history, from 0.
-#[derive(Clone, Copy, Debug, PartialEq, Eq)]
+#[derive(Clone, Copy, PartialEq, Eq)]
 pub struct Receipt {
     pub at: u32,
 }

@@ -34,7 +34,7 @@ fn add(
 {
     let name = variable.name.as_str();
     if is_input(variable.role) && !has_name(named, name) {
-        named.insert(String::from_str(alloc, name)?, copied(variable))?;
+        named.insert(String::from_str(alloc, name)?, *variable)?;
     }
     Ok(())
 }
@@ -50,14 +50,4 @@ fn is_input(role: Role) -> bool
     ensures { result ≡ is_input role }
 {
     role == Role::Input
-}
-
-fn copied(variable: &Variable) -> Variable
-    ensures { result ≡ variable.now }
-{
-    Variable {
-        name: variable.name,
-        kind: variable.kind,
-        role: variable.role,
-    }
 }

@@ -47,7 +47,7 @@ impl From<Failed> for LinesFault {
 }
 
 /// How a line ends.
-#[derive(Clone, Copy, Debug, PartialEq, Eq)]
+#[derive(Clone, Copy, PartialEq, Eq)]
 pub enum LineEnd {
     /// At a line feed.
     Feed,

@@ -39,7 +39,7 @@ impl LineRoom {
 }
 
 // What is no member that gives true, false or an integer.
-#[derive(Clone, Copy, Debug, PartialEq, Eq)]
+#[derive(Clone, Copy, PartialEq, Eq)]
 struct Unusual;
 
 // The value of an input of integers that the text of a number spells.

@@ -13,7 +13,7 @@ use std::alloc::{AllocError, Global};
 use std::collections::BTreeMap;
 
 /// An output as a line shows it.
-#[derive(Debug, Drop)]
+#[derive(Drop)]
 pub(crate) struct Row {
     /// What stands before its value: a comma, where it is not the first, its name, and a colon.
     pub(crate) before: String,

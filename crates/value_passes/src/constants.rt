@@ -10,7 +10,6 @@ ghost use Rattle.value_passes.specs.Inside.{fill_valued, fill_chart};
 use core_charts::{Effect, Transition};
 use extended_charts::{
     Constant, During, ExtendedChart, ExtendedRegion, ExtendedState, Reading, bare,
-    copied_declarations,
 };
 use sc_values::{Expr, Value};
 use sqlite_items::Items;
@@ -59,7 +58,7 @@ fn fill_chart(
 ) -> Result<(), AllocError>
     ensures { OnOk result (valued.new ≡ fill_chart reading.now chart.now valued.old) }
 {
-    valued.variables = copied_declarations(alloc, chart.variables.as_slice())?;
+    valued.variables = Items::from_slice(alloc, chart.variables.as_slice())?;
     valued.signals = Items::from_slice(alloc, chart.signals.as_slice())?;
     valued.befores = Items::from_slice(alloc, chart.befores.as_slice())?;
     put_valued_counts(alloc, reading, chart.counts.as_slice(), &mut valued.counts)?;

@@ -11,7 +11,7 @@ use sqlite_items::{Items, at};
 use std::alloc::{AllocError, Global};
 
 /// Where a state stands, by its name; its transitions, by their words; and the regions inside it, by their names.
-#[derive(Debug, Drop)]
+#[derive(Drop)]
 pub struct StatePlaces {
     pub name: usize,
     pub transitions: Items<usize>,
@@ -19,7 +19,7 @@ pub struct StatePlaces {
 }
 
 /// Where the variables of a chart stand, by their names, and its states, in the order of the text.
-#[derive(Debug, Drop)]
+#[derive(Drop)]
 pub struct ChartPlaces {
     pub variables: Items<usize>,
     pub states: Items<StatePlaces>,

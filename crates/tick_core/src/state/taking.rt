@@ -11,7 +11,7 @@ use sc_graph::ThreadId;
 use sc_values::Value;
 
 /// A step that is evaluated: of this thread, with the value of its code, where it has one.
-#[derive(Clone, Copy, Debug)]
+#[derive(Clone, Copy)]
 pub struct NextStep {
     pub thread: ThreadId,
     pub value: Option<Value>,

@@ -14,8 +14,6 @@ returns-in_ok-insert c =
     let named : key ≡ a.name = search rules in
     let input : is_input a.role ≡ true = search rules in
     let absent : is_some (get_by_text old a.name) ≡ false = search rules in
-    let copied : c.copied.result ≡ a = search rules in
     adds_new a old new input (none_of (get_by_text old a.name) absent) (λ name.
-    btree_map_updates_text key old new (Some c.copied.result) c.in_ok-insert.ensures.updates name
-    ∙ ap (λ k. cond (bytes_eq k name) (Some c.copied.result) (get_by_text old name)) named
-    ∙ ap (λ b. cond (bytes_eq a.name name) (Some b) (get_by_text old name)) copied)
+    btree_map_updates_text key old new (Some a) c.in_ok-insert.ensures.updates name
+    ∙ ap (λ k. cond (bytes_eq k name) (Some a) (get_by_text old name)) named)
