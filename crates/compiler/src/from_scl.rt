@@ -1,14 +1,12 @@
 //! From an SCL program to its image.
 
-ghost use Rattle.std.specs.Prelude.{◌↔◌, IfErr, IfOk, IsTrue};
+ghost use Rattle.std.specs.Prelude.{IfErr, IfOk};
 ghost use Rattle.compiler.specs.Texts.{IsImageOf, SclLacksImage};
-ghost use Rattle.sc_graph.specs.Links.{Tells};
-ghost use Rattle.sc_graph.specs.Valid.{IsFormed};
 ghost use Rattle.scl_graph.specs.Answers.{IsGraph, LacksGraph};
 
 use crate::fault::CompileFault;
 use crate::linked::LinkedProgram;
-use sc_graph::{Links, Program};
+use sc_graph::Links;
 use scl::Scl;
 use scl_graph::{GraphFault, graph_of};
 use std::alloc::Global;
@@ -38,17 +36,9 @@ pub fn graph_of_scl(alloc: Global, scl: &Scl) -> Result<LinkedProgram, GraphFaul
 {
     let program = graph_of(alloc, scl)?;
     let links = Links::of(alloc, &program)?;
-    if !is_formed(&program, &links) {
+    if !program.formed_with(&links) {
         // the graph of a program is formed, by its law
         unreachable!();
     }
     Ok(LinkedProgram::known(program, links))
-}
-
-// Whether a program is formed, by its links.
-fn is_formed(program: &Program, links: &Links) -> bool
-    requires { Tells program.now links.now }
-    ensures { IsTrue result ↔ IsFormed program.now }
-{
-    program.size_fault().is_none() && program.structure_fault_with(links).is_none()
 }

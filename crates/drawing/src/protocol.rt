@@ -1,8 +1,6 @@
 //! The arrows of protocol edges, and of a write conflict.
 
-ghost use Rattle.std.specs.Prelude.{◌↔◌, IfOk, IsTrue};
 ghost use Rattle.sc_graph.specs.Links.{Tells};
-ghost use Rattle.sc_graph.specs.Valid.{IsFormed};
 
 use conflict_edges::{ConflictFault, Edges, conflicts};
 use sc_graph::{Links, NodeId, Program};
@@ -98,14 +96,6 @@ fn put_conflict(
     text.push_str(line.as_str())
 }
 
-// Whether a program is formed.
-fn is_formed(program: &Program, links: &Links) -> bool
-    requires { Tells program.now links.now }
-    ensures { IsTrue result ↔ IsFormed program.now }
-{
-    program.size_fault().is_none() && program.structure_fault_with(links).is_none()
-}
-
 /// Puts the arrows of protocol edges behind a text, or, where two nodes conflict, the line between them. Err: memory
 /// was refused.
 pub(crate) fn put_protocol(
@@ -116,7 +106,7 @@ pub(crate) fn put_protocol(
 ) -> Result<(), AllocError>
     requires { Tells program.now links.now }
 {
-    if !is_formed(program, links) {
+    if !program.formed_with(links) {
         return Ok(());
     }
     match conflicts(alloc, program, links) {

@@ -20,6 +20,14 @@ impl Program {
         self.size_fault().is_none() && self.structure_fault().is_none()
     }
 
+    /// As `formed`, by the links of the program: in one pass over its nodes.
+    pub fn formed_with(&self, links: &Links) -> bool
+        requires { Tells self.now links.now }
+        ensures { IsTrue result ↔ IsFormed self.now }
+    {
+        self.size_fault().is_none() && self.structure_fault_with(links).is_none()
+    }
+
     /// A place where the program breaks the structure rule. None: it keeps the rule.
     pub fn structure_fault(&self) -> Option<Place>
         ensures { MatchOption result ((at : Place) → StructureAt self.now at) (λ at. ¬ StructureAt self.now at) }
