@@ -21,7 +21,7 @@ use Rattle.extended_charts.specs.Durings as durings
 use Rattle.extended_charts.specs.Holds as holds
 use Rattle.sc_text.proofs.EachItem.{Each}
 use Rattle.author_states.specs.Own.{among, own_in_region, own_in_state}
-use Rattle.state_paths.specs.Paths.{beside}
+use Rattle.chart_elements.specs.Paths.{beside}
 use Rattle.author_states.proofs.Made.{made_silent, one_silent, passing_silent, silent_region}
 use Rattle.author_states.proofs.Walking.{each_region, SameRegion, SameState, SameRegions, Silent, mapped_regions, mapped_states, region_parts}
 use Rattle.author_states.proofs.Walking.{region_same, silent_append, state_parts, state_same}

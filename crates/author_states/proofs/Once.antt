@@ -10,7 +10,7 @@ use Rattle.extended_charts.specs.declared.extended.ExtendedRegion.TheViews.{roll
 use Rattle.extended_charts.specs.declared.extended.ExtendedRegion.TheFolds.{fold-roll-ExtendedRegion, fold-roll-ExtendedState}
 use Rattle.chart_reduction.specs.Reduction.{with_entry}
 use Rattle.chart_reduction.specs.Rows.{Marks, before, numbers, region_marks, rows_of, state_marks, states_in_region, states_in_state}
-use Rattle.state_paths.specs.Paths.{Paths, beside}
+use Rattle.chart_elements.specs.Paths.{Paths, beside}
 use Rattle.sc_text.proofs.EachItem.{Each}
 use Rattle.author_states.specs.Own.{among, numbers_from, own_in_region, own_in_state, own_paths, present}
 use Rattle.author_states.proofs.Staying.{authors_stay}

@@ -10,7 +10,7 @@ use Rattle.command_files.specs.declared.fault.LoadFault.TheVariants as fault
 use Rattle.command_files.specs.Standing.{AreReduced, BytesLackReduced, StandsFor}
 use Rattle.extended_charts.specs.declared.extended.ExtendedChart.{ExtendedChart}
 use Rattle.extended_reader.specs.Read.{IsRead}
-use Rattle.reduced_texts.specs.ReducedText.{IsReducedText}
+use Rattle.chart_texts.specs.ReducedText.{IsReducedText}
 
 -- ---- what was read
 

@@ -4,8 +4,8 @@ use Rattle.std.specs.Str.{IsUtf8}
 use Rattle.author_states.specs.Author.{AuthorsStates, author_states}
 use Rattle.extended_charts.specs.declared.extended.ExtendedChart.{ExtendedChart}
 use Rattle.extended_reader.specs.Read.{IsRead}
-use Rattle.extended_sources.specs.FirstWord.{BeginsExtended}
-use Rattle.reduced_texts.specs.ReducedText.{IsReducedText}
+use Rattle.chart_texts.specs.FirstWord.{BeginsExtended}
+use Rattle.chart_texts.specs.ReducedText.{IsReducedText}
 
 -- these bytes are text, which spells an extended chart, to the chart of this text it is reduced, and these are its author's states
 pub record HasAuthored (written source : List ℕ) (states : AuthorsStates) : Type 0 where

@@ -5,7 +5,7 @@ use Rattle.command_files.specs.declared.fault.LoadFault.{LoadFault}
 use Rattle.command_files.specs.declared.fault.LoadFault.TheVariants as fault
 use Rattle.compiler.specs.declared.fault.CompileFault.TheVariants as compiling
 use Rattle.extended_charts.specs.declared.extended.ExtendedChart.{ExtendedChart}
-use Rattle.reduced_texts.specs.ReducedText.{LacksReducedText}
+use Rattle.chart_texts.specs.ReducedText.{LacksReducedText}
 
 -- why an extended chart has no text of a reduced one
 abbrev pub IsUnreduced : ExtendedChart → LoadFault → Type 0

@@ -6,16 +6,15 @@ ghost use Rattle.author_texts.specs.Authored.{HasAuthored, IsAuthored};
 ghost use Rattle.author_texts.specs.Inside.{IsUnreduced};
 ghost use Rattle.command_files.specs.Counting.{files_failed};
 ghost use Rattle.command_files.specs.Standing.{AreAsWritten, BytesLackReduced, BytesLackSource};
-ghost use Rattle.reduced_texts.specs.ReducedText.{IsReducedText};
+ghost use Rattle.chart_texts.specs.ReducedText.{IsReducedText};
 
 use abort_expansion::ExpandFault;
 use author_states::{AuthorStates, author_states};
 use chart_reduction::ReduceFault;
+use chart_texts::{begins_extended, extended_in, reduced_text};
 use command_files::LoadFault;
 use compiler::CompileFault;
 use extended_charts::ExtendedChart;
-use extended_sources::{begins_extended, extended_in};
-use reduced_texts::reduced_text;
 use std::alloc::Global;
 
 /// The text of the chart to which an extended chart is reduced, and the states of its author.

@@ -1,10 +1,13 @@
-//! The elements of a chart: its regions, states, transitions and effects, by their numbers.
+//! The elements of a chart: its regions, states, transitions and effects, by their numbers; and the paths by which its
+//! states are named.
 #![tactic(auto)]
 
 mod effects;
 mod element;
 mod numbers;
+mod paths;
 
 pub use effects::put_effects;
 pub use element::Element;
 pub use numbers::{Numbers, next};
+pub use paths::{joined, paths_of};

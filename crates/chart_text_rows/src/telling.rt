@@ -5,7 +5,7 @@ use abort_expansion::{ExpandFault, StateMap, expand};
 use chart_places::{Placed, Places, read_placed};
 use chart_printer::chart_text;
 use core_charts::Chart;
-use core_texts::core_text;
+use chart_texts::core_text;
 use row_answers::Answers;
 use sc_text::ReadFault;
 use std::alloc::{AllocError, Global};

@@ -2,8 +2,8 @@
 use Rattle.std.specs.Prelude.{ℕ, ◌≡◌, ◌⊎◌, Option, List}
 use Rattle.abort_expansion.specs.declared.fault.ExpandFault.TheVariants as expanding
 use Rattle.compiler.specs.declared.fault.CompileFault.TheVariants as compiling
-use Rattle.extended_sources.specs.FirstWord.{BeginsExtended}
-use Rattle.extended_sources.specs.Sources.{HasReduced, SpellsNoExtended, SpellsUnreduced}
+use Rattle.chart_texts.specs.FirstWord.{BeginsExtended}
+use Rattle.chart_texts.specs.Sources.{HasReduced, SpellsNoExtended, SpellsUnreduced}
 use Rattle.command_files.specs.declared.fault.LoadFault.{LoadFault}
 use Rattle.command_files.specs.declared.fault.LoadFault.TheVariants as fault
 use Rattle.command_files.specs.Files.{Contents, HasBytes}

@@ -4,14 +4,14 @@ ghost use Rattle.std.specs.Prelude.{◌≡◌, ◌+◌, IfErr, IfNone, IfOk, IfS
 ghost use Rattle.command_files.specs.Counting.{files_failed};
 ghost use Rattle.command_files.specs.Standing.{AreAsWritten, AreReduced, BytesLackReduced, BytesLackSource};
 ghost use Rattle.command_files.specs.Standing.{FileLacksSource, HasSource};
-ghost use Rattle.extended_sources.specs.Sources.{HasReduced};
+ghost use Rattle.chart_texts.specs.Sources.{HasReduced};
 
 use crate::fault::LoadFault;
 use crate::files::Files;
 use crate::load::bytes_of;
 use abort_expansion::ExpandFault;
 use compiler::CompileFault;
-use extended_sources::{Unreduced, begins_extended, reduced_of};
+use chart_texts::{Unreduced, begins_extended, reduced_of};
 use std::alloc::Global;
 
 /// The text of the chart to which the extended chart is reduced that these bytes spell as text. Err: they spell none,

@@ -4,7 +4,7 @@ use Rattle.core_charts.specs.Chart.{Chart}
 use Rattle.abort_expansion.specs.Answers as expansion
 use Rattle.abort_expansion.specs.declared.fault.ExpandFault.{ExpandFault}
 use Rattle.abort_expansion.specs.declared.fault.ExpandFault.TheVariants as expanding
-use Rattle.core_texts.specs.CoreText.{LacksCoreText}
+use Rattle.chart_texts.specs.CoreText.{LacksCoreText}
 use Rattle.compiler.specs.declared.fault.CompileFault.TheVariants as compiling
 use Rattle.command_texts.specs.Cores.{ChartLacksCore}
 

@@ -5,7 +5,7 @@ use Rattle.core_charts.specs.Chart.{Chart}
 use Rattle.chart_reader.specs.Read.{IsRead}
 use Rattle.abort_expansion.specs.Expansion.{IsExpandable}
 use Rattle.abort_expansion.specs.declared.fault.ExpandFault.TheVariants as expanding
-use Rattle.core_texts.specs.CoreText.{IsCoreText, LacksCoreText}
+use Rattle.chart_texts.specs.CoreText.{IsCoreText, LacksCoreText}
 use Rattle.compiler.specs.declared.fault.CompileFault.{CompileFault}
 use Rattle.compiler.specs.declared.fault.CompileFault.TheVariants as compiling
 use Rattle.image_charts.specs.Charts.{SpellsNoChart}

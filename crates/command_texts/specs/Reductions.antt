@@ -1,6 +1,6 @@
 -- The text of the chart to which an extended chart is reduced.
 use Rattle.std.specs.Prelude.{ℕ, Option, List}
-use Rattle.extended_sources.specs.Sources.{HasReduced}
+use Rattle.chart_texts.specs.Sources.{HasReduced}
 use Rattle.command_files.specs.declared.fault.LoadFault.{LoadFault}
 use Rattle.command_files.specs.Files.{Contents, HasBytes}
 use Rattle.command_files.specs.Lacking.{FileLacks}

@@ -3,13 +3,13 @@
 ghost use Rattle.std.specs.Prelude.{◌≡◌, ◌+◌, IfErr, IfOk, OnOk, string_bytes};
 ghost use Rattle.command_files.specs.Counting as files_count;
 ghost use Rattle.command_texts.specs.Cores.{BytesLackCore, ChartLacksCore, FileLacksCore, HasCore, IsCoreIn};
-ghost use Rattle.core_texts.specs.CoreText.{IsCoreText};
+ghost use Rattle.chart_texts.specs.CoreText.{IsCoreText};
 
 use abort_expansion::ExpandFault;
 use command_files::{Files, LoadFault, source_of};
 use compiler::CompileFault;
 use core_charts::Chart;
-use core_texts::core_text;
+use chart_texts::core_text;
 use image_charts::chart_in;
 use std::alloc::Global;
 

@@ -5,7 +5,7 @@ ghost use Rattle.std.specs.List.{list_any};
 ghost use Rattle.abort_expansion.specs.Answers.{LacksCore};
 ghost use Rattle.node_states.specs.Active.{is_active, is_number, rests_at, rests_in};
 ghost use Rattle.node_states.specs.StandsFor.{stands_for};
-ghost use Rattle.state_paths.specs.Paths.{paths_of};
+ghost use Rattle.chart_elements.specs.Paths.{paths_of};
 ghost use Rattle.embedded_machine.specs.Opened.{ended_by_zero, no_states};
 
 use abort_expansion::{ExpandFault, expand};
@@ -13,7 +13,7 @@ use core_charts::Chart;
 use node_states::stands_for;
 use sc_graph::{Control, Status};
 use sqlite_items::Items;
-use state_paths::paths_of;
+use chart_elements::paths_of;
 use std::alloc::{AllocError, Global};
 use std::marker::Model;
 

@@ -6,7 +6,7 @@ use Rattle.sc_text.specs.FirstToken.{IsIn}
 use Rattle.core_charts.specs.Chart.{Chart}
 use Rattle.chart_reader.specs.Read.{IsRead}
 use Rattle.node_states.specs.StandsFor.{stands_for}
-use Rattle.state_paths.specs.Paths.{paths_of}
+use Rattle.chart_elements.specs.Paths.{paths_of}
 use Rattle.author_states.specs.Author.{AuthorsStates, author_nodes}
 use Rattle.author_texts.specs.Authored.{IsAuthored}
 use Rattle.bytecode.specs.Image.{Image}
@@ -15,7 +15,7 @@ use Rattle.command_files.specs.declared.fault.LoadFault.{LoadFault}
 use Rattle.command_files.specs.Sources.{SpellsImage, BytesLackImage}
 use Rattle.command_files.specs.Standing.{BytesLackSource, StandsFor}
 use Rattle.embedded_machine.specs.Opened.{ChartStates, OpenedImage, no_states}
-use Rattle.extended_sources.specs.FirstWord.{BeginsExtended}
+use Rattle.chart_texts.specs.FirstWord.{BeginsExtended}
 
 -- the text spells a chart, whose states these are
 pub record AreOfChart (text : List ℕ) (states : ChartStates) : Type 0 where

@@ -14,7 +14,7 @@ use Rattle.bytecode.specs.Image.{Image}
 use Rattle.compiler.specs.Charts.{ChartLacksImage}
 use Rattle.compiler.specs.declared.fault.CompileFault.{CompileFault}
 use Rattle.node_states.specs.Active.{active_states}
-use Rattle.state_paths.specs.Paths.{paths_of}
+use Rattle.chart_elements.specs.Paths.{paths_of}
 use Rattle.compiled_charts.specs.Compiled.{CompiledChart, IsCompiledChart}
 use Rattle.command_files.specs.declared.fault.LoadFault.{LoadFault}
 use Rattle.command_files.specs.declared.fault.LoadFault.TheVariants as fault

@@ -8,7 +8,7 @@ use Rattle.compiled_charts.specs.Compiled.{CompiledChart}
 use Rattle.command_files.specs.declared.fault.LoadFault.{LoadFault}
 use Rattle.command_files.specs.Sources.{BytesLackCompiled, SpellsImage}
 use Rattle.command_files.specs.Standing.{AreAsWritten, BytesLackSource, StandsFor}
-use Rattle.extended_sources.specs.FirstWord.{BeginsExtended}
+use Rattle.chart_texts.specs.FirstWord.{BeginsExtended}
 use Rattle.image_charts.specs.Charts.{IsChartOf, IsNoChart, IsNotChartOf, NamedStates}
 
 -- ---- whose states are told

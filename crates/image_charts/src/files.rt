@@ -11,7 +11,7 @@ use crate::states::ChartStates;
 use author_states::AuthorStates;
 use author_texts::{Authored, authored_source};
 use command_files::{Files, LoadFault, bytes_of, load_verified};
-use extended_sources::begins_extended;
+use chart_texts::begins_extended;
 use sc_text::{Language, language_of};
 use sqlite_items::Boxed;
 use std::alloc::Global;

@@ -3,13 +3,13 @@
 
 ghost use Rattle.std.specs.Prelude.{◌≡◌, IfOk, length, map, string_bytes};
 ghost use Rattle.image_charts.specs.Written.{told_by, told_of_author};
-ghost use Rattle.state_paths.specs.Paths.{paths_of};
+ghost use Rattle.chart_elements.specs.Paths.{paths_of};
 
 use author_states::AuthorStates;
 use compiled_charts::Compiled;
 use core_charts::Chart;
 use sqlite_items::Items;
-use state_paths::paths_of;
+use chart_elements::paths_of;
 use std::alloc::{AllocError, Global};
 use std::marker::Model;
 

@@ -1,7 +1,7 @@
 -- The warnings of what is written in a file: of the text of an extended chart those that speak of what is its author's, at their places
 -- in that text, and of any other text those of the chart that it spells.
 use Rattle.std.specs.Prelude.{ℕ, ◌⊎◌, List}
-use Rattle.extended_sources.specs.FirstWord.{BeginsExtended}
+use Rattle.chart_texts.specs.FirstWord.{BeginsExtended}
 use Rattle.extended_warnings.specs.Reports.{IsToldOfAuthor}
 use Rattle.warning_texts.specs.Reports.{IsTold}
 

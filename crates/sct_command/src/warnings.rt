@@ -7,7 +7,7 @@ ghost use Rattle.sct_command.specs.Beside.{AreWarnings};
 ghost use Rattle.sct_command.specs.Warned.{IsWarned};
 
 use command_files::shown_name;
-use extended_sources::begins_extended;
+use chart_texts::begins_extended;
 use extended_warnings::author_warnings_told;
 use std::alloc::{AllocError, Global};
 use std::str;

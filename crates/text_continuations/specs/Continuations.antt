@@ -14,7 +14,7 @@ use Rattle.sc_text.specs.Words.{word_text, sign_text}
 use Rattle.chart_drafts.specs.Checked as charts
 use Rattle.scl_drafts.specs.Checked as programs
 use Rattle.extended_drafts.specs.Checked as extended
-use Rattle.extended_sources.specs.FirstWord.{BeginsExtended}
+use Rattle.chart_texts.specs.FirstWord.{BeginsExtended}
 use Rattle.sc_text.specs.FirstToken.{IsIn}
 use Rattle.text_continuations.specs.declared.continuations.Continuations.{Continuations}
 use Rattle.text_continuations.specs.declared.grammars.Grammar.{Grammar}

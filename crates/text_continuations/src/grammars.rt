@@ -3,7 +3,7 @@
 ghost use Rattle.std.specs.Prelude.{◌≡◌};
 ghost use Rattle.text_continuations.specs.Continuations.{IsReadBy, tokens_of};
 
-use extended_sources::begins_extended;
+use chart_texts::begins_extended;
 use sc_text::{Language, language_of};
 
 /// The grammars by which texts are read.

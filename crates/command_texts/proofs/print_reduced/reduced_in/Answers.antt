@@ -1,5 +1,5 @@
 use Rattle.std.proofs.Common.{ap, subst, sym}
-use Rattle.extended_sources.specs.Sources.{HasReduced}
+use Rattle.chart_texts.specs.Sources.{HasReduced}
 use Rattle.command_texts.proofs.print_reduced.reduced_in.Goals as goal
 
 pub returns-clause-made : goal.returns-clause-made

@@ -1,0 +1,4 @@
+mod Spelling
+mod ReducedSpelling
+mod Clearing
+mod Begins

@@ -1,0 +1,5 @@
+pub mod CoreText
+pub mod ReducedText
+pub mod FirstWord
+pub mod Sources
+pub mod Inside

@@ -1,5 +1,0 @@
-use Rattle.core_texts.proofs.Spelling.{is_unread}
-use Rattle.core_texts.proofs.texts.spells.Goals as goal
-
-pub returns-in-Err-Text : goal.returns-in-Err-Text
-returns-in-Err-Text c = is_unread _ _ _ _ _ c.in-Err-Text.ensures.exact c.in-Err-Text.field-0-is

@@ -1,3 +1,0 @@
-pub mod FirstWord
-pub mod Sources
-pub mod Inside
