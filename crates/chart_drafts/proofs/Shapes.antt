@@ -10,8 +10,9 @@ use Rattle.sc_text.specs.Classes.{Class, AName, TheWord, TheSign}
 use Rattle.sc_text.specs.Phrases.{Phrase}
 use Rattle.sc_text.specs.Expression.{text_tokens, after, expression}
 use Rattle.sc_text.proofs.Shapes.{Is, expression_first, expression_tails, expression_is}
+use Rattle.drafts.specs.Parts.{roles}
 use Rattle.chart_drafts.specs.declared.draft.DraftRegion.{DraftRegion}
-use Rattle.chart_drafts.specs.ChartText.{Grows, the_word, the_sign, name, last_name, roles, declaration, flag, placed, effect, next_effect, some_effects}
+use Rattle.chart_drafts.specs.ChartText.{Grows, the_word, the_sign, name, last_name, declaration, flag, placed, effect, next_effect, some_effects}
 use Rattle.chart_drafts.specs.ChartText.{effects, target, trigger, outcome, termination, tested_words, tested, transition, transition_first, leaving, listed}
 use Rattle.chart_drafts.specs.ChartText.{Inner, NoMore, Nested, bare, inside, simple, body, state_first, state, states, region, within, chart, chart_text}
 use Rattle.chart_drafts.specs.ChartText.{braced}

@@ -31,7 +31,7 @@ use Rattle.chart_drafts.specs.declared.draft.DraftRegion.{DraftRegion}
 use Rattle.chart_drafts.specs.declared.draft.DraftState.{DraftState}
 use Rattle.chart_drafts.specs.declared.draft.DraftChart.{DraftChart}
 use Rattle.chart_drafts.specs.Draft.{tested_by, is_there, effect_of, transition_of, state_of, region_of, chart_of}
-use Rattle.drafts.specs.Parts.{named, role_of, kind_of, or_none, expressed, declared_as}
+use Rattle.drafts.specs.Parts.{named, roles, kinds, role_of, kind_of, or_none, expressed, declared_as}
 
 abbrev pub Grows : Type 0 → Type 1
 Grows A = Grammar text_tokens A
@@ -48,12 +48,6 @@ name = made named (one (AName ∷ []))
 
 unfoldable pub last_name : Grows Named
 last_name = before name (the_sign sign.Semicolon)
-
-abbrev pub roles : List Class
-roles = TheWord word.Input ∷ TheWord word.Output ∷ TheWord word.Local ∷ []
-
-abbrev pub kinds : List Class
-kinds = TheWord word.Bool ∷ TheWord word.Int ∷ []
 
 abbrev pub declared_role : Grows Role
 declared_role = made (λ t. role_of t.kind) (one roles)

@@ -7,6 +7,6 @@ pub use crate::transitions::{
     outcome, placed, some_effects, termination, transition_follows, trigger, value,
 };
 pub use crate::words::{
-    declared_kind, declared_role, flag, join_word, last_name, name, name_follows, role_follows,
-    tested_word, tested_word_follows, title,
+    declared_kind, declared_role, flag, join_word, last_name, name, tested_word,
+    tested_word_follows, title,
 };

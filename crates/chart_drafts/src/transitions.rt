@@ -15,10 +15,10 @@ use crate::ahead::{Ahead, skip_sign};
 use crate::draft::{DraftEffect, DraftTransition};
 use crate::rows::{Part, RowPart, listed, listed_behind, put_row};
 use crate::words::{
-    declared_kind, declared_role, flag, join_word, last_name, name, role_follows, tested_word,
+    declared_kind, declared_role, flag, join_word, last_name, name, tested_word,
     tested_word_follows,
 };
-use drafts::{Declaration, Named, TextExpression};
+use drafts::{Declaration, Named, TextExpression, role_follows};
 use sc_text::ahead::{behind, place, word_follows};
 use sc_text::{ReadFault, Sign, Token, Word, expression};
 use sqlite_items::Items;

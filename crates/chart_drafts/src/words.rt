@@ -1,20 +1,19 @@
 //! The names and words of charts, one token each.
 
-ghost use Rattle.std.specs.Prelude.{◌≡◌, [], ◌∷◌, IsFalse, MatchOption, MatchResult};
+ghost use Rattle.std.specs.Prelude.{◌≡◌, IsFalse, MatchOption, MatchResult};
 ghost use Rattle.grammar.specs.Read.{read, starts};
 ghost use Rattle.sc_text.specs.Classes.{AName, class_of, same_class};
 ghost use Rattle.sc_text.specs.Expression.{text_tokens, after};
 ghost use Rattle.sc_text.specs.Reading.{Stops};
 ghost use Rattle.chart_drafts.specs.Draft.{tested_by};
-ghost use Rattle.drafts.specs.Parts.{role_of, kind_of};
-ghost use Rattle.chart_drafts.specs.ChartText.{the_word, roles, kinds, tested_words, name, last_name, declared_role};
+ghost use Rattle.chart_drafts.specs.ChartText.{the_word, tested_words, name, last_name, declared_role};
 ghost use Rattle.chart_drafts.specs.ChartText.{declared_kind, moment, flag};
 ghost use Rattle.chart_drafts.specs.PartsRead.{IsNameOf};
 ghost use Rattle.chart_drafts.specs.Phrase.{Gives};
 
 use crate::ahead::{Ahead, skip_sign, skip_word};
 use core_charts::TransitionKind;
-use drafts::Named;
+use drafts::{Named, kind_follows, kind_of, role_follows, role_of};
 use sc_graph::Role;
 use sc_text::ahead::{behind, word_follows, wrong};
 use sc_text::{ReadFault, Sign, Token, TokenKind, Word};
@@ -45,25 +44,6 @@ fn name_of(kind: TokenKind) -> Option<Name>
     match kind {
         TokenKind::Name(name) => Some(name),
         TokenKind::Number(_) | TokenKind::Word(_) | TokenKind::Sign(_) => None,
-    }
-}
-
-/// Whether a name is next.
-pub fn name_follows(tokens: &[Token]) -> bool
-    ensures { result ≡ starts text_tokens (AName ∷ []) tokens.now }
-{
-    match tokens {
-        [] => false,
-        [next, ..] => is_name(next.kind),
-    }
-}
-
-fn is_name(kind: TokenKind) -> bool
-    ensures { result ≡ same_class AName (class_of kind) }
-{
-    match kind {
-        TokenKind::Name(_) => true,
-        TokenKind::Number(_) | TokenKind::Word(_) | TokenKind::Sign(_) => false,
     }
 }
 
@@ -110,25 +90,6 @@ pub fn declared_role(ahead: &mut Ahead, end: usize) -> Result<Role, ReadFault>
     }
 }
 
-/// Whether a declaration is next.
-pub fn role_follows(tokens: &[Token]) -> bool
-    ensures { result ≡ starts text_tokens roles tokens.now }
-{
-    word_follows(tokens, Word::Input)
-        || word_follows(tokens, Word::Output)
-        || word_follows(tokens, Word::Local)
-}
-
-fn role_of(kind: TokenKind) -> Role
-    ensures { result ≡ role_of kind }
-{
-    match kind {
-        TokenKind::Word(Word::Input) => Role::Input,
-        TokenKind::Word(Word::Output) => Role::Output,
-        _ => Role::Local,
-    }
-}
-
 /// The kind of which a variable is declared.
 #[tactic(auto, using(crate::proofs::Parts::token_fails, crate::proofs::Parts::token_gives))]
 pub fn declared_kind(ahead: &mut Ahead, end: usize) -> Result<Kind, ReadFault>
@@ -146,21 +107,6 @@ pub fn declared_kind(ahead: &mut Ahead, end: usize) -> Result<Kind, ReadFault>
             ahead.tokens = rest;
             Ok(found)
         }
-    }
-}
-
-fn kind_follows(tokens: &[Token]) -> bool
-    ensures { result ≡ starts text_tokens kinds tokens.now }
-{
-    word_follows(tokens, Word::Bool) || word_follows(tokens, Word::Int)
-}
-
-fn kind_of(kind: TokenKind) -> Kind
-    ensures { result ≡ kind_of kind }
-{
-    match kind {
-        TokenKind::Word(Word::Bool) => Kind::Bool,
-        _ => Kind::Int,
     }
 }
 

@@ -11,7 +11,8 @@ ghost use Rattle.chart_modules.specs.Phrases.{head, opened};
 
 use crate::parts::{ModuleHead, Parameter, ParameterRole};
 use crate::words::is_word;
-use chart_drafts::text_parts::{Ahead, Part, declared_kind, listed, name, name_follows, skip_sign};
+use chart_drafts::text_parts::{Ahead, Part, declared_kind, listed, name, skip_sign};
+use drafts::name_follows;
 use sc_text::ahead::{word_follows, wrong};
 use sc_text::{ReadFault, Sign, Token, TokenKind, Word};
 use sqlite_items::Items;

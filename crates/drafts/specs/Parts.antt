@@ -1,5 +1,5 @@
 -- What the parts of a text mean that both languages have: names, variables and expressions with their places.
-use Rattle.std.specs.Prelude.{ℕ, Option, Some, None, List, []}
+use Rattle.std.specs.Prelude.{ℕ, Option, Some, None, List, [], ◌∷◌}
 use Rattle.sc_values.specs.declared.value.Kind.{Kind}
 use Rattle.sc_values.specs.declared.value.Kind.TheVariants as of_kind
 use Rattle.sc_graph.specs.declared.program.Role.{Role}
@@ -8,6 +8,7 @@ use Rattle.sc_text.specs.declared.word.Word.TheVariants as word
 use Rattle.sc_text.specs.declared.token.Token.{Token}
 use Rattle.sc_text.specs.declared.token.TokenKind.{TokenKind}
 use Rattle.sc_text.specs.declared.token.TokenKind.TheVariants as token
+use Rattle.sc_text.specs.Classes.{Class, TheWord}
 use Rattle.sc_text.specs.Phrases.{Phrase}
 use Rattle.drafts.specs.declared.parts.Named.{Named}
 use Rattle.drafts.specs.declared.parts.TextExpression.{TextExpression}
@@ -20,6 +21,13 @@ name_of k = []
 
 abbrev pub named : Token → Named
 named t = record { name = name_of t.kind; at = t.at }
+
+-- the words by which a variable is declared
+abbrev pub roles : List Class
+roles = TheWord word.Input ∷ TheWord word.Output ∷ TheWord word.Local ∷ []
+
+abbrev pub kinds : List Class
+kinds = TheWord word.Bool ∷ TheWord word.Int ∷ []
 
 abbrev pub role_of : TokenKind → Role
 role_of (token.Word word.Input) = role.Input

@@ -15,6 +15,7 @@ mod scope;
 mod told;
 mod told_scope;
 mod trees;
+mod words;
 
 pub use flaw::{Flaw, is_full};
 pub use index::Index;
@@ -22,3 +23,4 @@ pub use parts::{Declaration, Named, TextExpression};
 pub use resolved::variables;
 pub use scope::Scope;
 pub use told::{TOLD_LIMIT, first_told, note_told};
+pub use words::{kind_follows, kind_of, name_follows, role_follows, role_of};

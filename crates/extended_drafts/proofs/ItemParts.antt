@@ -15,7 +15,8 @@ use Rattle.sc_text.proofs.Shapes.{expression_is}
 use Rattle.sc_text.proofs.Steps.{stops_as}
 use Rattle.drafts.specs.declared.parts.Named.{Named}
 use Rattle.drafts.specs.declared.parts.TextExpression.{TextExpression}
-use Rattle.chart_drafts.specs.ChartText.{Grows, the_sign, roles, declared_role, declared_kind, name, last_name, placed}
+use Rattle.drafts.specs.Parts.{roles}
+use Rattle.chart_drafts.specs.ChartText.{Grows, the_sign, declared_role, declared_kind, name, last_name, placed}
 use Rattle.chart_drafts.specs.Phrase.{Gives}
 use Rattle.chart_drafts.proofs.Parts.{seq_gives, made_gives, made_stops, maybe_none, maybe_some, maybe_stops, left_read}
 use Rattle.chart_drafts.proofs.Parts.{right_read, gives_as}

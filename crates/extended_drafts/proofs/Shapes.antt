@@ -8,8 +8,9 @@ use Rattle.sc_text.specs.Classes.{AName, TheWord, TheSign}
 use Rattle.sc_text.specs.Phrases.{Phrase}
 use Rattle.sc_text.specs.Expression.{expression}
 use Rattle.sc_text.proofs.Shapes.{expression_tails, expression_is}
+use Rattle.drafts.specs.Parts.{roles, kinds}
 use Rattle.chart_drafts.specs.declared.draft.DraftRegion.{DraftRegion}
-use Rattle.chart_drafts.specs.ChartText.{Grows, the_word, the_sign, roles, kinds, tested_words, transition_first, state_first}
+use Rattle.chart_drafts.specs.ChartText.{Grows, the_word, the_sign, tested_words, transition_first, state_first}
 use Rattle.chart_drafts.proofs.Shapes.{IsExpression, leaving_first, name_is, last_name_is, title_is, braced_is, flag_is, marked_is, placed_is}
 use Rattle.chart_drafts.proofs.Shapes.{trigger_is}
 use Rattle.extended_drafts.specs.declared.draft.DraftRows.{DraftRows}

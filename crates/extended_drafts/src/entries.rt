@@ -11,9 +11,8 @@ ghost use Rattle.extended_drafts.specs.ExtendedText.{last_effects, entry};
 use crate::draft::DraftEntry;
 use crate::effects::some_effects;
 use chart_drafts::DraftEffect;
-use chart_drafts::text_parts::{
-    Ahead, Part, RowPart, flag, name, name_follows, skip_sign, skip_word, trigger,
-};
+use chart_drafts::text_parts::{Ahead, Part, RowPart, flag, name, skip_sign, skip_word, trigger};
+use drafts::name_follows;
 use sc_text::ahead::word_follows;
 use sc_text::{ReadFault, Sign, Token, Word};
 use sqlite_items::Items;

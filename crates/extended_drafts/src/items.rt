@@ -11,10 +11,9 @@ ghost use Rattle.extended_drafts.specs.ExtendedText.{plain_body, plain, worded_b
 
 use crate::draft::{DraftItem, ItemBody};
 use chart_drafts::text_parts::{
-    Ahead, Part, RowPart, declared_kind, declared_role, last_name, name, name_follows,
-    role_follows, skip_sign, value,
+    Ahead, Part, RowPart, declared_kind, declared_role, last_name, name, skip_sign, value,
 };
-use drafts::{Declaration, Named, TextExpression};
+use drafts::{Declaration, Named, TextExpression, name_follows, role_follows};
 use sc_graph::Role;
 use sc_text::ahead::sign_follows;
 use sc_text::{ReadFault, Sign, Token};

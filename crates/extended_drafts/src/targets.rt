@@ -8,8 +8,8 @@ ghost use Rattle.extended_drafts.specs.Draft.{lead_of};
 ghost use Rattle.extended_drafts.specs.ExtendedText.{two_names, two_more, lead, last_lead, leading};
 
 use crate::draft::{DraftLead, HistoryWords};
-use chart_drafts::text_parts::{Ahead, name, name_follows, skip_sign};
-use drafts::Named;
+use chart_drafts::text_parts::{Ahead, name, skip_sign};
+use drafts::{Named, name_follows};
 use sc_text::{ReadFault, Sign};
 
 #[tactic(auto, using(chart_drafts::proofs::Parts::seq_stops_first, chart_drafts::proofs::Parts::seq_stops_second, chart_drafts::proofs::Parts::seq_gives), unfolding(crate::specs::ExtendedText::two_names))]

@@ -14,10 +14,9 @@ use crate::draft::{DraftCount, DraftDelay, DraftWay};
 use crate::effects::outcome;
 use chart_drafts::DraftTransition;
 use chart_drafts::text_parts::{
-    Ahead, join_word, name, name_follows, placed, skip_sign, tested_word, transition_follows,
-    trigger,
+    Ahead, join_word, name, placed, skip_sign, tested_word, transition_follows, trigger,
 };
-use drafts::TextExpression;
+use drafts::{TextExpression, name_follows};
 use sc_text::ahead::{behind, word_follows};
 use sc_text::{ReadFault, Sign, Word};
 use sqlite_items::Items;

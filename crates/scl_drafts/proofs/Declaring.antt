@@ -12,9 +12,10 @@ use Rattle.sc_text.specs.Expression.{text_tokens, before}
 use Rattle.sc_text.specs.Reading.{Stops, Takes}
 use Rattle.drafts.specs.declared.parts.Named.{Named}
 use Rattle.drafts.specs.declared.parts.Declaration.{Declaration}
+use Rattle.drafts.specs.Parts.{roles, kinds}
 use Rattle.scl_drafts.specs.Draft.{declared}
 use Rattle.scl_drafts.specs.Program.{Grows, name, semicolon, declaration}
-use Rattle.scl_drafts.specs.Inside.{TakesName, TakesRole, TakesKind, Adds, IsGoing, roles, kinds, one_declared}
+use Rattle.scl_drafts.specs.Inside.{TakesName, TakesRole, TakesKind, Adds, IsGoing, one_declared}
 use Rattle.scl_drafts.proofs.Names.{name_got}
 use Rattle.scl_drafts.proofs.Taking.{before_got, before_stops, before_stops_behind, pair_got, pair_stops_first, pair_stops_second}
 use Rattle.scl_drafts.proofs.Loops.{going_first, going_ends, going_over, going_stops, going_on}

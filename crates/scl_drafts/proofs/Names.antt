@@ -1,10 +1,9 @@
 -- Names among the tokens.
-use Rattle.std.proofs.Common.{◌≡◌, ℕ, zero, suc, ℤ, pos, negsuc, false, true, List, [], ◌∷◌, drop, get_or, refl, sym, ◌∙◌, ap}
+use Rattle.std.proofs.Common.{◌≡◌, ℕ, false, true, List, [], ◌∷◌, drop, get_or, refl, sym, ◌∙◌, ap}
 use Rattle.grammar.specs.Read.{Got, starts, read}
 use Rattle.sc_text.specs.declared.token.Token.{Token}
-use Rattle.sc_text.specs.declared.token.TokenKind.TheVariants as kind
 use Rattle.sc_text.specs.declared.read_fault.ReadFault.{ReadFault}
-use Rattle.sc_text.specs.Classes.{AName, class_of, same_class}
+use Rattle.sc_text.specs.Classes.{AName}
 use Rattle.sc_text.specs.Expression.{text_tokens}
 use Rattle.sc_text.specs.Reading.{Stops}
 use Rattle.sc_text.proofs.Steps.{wrong_at, one_fails, one_got}
@@ -12,11 +11,6 @@ use Rattle.drafts.specs.declared.parts.Named.{Named}
 use Rattle.drafts.specs.Parts.{name_of}
 use Rattle.scl_drafts.specs.Program.{name}
 use Rattle.scl_drafts.specs.Inside.{TakesName}
-
-pub number_is_no_name : (n : ℤ) → same_class AName (class_of (kind.Number n)) ≡ false
-number_is_no_name (pos zero) = refl
-number_is_no_name (pos (suc n)) = refl
-number_is_no_name (negsuc n) = refl
 
 pub no_name : (text : List Token) (end : ℕ) (f : ReadFault) → starts text_tokens (AName ∷ []) text ≡ false → f ≡ wrong_at end text
     → Stops end (read name text) f

@@ -8,6 +8,7 @@ use Rattle.sc_text.specs.Classes.{Class, AName, TheWord, TheSign}
 use Rattle.sc_text.specs.Phrases.{Phrase}
 use Rattle.sc_text.specs.Expression.{expression}
 use Rattle.sc_text.proofs.Shapes.{Is, expression_first, expression_tails, expression_is}
+use Rattle.drafts.specs.Parts.{roles}
 use Rattle.scl_drafts.specs.declared.statement.TextStatement.{TextStatement}
 use Rattle.scl_drafts.specs.Program.{Grows, assigned, labelled, named, goto, pause, simple, block, test, choice, branch, fork, Inner, NoMore, Nested, forking}
 use Rattle.scl_drafts.specs.Program.{statement, ifs_within, forks_within, thread, declaration, program, scl}
@@ -157,9 +158,6 @@ module _ (e : Grows Phrase) (h : IsExpression e) where
   thread_is ifs forks =
       statement_is e (forks_within e ifs forks) (ifs_within e (forks_within e ifs forks) ifs) h (forks_fit ifs forks)
       (ifs_fit (forks_within e ifs forks) (forks_fit ifs forks) ifs)
-
-abbrev roles : List Class
-roles = TheWord word.Input ∷ TheWord word.Output ∷ TheWord word.Local ∷ []
 
 declaration_is : Shaped declaration false roles []
 unfolding declaration

@@ -15,7 +15,7 @@ use Rattle.sc_text.specs.Expression.{text_tokens, after, before}
 use Rattle.drafts.specs.declared.parts.Named.{Named}
 use Rattle.drafts.specs.declared.parts.TextExpression.{TextExpression}
 use Rattle.drafts.specs.declared.parts.Declaration.{Declaration}
-use Rattle.drafts.specs.Parts.{named, expressed, role_of, kind_of}
+use Rattle.drafts.specs.Parts.{named, expressed, roles, kinds, role_of, kind_of}
 use Rattle.scl.specs.Rules.{fork_limit, if_limit}
 use Rattle.scl_drafts.specs.Statements.{Statements, branch_of}
 use Rattle.sc_values.specs.declared.value.Kind.{Kind}
@@ -75,12 +75,6 @@ pub record TakesKind (o : Outcome Token Token) (kind : Kind) (rest : List Token)
   pub token : Token
   pub is : o ≡ Got token rest
   pub writes : kind ≡ kind_of token.kind
-
-abbrev pub roles : List Class
-roles = TheWord word.Input ∷ TheWord word.Output ∷ TheWord word.Local ∷ []
-
-abbrev pub kinds : List Class
-kinds = TheWord word.Bool ∷ TheWord word.Int ∷ []
 
 abbrev pub one_declared : Token × (Token × Token) → List Declaration
 one_declared d = declared d ∷ []

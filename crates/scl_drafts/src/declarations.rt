@@ -6,15 +6,15 @@ ghost use Rattle.grammar.specs.Grammar.{one, many};
 ghost use Rattle.grammar.specs.Read.{read, starts};
 ghost use Rattle.sc_text.specs.Expression.{text_tokens};
 ghost use Rattle.sc_text.specs.Reading.{Stops};
-ghost use Rattle.drafts.specs.Parts.{role_of, kind_of};
+ghost use Rattle.drafts.specs.Parts.{roles, kinds};
 ghost use Rattle.scl_drafts.specs.Program.{declaration};
-ghost use Rattle.scl_drafts.specs.Inside.{Adds, TakesRole, TakesKind, roles, kinds, one_declared};
+ghost use Rattle.scl_drafts.specs.Inside.{Adds, TakesRole, TakesKind, one_declared};
 
 use crate::name::name;
-use drafts::Declaration;
+use drafts::{Declaration, kind_follows, kind_of, role_follows, role_of};
 use sc_graph::Role;
-use sc_text::ahead::{behind, past_sign, word_follows, wrong};
-use sc_text::{ReadFault, Sign, Token, TokenKind, Word};
+use sc_text::ahead::{behind, past_sign, wrong};
+use sc_text::{ReadFault, Sign, Token};
 use sc_values::Kind;
 use sqlite_items::Items;
 
@@ -65,14 +65,6 @@ fn declaration<'a>(
     Ok(after)
 }
 
-fn role_follows(tokens: &[Token]) -> bool
-    ensures { result ≡ starts text_tokens roles tokens.now }
-{
-    word_follows(tokens, Word::Input)
-        || word_follows(tokens, Word::Output)
-        || word_follows(tokens, Word::Local)
-}
-
 // The role that is next, and the tokens behind it. Err: none is next.
 #[tactic(auto, using(sc_text::proofs::Steps::one_fails))]
 fn role(tokens: &[Token], end: usize) -> Result<(Role, &[Token]), ReadFault>
@@ -89,22 +81,6 @@ fn role(tokens: &[Token], end: usize) -> Result<(Role, &[Token]), ReadFault>
     }
 }
 
-fn role_of(kind: TokenKind) -> Role
-    ensures { result ≡ role_of kind }
-{
-    match kind {
-        TokenKind::Word(Word::Input) => Role::Input,
-        TokenKind::Word(Word::Output) => Role::Output,
-        _ => Role::Local,
-    }
-}
-
-fn kind_follows(tokens: &[Token]) -> bool
-    ensures { result ≡ starts text_tokens kinds tokens.now }
-{
-    word_follows(tokens, Word::Bool) || word_follows(tokens, Word::Int)
-}
-
 // The kind that is next, and the tokens behind it. Err: none is next.
 #[tactic(auto, using(sc_text::proofs::Steps::one_fails))]
 fn kind(tokens: &[Token], end: usize) -> Result<(Kind, &[Token]), ReadFault>
@@ -118,14 +94,5 @@ fn kind(tokens: &[Token], end: usize) -> Result<(Kind, &[Token]), ReadFault>
     match tokens {
         [] => Err(wrong(tokens, end)),
         [next, rest @ ..] => Ok((kind_of(next.kind), rest)),
-    }
-}
-
-fn kind_of(kind: TokenKind) -> Kind
-    ensures { result ≡ kind_of kind }
-{
-    match kind {
-        TokenKind::Word(Word::Bool) => Kind::Bool,
-        _ => Kind::Int,
     }
 }

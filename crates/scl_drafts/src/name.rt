@@ -1,40 +1,17 @@
 //! Names among the tokens that are still to be read.
 
-ghost use Rattle.std.specs.Prelude.{◌≡◌, [], ◌∷◌, IsTrue, MatchResult};
-ghost use Rattle.grammar.specs.Read.{read, starts};
+ghost use Rattle.std.specs.Prelude.{◌≡◌, IsTrue, MatchResult};
+ghost use Rattle.grammar.specs.Read.{read};
 ghost use Rattle.sc_text.specs.Classes.{AName, class_of, same_class};
-ghost use Rattle.sc_text.specs.Expression.{text_tokens};
 ghost use Rattle.sc_text.specs.Reading.{Stops};
 ghost use Rattle.drafts.specs.Parts.{name_of};
 ghost use Rattle.scl_drafts.specs.Program.{name};
 ghost use Rattle.scl_drafts.specs.Inside.{TakesName};
 
-use drafts::Named;
+use drafts::{Named, name_follows};
 use sc_text::ahead::wrong;
 use sc_text::{ReadFault, Token, TokenKind};
 use sc_values::Name;
-
-/// Whether a name is next.
-pub fn name_follows(tokens: &[Token]) -> bool
-    ensures { result ≡ starts text_tokens (AName ∷ []) tokens.now }
-{
-    match tokens {
-        [] => false,
-        [next, ..] => is_name(next.kind),
-    }
-}
-
-#[tactic(auto, using(crate::proofs::Names::number_is_no_name))]
-fn is_name(kind: TokenKind) -> bool
-    ensures { result ≡ same_class AName (class_of kind) }
-{
-    match kind {
-        TokenKind::Name(_) => true,
-        TokenKind::Number(_) => false,
-        TokenKind::Word(_) => false,
-        TokenKind::Sign(_) => false,
-    }
-}
 
 /// The name that is next, with its place. Err: none is next.
 #[tactic(auto, using(crate::proofs::Names::no_name, crate::proofs::Names::name_taken))]

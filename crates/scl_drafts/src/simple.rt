@@ -7,9 +7,10 @@ ghost use Rattle.sc_text.specs.Reading.{Stops};
 ghost use Rattle.scl_drafts.specs.Program.{named, goto, pause, simple};
 ghost use Rattle.scl_drafts.specs.Inside.{Adds, alone};
 
-use crate::name::{name, name_follows};
+use crate::name::name;
 use crate::statement::TextStatement;
 use crate::value::value;
+use drafts::name_follows;
 use sc_text::ahead::{behind, past_sign, past_word, place, sign_follows, word_follows};
 use sc_text::{ReadFault, Sign, Token, Word};
 use sqlite_items::Items;

@@ -13,11 +13,10 @@ ghost use Rattle.scl_drafts.specs.Program.{block, test, choice, branch, fork};
 ghost use Rattle.scl_drafts.specs.Inside.{Adds, TakesValue, itself, alone, one_branch, statement_classes};
 ghost use Rattle.scl_drafts.specs.Within.{no_if, within};
 
-use crate::name::name_follows;
 use crate::simple::simple;
 use crate::statement::TextStatement;
 use crate::value::value;
-use drafts::TextExpression;
+use drafts::{TextExpression, name_follows};
 use sc_text::ahead::{behind, past_sign, past_word, place, too_deep, word_follows};
 use sc_text::{ReadFault, Sign, Token, Word};
 use sqlite_items::Items;

@@ -5,7 +5,7 @@ use Rattle.sc_text.specs.declared.read_fault.ReadFault.{ReadFault}
 use Rattle.sc_text.specs.Expression.{text_tokens}
 use Rattle.sc_text.specs.Reading.{Stops}
 use Rattle.scl_drafts.specs.Program.{declaration}
-use Rattle.scl_drafts.specs.Inside.{roles}
+use Rattle.drafts.specs.Parts.{roles}
 use Rattle.scl_drafts.proofs.Declaring.{declarations_end, declarations_stop}
 use Rattle.scl_drafts.proofs.declarations.declarations.Goals as goal
 

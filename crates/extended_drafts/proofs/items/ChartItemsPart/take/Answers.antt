@@ -1,6 +1,6 @@
 use Rattle.std.proofs.Common.{rules, ◌≡◌, true, false}
 use Rattle.grammar.specs.Read.{starts}
-use Rattle.chart_drafts.specs.ChartText.{roles}
+use Rattle.drafts.specs.Parts.{roles}
 use Rattle.sc_text.specs.Expression.{text_tokens}
 use Rattle.chart_drafts.proofs.Same.{same_reading}
 use Rattle.extended_drafts.proofs.ItemParts.{is_plain, is_worded}
