@@ -5,3 +5,4 @@ mod Opening
 mod Shown
 pub mod Nested
 mod Rows
+mod Lined

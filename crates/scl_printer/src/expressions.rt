@@ -1,6 +1,6 @@
 //! Writing an expression.
 
-ghost use Rattle.std.specs.Prelude.{◌≡◌};
+ghost use Rattle.std.specs.Prelude.{◌≡◌, ◌++◌};
 ghost use Rattle.std.specs.Fmt.{signed_decimal};
 ghost use Rattle.scl_printer.specs.Expressions.{value_text, variable_text, prefix_text, divisor_text, opening_text};
 ghost use Rattle.scl_printer.specs.Expressions.{infix_text, closing_text, is_infix, shown, expression_text};
@@ -43,7 +43,7 @@ fn write_tree<W: Sink>(
 {
     match expression {
         Expr::Literal(value) => write_value(buffered, sink, *value),
-        Expr::Load(variable) => write_variable(buffered, sink, variables, *variable),
+        Expr::Load(variable) => buffered.put_text(sink, variable_text(variables, *variable)),
         Expr::Unary(operator, operand) => {
             let operand = operand.get();
             let is_inner = stands_enclosed(parentheses, unary_takes_not(*operator), operand);
@@ -72,19 +72,13 @@ fn write_tree<W: Sink>(
     }
 }
 
-/// Writes the name of the variable of this number.
-pub(crate) fn write_variable<W: Sink>(
-    buffered: &mut Buffered,
-    sink: &mut W,
-    variables: &[Variable],
-    variable: VariableId,
-)
-    ensures { Writes (page (W.taken sink.old) (W.failures sink.old) buffered.old)
-        (page (W.taken sink.new) (W.failures sink.new) buffered.new) (variable_text variables.now variable) }
+/// The name of the variable of this number. Empty: there is none.
+pub fn variable_text(variables: &[Variable], variable: VariableId) -> &str
+    ensures { result.now ≡ variable_text variables.now variable }
 {
     match at(variables, variable as usize) {
-        Some(variable) => buffered.put(sink, variable.name.as_bytes()),
-        None => {}
+        Some(variable) => variable.name.as_str(),
+        None => "",
     }
 }
 
@@ -107,20 +101,23 @@ fn write_number<W: Sink>(buffered: &mut Buffered, sink: &mut W, number: i32)
     buffered.put_text(sink, buffer.format(number));
 }
 
+// Writes a sign, and a number behind it.
+fn write_behind<W: Sink>(buffered: &mut Buffered, sink: &mut W, sign: &str, number: i32)
+    ensures { Writes (page (W.taken sink.old) (W.failures sink.old) buffered.old)
+        (page (W.taken sink.new) (W.failures sink.new) buffered.new) (sign.now ++ signed_decimal number) }
+{
+    buffered.put_text(sink, sign);
+    write_number(buffered, sink, number);
+}
+
 // Writes what stands behind the operand of an operator: where it divides, its sign and the divisor.
 fn write_divisor<W: Sink>(buffered: &mut Buffered, sink: &mut W, operator: UnaryOperator)
     ensures { Writes (page (W.taken sink.old) (W.failures sink.old) buffered.old)
         (page (W.taken sink.new) (W.failures sink.new) buffered.new) (divisor_text operator) }
 {
     match operator {
-        UnaryOperator::Divide(divisor) => {
-            buffered.put_text(sink, " / ");
-            write_number(buffered, sink, divisor.number());
-        }
-        UnaryOperator::Remainder(divisor) => {
-            buffered.put_text(sink, " % ");
-            write_number(buffered, sink, divisor.number());
-        }
+        UnaryOperator::Divide(divisor) => write_behind(buffered, sink, " / ", divisor.number()),
+        UnaryOperator::Remainder(divisor) => write_behind(buffered, sink, " % ", divisor.number()),
         UnaryOperator::Negate | UnaryOperator::Not => {}
     }
 }

@@ -6,7 +6,7 @@ ghost use Rattle.scl_printer.specs.Layout.{indentation, line, role_prefix, kind_
 ghost use Rattle.scl_printer.specs.Inside.Writing.{Writes, page, when, has_any};
 
 use crate::buffered::Buffered;
-use crate::expressions::{write_expression, write_variable};
+use crate::expressions::{variable_text, write_expression};
 use sc_graph::{Role, Variable, VariableId};
 use sc_values::{Expr, Kind, Name, Sink};
 use scl::Statement;
@@ -62,7 +62,7 @@ pub(crate) fn write_assignment<W: Sink>(
         ++ (codes " = " ++ (expression_text variables.now value.now ++ codes ";"))) level) }
 {
     indent(buffered, sink, level);
-    write_variable(buffered, sink, variables, variable);
+    buffered.put_text(sink, variable_text(variables, variable));
     buffered.put_text(sink, " = ");
     write_expression(buffered, sink, variables, value);
     buffered.put_text(sink, ";\n");

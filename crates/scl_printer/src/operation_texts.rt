@@ -4,17 +4,15 @@ ghost use Rattle.std.specs.Prelude.{◌≡◌, IfOk, List, string_bytes};
 ghost use Rattle.sc_graph.specs.declared.program.Variable.{Variable};
 ghost use Rattle.sc_values.specs.declared.expression.Expr.TheOpen as tree;
 ghost use Rattle.scl_printer.specs.Expressions.{operand, prefix_text, divisor_text, shown_step, value_text};
-ghost use Rattle.scl_printer.specs.Expressions.{variable_text};
 ghost use Rattle.scl_printer.specs.Inside.Seen.{seen};
 ghost use Rattle.scl_printer.specs.declared.parentheses.Parentheses.{Parentheses};
 
-use crate::expressions::{closing_text, infix_text, opening_text, prefix_text};
+use crate::expressions::{closing_text, infix_text, opening_text, prefix_text, variable_text};
 use crate::parentheses::{
     Form, Parentheses, binary_form, binary_takes_not, is_enclosed, unary_form, unary_takes_not,
 };
 use sc_graph::{Variable, VariableId};
 use sc_values::{BinaryOperator, UnaryOperator, Value};
-use sqlite_items::at;
 use std::alloc::{AllocError, Global};
 
 /// The text of an expression, and what it is to an operator around it.
@@ -46,15 +44,8 @@ pub(crate) fn load(
 ) -> Result<Shown, AllocError>
     ensures { IfOk result (λ s. (p : Parentheses) → seen s ≡ shown_step p variables.now (tree.Load variable)) }
 {
-    let text = match at(variables, variable as usize) {
-        Some(variable) => {
-            let name = variable.name;
-            format!(in alloc; "{name}")?
-        }
-        None => String::new(alloc),
-    };
     Ok(Shown {
-        text,
+        text: String::from_str(alloc, variable_text(variables, variable))?,
         form: Form::Whole,
     })
 }
@@ -94,8 +85,8 @@ pub(crate) fn unary(
     })
 }
 
-// What stands behind the operand of an operator: where it divides, its sign and the divisor.
-fn divisor_text(alloc: Global, operator: UnaryOperator) -> Result<String, AllocError>
+/// What stands behind the operand of an operator: where it divides, its sign and the divisor. Err: memory was refused.
+pub fn divisor_text(alloc: Global, operator: UnaryOperator) -> Result<String, AllocError>
     ensures { IfOk result (λ text. string_bytes text ≡ divisor_text operator) }
 {
     match operator {

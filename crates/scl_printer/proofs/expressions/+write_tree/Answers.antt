@@ -21,7 +21,7 @@ returns-in-Unary g t c =
     let whole : (shown p vs c.args.expression.now).text ≡ _ = ap (λ e. (shown p vs e).text) c.in-Unary.is ∙ ap (λ s. s.text)
     (shown_unary p vs c.in-Unary.operator a) in
     written_as _ _ _ _ (sym whole)
-    (follows _ _ _ _ _ (written_as _ _ _ _ c.prefix_text.ensures c.put_text.ensures)
+    (follows _ _ _ _ _ (written_as _ _ _ _ c.prefix_text.ensures c.put_text-in-Unary.ensures)
     (follows _ _ _ _ _
     (operand_written p takes (shown p vs a) _ _ _ _ _ inner c.put_if.ensures (written_as _ _ _ _ (ap (λ e.
     (shown p vs e).text) c.get-operand.ensures) c.write_tree.ensures) c.put_if-in-Unary.ensures)
