@@ -1,5 +1,5 @@
-//! Texts of the charts that a text becomes: of the core chart of a chart, and of the chart to which an extended chart is
-//! reduced. Each is read again before it is given.
+//! Texts of the charts that a text becomes: of the core chart of a chart, and of the chart to which an extended chart
+//! is reduced. Each is read again before it is given.
 #![tactic(auto)]
 
 mod cores;
