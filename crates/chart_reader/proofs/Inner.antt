@@ -1,8 +1,8 @@
 -- What is inside narrow regions is narrow.
-use Rattle.std.proofs.Common.{◌≡◌, ◌≢◌, ℕ, zero, suc, ◌+◌, ◌-◌, ◌<◌, List, [], ◌∷◌, ◌++◌, drop, length, map, get_or, refl, sym, ◌∙◌, ap, subst, arith}
-use Rattle.std.proofs.lemmas.List.{append_assoc}
+use Rattle.std.proofs.Common.{◌≡◌, ◌≢◌, ℕ, zero, suc, ◌-◌, ◌<◌, List, [], ◌++◌, length, get_or, refl, sym, ◌∙◌, ap, subst, arith}
+use Rattle.std.proofs.lemmas.List.{append-nil}
 use Rattle.std.proofs.lemmas.Option.{slice_get_read}
-use Rattle.drafts.proofs.PartsInOrder.{drop_is}
+use Rattle.core_charts.specs.declared.region.Region.{Region}
 use Rattle.chart_drafts.specs.declared.draft.DraftRegion.{DraftRegion}
 use Rattle.chart_drafts.specs.declared.draft.DraftRegion.TheViews.{out-DraftRegion, out-DraftState}
 use Rattle.chart_drafts.specs.declared.draft.DraftState.{DraftState}
@@ -23,14 +23,11 @@ pub regions_narrow : (levels : ℕ) (states : List DraftState) (i : ℕ) (s : Dr
 regions_narrow levels states i s are below here = are.inside i s (slice_get_read states (length states) i s refl below here)
 
 -- none stand where none may
-pub none_there : (variables : List (List ℕ)) (levels : ℕ) (regions : List DraftRegion) → AreNarrow levels regions → levels ≡ 0
-    → [] ≡ regions_of variables regions
-none_there variables zero regions are none = sym (ap (regions_of variables) are)
-none_there variables (suc levels) regions are none = absurd cc
+pub none_narrow : (levels : ℕ) (regions : List DraftRegion) → AreNarrow levels regions → levels ≡ 0 → regions ≡ []
+none_narrow zero regions are none = are
+none_narrow (suc levels) regions are none = absurd cc
 
--- one more of a list that is gone over
-pub one_more_made : {A B : Type 0} (f : A → B) (done : List B) (xs : List A) (i : ℕ) (x : A) → i < length xs → x ≡ get_or xs i x
-    → (done ++ f x ∷ []) ++ map f (drop (i + 1) xs) ≡ done ++ map f (drop i xs)
-one_more_made f done xs i x below here =
-    append_assoc done (f x ∷ []) (map f (drop (i + 1) xs))
-    ∙ ap (λ ys. done ++ map f ys) (sym (drop_is xs i x (slice_get_read xs (length xs) i x refl below here)))
+pub none_put : (variables : List (List ℕ)) (levels : ℕ) (regions : List DraftRegion) (made : List Region) → AreNarrow levels regions → levels ≡ 0
+    → made ≡ made ++ regions_of variables regions
+none_put variables levels regions made are none =
+    sym (append-nil made) ∙ ap (λ texts. made ++ regions_of variables texts) (sym (none_narrow levels regions are none))

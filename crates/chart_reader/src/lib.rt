@@ -13,4 +13,4 @@ pub use chart::chart_of;
 pub use laws::chart_texts_have_one_answer;
 pub use read::read_chart;
 pub use states::StateScope;
-pub use transitions::{effects, trigger};
+pub use transitions::{effects, put_effects, trigger};

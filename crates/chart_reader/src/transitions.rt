@@ -1,6 +1,6 @@
 //! The transitions of a draft, with their names looked up.
 
-ghost use Rattle.std.specs.Prelude.{◌≡◌, ◌≤◌, IfOk, length, map, option_map};
+ghost use Rattle.std.specs.Prelude.{◌≡◌, ◌≤◌, [], ◌∷◌, ◌++◌, IfOk, OnOk, length, map, option_map};
 ghost use Rattle.sc_graph.specs.Limits.{variable_limit};
 ghost use Rattle.drafts.specs.Flaws.{variable_names};
 ghost use Rattle.drafts.specs.Resolved.{expression_of};
@@ -15,43 +15,50 @@ use sc_values::Expr;
 use sqlite_items::Items;
 use std::alloc::{AllocError, Global};
 
-/// The transitions of a state of a region with these states, over these variables. Err: memory was refused.
-pub(crate) fn transitions(
+/// Puts the transitions of a state of a region with these states, over these variables, behind others. Err: memory was
+/// refused.
+pub(crate) fn put_transitions(
     alloc: Global,
     scope: &Scope,
     states: &StateScope,
     texts: &[DraftTransition],
-) -> Result<Items<Transition>, AllocError>
+    made: &mut Items<Transition>,
+) -> Result<(), AllocError>
     requires { length scope.now.variables.now ≤ variable_limit }
-    ensures { IfOk result (λ all. all ≡
+    ensures { OnOk result (made.new ≡ made.old ++
         map (transition_of (variable_names scope.now.variables.now) (state_names states.now.states.now)) texts.now) }
 {
-    let mut all = Items::new(alloc);
     for text in texts {
-        all.push(transition(alloc, scope, states, text)?)?;
+        put_transition(alloc, scope, states, text, made)?;
     }
-    Ok(all)
+    Ok(())
 }
 
-fn transition(
+fn put_transition(
     alloc: Global,
     scope: &Scope,
     states: &StateScope,
     text: &DraftTransition,
-) -> Result<Transition, AllocError>
+    made: &mut Items<Transition>,
+) -> Result<(), AllocError>
     requires { length scope.now.variables.now ≤ variable_limit }
-    ensures { IfOk result (λ one. one ≡
-        transition_of (variable_names scope.now.variables.now) (state_names states.now.states.now) text.now) }
+    ensures { OnOk result (made.new ≡ made.old ++
+        transition_of (variable_names scope.now.variables.now) (state_names states.now.states.now) text.now ∷ []) }
 {
     let trigger = trigger(alloc, scope, &text.trigger)?;
-    let effects = effects(alloc, scope, text.effects.as_slice())?;
-    Ok(Transition {
-        kind: text.kind,
-        immediate: text.immediate,
-        trigger,
-        effects,
-        target: states.number(text.target.name),
-    })
+    match effects(alloc, scope, text.effects.as_slice()) {
+        Ok(effects) => made.push(Transition {
+            kind: text.kind,
+            immediate: text.immediate,
+            trigger,
+            effects,
+            target: states.number(text.target.name),
+        }),
+        Err(error) => {
+            drop(trigger);
+            Err(error)
+        }
+    }
 }
 
 /// A trigger, over these variables. Err: memory was refused.
@@ -79,19 +86,48 @@ pub fn effects(
     requires { length scope.now.variables.now ≤ variable_limit }
     ensures { IfOk result (λ all. all ≡ map (effect_of (variable_names scope.now.variables.now)) texts.now) }
 {
-    let mut all = Items::new(alloc);
-    for text in texts {
-        all.push(effect(alloc, scope, text)?)?;
+    let mut made = Items::new(alloc);
+    match put_effects(alloc, scope, texts, &mut made) {
+        Ok(()) => Ok(made),
+        Err(error) => {
+            drop(made);
+            Err(error)
+        }
     }
-    Ok(all)
 }
 
-fn effect(alloc: Global, scope: &Scope, text: &DraftEffect) -> Result<Effect, AllocError>
+/// Puts effects, over these variables, behind others. Err: memory was refused.
+pub fn put_effects(
+    alloc: Global,
+    scope: &Scope,
+    texts: &[DraftEffect],
+    made: &mut Items<Effect>,
+) -> Result<(), AllocError>
     requires { length scope.now.variables.now ≤ variable_limit }
-    ensures { IfOk result (λ one. one ≡ effect_of (variable_names scope.now.variables.now) text.now) }
+    ensures { OnOk result (made.new ≡
+        made.old ++ map (effect_of (variable_names scope.now.variables.now)) texts.now) }
 {
-    Ok(Effect {
-        variable: scope.number(text.variable.name),
-        value: scope.resolved(alloc, &text.value)?,
-    })
+    for text in texts {
+        put_effect(alloc, scope, text, made)?;
+    }
+    Ok(())
+}
+
+fn put_effect(
+    alloc: Global,
+    scope: &Scope,
+    text: &DraftEffect,
+    made: &mut Items<Effect>,
+) -> Result<(), AllocError>
+    requires { length scope.now.variables.now ≤ variable_limit }
+    ensures { OnOk result (made.new ≡
+        made.old ++ effect_of (variable_names scope.now.variables.now) text.now ∷ []) }
+{
+    match scope.resolved(alloc, &text.value) {
+        Ok(value) => made.push(Effect {
+            variable: scope.number(text.variable.name),
+            value,
+        }),
+        Err(error) => Err(error),
+    }
 }
