@@ -5,8 +5,8 @@ ghost use Rattle.image_listing.specs.Cells.{left_cell, number_cell, right_cell, 
 
 use std::alloc::{AllocError, Global};
 
-// Puts so many spaces behind a text.
-fn put_spaces(text: &mut String, count: usize) -> Result<(), AllocError>
+/// Puts so many spaces behind a text. Err: memory was refused.
+pub(crate) fn put_spaces(text: &mut String, count: usize) -> Result<(), AllocError>
     ensures { OnOk result (string_bytes text.new ≡ string_bytes text.old ++ spaces count) }
 {
     for _ in 0..count {
@@ -15,29 +15,49 @@ fn put_spaces(text: &mut String, count: usize) -> Result<(), AllocError>
     Ok(())
 }
 
+/// Puts a piece behind a text, with spaces behind it up to the width. Err: memory was refused.
+pub(crate) fn put_left(text: &mut String, width: usize, piece: &str) -> Result<(), AllocError>
+    ensures { OnOk result (string_bytes text.new ≡ string_bytes text.old ++ left_cell width piece.now) }
+{
+    text.push_str(piece)?;
+    put_spaces(text, width.saturating_sub(piece.len()))
+}
+
+/// Puts a piece behind a text, with spaces before it up to the width. Err: memory was refused.
+pub(crate) fn put_right(text: &mut String, width: usize, piece: &str) -> Result<(), AllocError>
+    ensures { OnOk result (string_bytes text.new ≡ string_bytes text.old ++ right_cell width piece.now) }
+{
+    put_spaces(text, width.saturating_sub(piece.len()))?;
+    text.push_str(piece)
+}
+
+/// Puts a number behind a text, with spaces before it up to the width. Err: memory was refused.
+pub(crate) fn put_number(
+    alloc: Global,
+    text: &mut String,
+    width: usize,
+    number: u32,
+) -> Result<(), AllocError>
+    ensures { OnOk result (string_bytes text.new ≡ string_bytes text.old ++ number_cell width number) }
+{
+    let digits = format!(in alloc; "{number}")?;
+    put_right(text, width, digits.as_str())
+}
+
 /// The text, with spaces behind it up to the width; a longer one stays as it is. Err: memory was refused.
 pub fn left_cell(alloc: Global, width: usize, text: &str) -> Result<String, AllocError>
     ensures { IfOk result (λ cell. string_bytes cell ≡ left_cell width text.now) }
 {
-    let mut cell = String::from_str(alloc, text)?;
-    put_spaces(&mut cell, width.saturating_sub(text.len()))?;
-    Ok(cell)
-}
-
-/// The text, with spaces before it up to the width.
-pub(crate) fn right_cell(alloc: Global, width: usize, text: &str) -> Result<String, AllocError>
-    ensures { IfOk result (λ cell. string_bytes cell ≡ right_cell width text.now) }
-{
     let mut cell = String::new(alloc);
-    put_spaces(&mut cell, width.saturating_sub(text.len()))?;
-    cell.push_str(text)?;
+    put_left(&mut cell, width, text)?;
     Ok(cell)
 }
 
-/// The number, with spaces before it up to the width.
+/// The number, with spaces before it up to the width. Err: memory was refused.
 pub(crate) fn number_cell(alloc: Global, width: usize, number: u32) -> Result<String, AllocError>
     ensures { IfOk result (λ cell. string_bytes cell ≡ number_cell width number) }
 {
-    let digits = format!(in alloc; "{number}")?;
-    right_cell(alloc, width, digits.as_str())
+    let mut cell = String::new(alloc);
+    put_number(alloc, &mut cell, width, number)?;
+    Ok(cell)
 }

@@ -1,9 +1,9 @@
 //! The lines of protocol edges.
 
-use crate::cells::right_cell;
+use crate::cells::put_right;
 use crate::runs::{Runs, run_text};
 use conflict_edges::Edges;
-use sc_graph::{NodeId, Program, Step, VariableId};
+use sc_graph::{NodeId, Program, Step, Variable, VariableId};
 use std::alloc::{AllocError, Global};
 
 // How a step writes a variable.
@@ -77,6 +77,12 @@ fn goes_on(program: &Program, writers: Writers, node: NodeId, writing: Access) -
         && program.owner(writers.last) == program.owner(node)
 }
 
+// Puts the numbers of these nodes behind a text.
+fn put_numbers(alloc: Global, text: &mut String, writers: Writers) -> Result<(), AllocError> {
+    let numbers = run_text(alloc, writers.first, writers.last)?;
+    put_right(text, 5, numbers.as_str())
+}
+
 // Puts the line of the edges from these nodes behind a text, if there are edges.
 fn put_line(
     alloc: Global,
@@ -88,10 +94,11 @@ fn put_line(
     if behind.is_empty() {
         return Ok(());
     }
-    let numbers = run_text(alloc, writers.first, writers.last)?;
-    let first = right_cell(alloc, 5, numbers.as_str())?;
-    let line = format!(in alloc; "    {first} ->{behind}\n")?;
-    text.push_str(line.as_str())
+    text.push_str("    ")?;
+    put_numbers(alloc, text, writers)?;
+    text.push_str(" ->")?;
+    text.push_str(behind.as_str())?;
+    text.push_str("\n")
 }
 
 // The lines of the edges from nodes that write a variable.
@@ -130,6 +137,14 @@ fn of_variable(
     Ok(text)
 }
 
+// Puts the name of a variable, and below it these lines, behind a text.
+fn put_part(text: &mut String, variable: &Variable, lines: &str) -> Result<(), AllocError> {
+    text.push_str("  ")?;
+    text.push_str(variable.name.as_str())?;
+    text.push_str("\n")?;
+    text.push_str(lines)
+}
+
 /// The lines of protocol edges: for each variable that has some its name, and below it a line for each row of nodes of
 /// one thread that write it in one way, with the nodes to which edges lead from each of them. Err: memory was refused.
 pub(crate) fn edges_text(
@@ -142,9 +157,7 @@ pub(crate) fn edges_text(
     for variable in program.variables() {
         let lines = of_variable(alloc, program, edges, number)?;
         if !lines.is_empty() {
-            let name = variable.name;
-            let part = format!(in alloc; "  {name}\n{lines}")?;
-            text.push_str(part.as_str())?;
+            put_part(&mut text, variable, lines.as_str())?;
         }
         number = number.saturating_add(1);
     }

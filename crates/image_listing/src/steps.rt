@@ -1,15 +1,14 @@
 //! What a node does, as text.
 
 ghost use Rattle.std.specs.Prelude.{◌≡◌, IfOk, List, string_bytes};
-ghost use Rattle.scl_printer.specs.Expressions.{variable_text};
 ghost use Rattle.sc_values.specs.Code.{tree_of};
 ghost use Rattle.image_listing.specs.Steps.{assigned_text, code_text, combination, combined_text, numbers_text};
 ghost use Rattle.image_listing.specs.Steps.{step_text, updated_text};
 
 use sc_graph::{Step, Variable, VariableId};
 use sc_values::{Code, Combination, Expr, tree_of};
-use scl_printer::text_of;
-use sqlite_items::{Boxed, at};
+use scl_printer::{text_of, variable_text};
+use sqlite_items::Boxed;
 use std::alloc::{AllocError, Global};
 
 /// What a node with this step does, and at which node its thread goes on: `x = x + 1 -> 4`, `if (A) -> 7 else 9`.
@@ -65,7 +64,7 @@ fn assigned(
 ) -> Result<String, AllocError>
     ensures { IfOk result (λ text. string_bytes text ≡ assigned_text variables.now variable code.now next) }
 {
-    let name = name_text(alloc, variables, variable)?;
+    let name = variable_text(variables, variable);
     let value = code_text(alloc, variables, code)?;
     format!(in alloc; "{name} = {value} -> {next}")
 }
@@ -80,7 +79,7 @@ fn updated(
 ) -> Result<String, AllocError>
     ensures { IfOk result (λ text. string_bytes text ≡ updated_text variables.now variable combine code.now next) }
 {
-    let name = name_text(alloc, variables, variable)?;
+    let name = variable_text(variables, variable);
     let value = combined_text(alloc, variables, variable, combine, code)?;
     format!(in alloc; "{name} = {value} -> {next}")
 }
@@ -117,22 +116,6 @@ fn combination(
 {
     let present = Boxed::new(alloc, Expr::Load(variable))?;
     Ok(Expr::Binary(combine.operator(), present, Boxed::new(alloc, by)?))
-}
-
-fn name_text(
-    alloc: Global,
-    variables: &[Variable],
-    variable: VariableId,
-) -> Result<String, AllocError>
-    ensures { IfOk result (λ text. string_bytes text ≡ variable_text variables.now variable) }
-{
-    match at(variables, variable as usize) {
-        Some(variable) => {
-            let name = variable.name;
-            format!(in alloc; "{name}")
-        }
-        None => Ok(String::new(alloc)),
-    }
 }
 
 // The text of the expression that a code spells.

@@ -1,17 +1,26 @@
 //! The lines of variables.
 
-use crate::cells::{left_cell, number_cell};
+use crate::cells::{put_left, put_number};
 use crate::words::{kind_text, role_text};
 use sc_graph::Variable;
 use std::alloc::{AllocError, Global};
 
-// The line of a variable: number, role, kind and name.
-fn variable_text(alloc: Global, number: u32, variable: &Variable) -> Result<String, AllocError> {
-    let number = number_cell(alloc, 5, number)?;
-    let role = left_cell(alloc, 6, role_text(variable.role))?;
-    let kind = left_cell(alloc, 4, kind_text(variable.kind))?;
-    let name = variable.name;
-    format!(in alloc; "  {number}  {role}  {kind}  {name}\n")
+// Puts the line of a variable behind a text: number, role, kind and name.
+fn put_variable(
+    alloc: Global,
+    text: &mut String,
+    number: u32,
+    variable: &Variable,
+) -> Result<(), AllocError> {
+    text.push_str("  ")?;
+    put_number(alloc, text, 5, number)?;
+    text.push_str("  ")?;
+    put_left(text, 6, role_text(variable.role))?;
+    text.push_str("  ")?;
+    put_left(text, 4, kind_text(variable.kind))?;
+    text.push_str("  ")?;
+    text.push_str(variable.name.as_str())?;
+    text.push_str("\n")
 }
 
 /// The lines of variables, each with two spaces before it.
@@ -19,8 +28,7 @@ pub(crate) fn variables_text(alloc: Global, variables: &[Variable]) -> Result<St
     let mut text = String::new(alloc);
     let mut number: u32 = 0;
     for variable in variables {
-        let line = variable_text(alloc, number, variable)?;
-        text.push_str(line.as_str())?;
+        put_variable(alloc, &mut text, number, variable)?;
         number = number.saturating_add(1);
     }
     Ok(text)
