@@ -351,10 +351,13 @@ fn asked_of<'a>(words: &'a [String]) -> Option<Asking<'a>>
 // What is shown for words that ask for nothing.
 fn why_unread(alloc: Global, words: &[String]) -> Result<Unread, AllocError> {
     match sct_command(alloc)?.try_get_matches_from(words) {
-        Ok(_) => Ok(Unread::Shown {
-            text: String::from_str(alloc, "error: no such command\n")?,
-            asked: false,
-        }),
+        Ok(matches) => {
+            drop(matches);
+            Ok(Unread::Shown {
+                text: String::from_str(alloc, "error: no such command\n")?,
+                asked: false,
+            })
+        }
         Err(error) => Ok(shown(alloc, &error)),
     }
 }

@@ -1,10 +1,11 @@
 //! The words behind a verb, one after the other: its options with their values, and the names of files.
 
-ghost use Rattle.std.specs.Prelude.{◌≡◌, map, option_map, string_bytes};
+ghost use Rattle.std.specs.Prelude.{◌≡◌, Some, map, option_map, string_bytes};
 ghost use Rattle.command_words.specs.Said.{chart_in, names_seen, said_seen, source_in, step, workers_in, workers_named};
 ghost use Rattle.command_words.specs.Said.{by_file, ended, opened, read_on, said_by, start, valued, with_name};
 ghost use Rattle.command_words.specs.Said.{explained, in_json, is_option, named, warned};
 ghost use Rattle.command_words.specs.Inside.Flags.{flagged};
+ghost use Rattle.command_words.specs.Inside.Taking.{taken};
 ghost use Rattle.command_words.specs.Said.{by_rule, from_in, ruled, rules_seen, save_in};
 ghost use Rattle.command_words.specs.Said.{with_chart, with_source, with_workers};
 
@@ -150,135 +151,126 @@ impl<'a> Said<'a> {
         }
     }
 
-    // With the number of workers, which is said once.
-    fn with_workers(self, workers: Workers) -> Option<Said<'a>>
-        ensures { option_map said_seen result ≡ with_workers (said_seen self.entry) workers.number }
+    // Takes the number of workers, which is said once.
+    fn with_workers(&mut self, workers: Workers) -> bool
+        ensures { taken result (said_seen self.new) ≡ with_workers (said_seen self.old) workers.number }
     {
-        match self.workers {
-            Some(_) => None,
-            None => {
-                let mut said = self;
-                said.next = Next::Any;
-                said.workers = Some(workers);
-                Some(said)
+        if self.workers.is_some() {
+            return false;
+        }
+        self.next = Next::Any;
+        self.workers = Some(workers);
+        true
+    }
+
+    // Takes the source, which is said once.
+    fn with_source(&mut self, source: &'a str) -> bool
+        ensures { taken result (said_seen self.new) ≡ with_source (said_seen self.old) source.now }
+    {
+        if self.source.is_some() {
+            return false;
+        }
+        self.next = Next::Any;
+        self.source = Some(source);
+        true
+    }
+
+    // Takes the chart, which is said once.
+    fn with_chart(&mut self, chart: &'a str) -> bool
+        ensures { taken result (said_seen self.new) ≡ with_chart (said_seen self.old) chart.now }
+    {
+        if self.chart.is_some() {
+            return false;
+        }
+        self.next = Next::Any;
+        self.chart = Some(chart);
+        true
+    }
+
+    // Takes that words are wanted behind a fault, which is said once.
+    fn explained(&mut self) -> bool
+        ensures { taken result (said_seen self.new) ≡ explained (said_seen self.old) }
+    {
+        let is_new = !self.explains;
+        self.explains = true;
+        is_new
+    }
+
+    // Takes that JSON is wanted, which is said once.
+    fn in_json(&mut self) -> bool
+        ensures { taken result (said_seen self.new) ≡ in_json (said_seen self.old) }
+    {
+        let is_new = !self.json;
+        self.json = true;
+        is_new
+    }
+
+    // Takes that warnings are wanted, which is said once.
+    fn warned(&mut self) -> bool
+        ensures { taken result (said_seen self.new) ≡ warned (said_seen self.old) }
+    {
+        let is_new = !self.warns;
+        self.warns = true;
+        is_new
+    }
+
+    // Takes one more name.
+    fn named(&mut self, name: &'a str) -> bool
+        ensures { taken result (said_seen self.new) ≡ named (said_seen self.old) name.now }
+    {
+        match with_name(self.names, name) {
+            Some(names) => {
+                self.names = names;
+                true
             }
+            None => false,
         }
     }
 
-    // With the source, which is said once.
-    fn with_source(self, source: &'a str) -> Option<Said<'a>>
-        ensures { option_map said_seen result ≡ with_source (said_seen self.entry) source.now }
+    // Takes these rules of a run, where they can be said.
+    fn ruled(&mut self, rules: Option<RunRules<'a>>) -> bool
+        ensures { taken result (said_seen self.new)
+            ≡ ruled (said_seen self.old) (option_map rules_seen rules.entry) }
     {
-        match self.source {
-            Some(_) => None,
-            None => {
-                let mut said = self;
-                said.next = Next::Any;
-                said.source = Some(source);
-                Some(said)
+        match rules {
+            Some(rules) => {
+                self.next = Next::Any;
+                self.rules = rules;
+                true
             }
+            None => false,
         }
     }
 
-    // With the chart, which is said once.
-    fn with_chart(self, chart: &'a str) -> Option<Said<'a>>
-        ensures { option_map said_seen result ≡ with_chart (said_seen self.entry) chart.now }
+    // Takes an option that says in the same word where a run begins or is kept.
+    fn by_rule(&mut self, word: &'a str) -> bool
+        ensures { taken result (said_seen self.new) ≡ by_rule (said_seen self.old) word.now }
     {
-        match self.chart {
-            Some(_) => None,
-            None => {
-                let mut said = self;
-                said.next = Next::Any;
-                said.chart = Some(chart);
-                Some(said)
-            }
+        if let Some(name) = from_in(word) {
+            return self.ruled(self.rules.begun_in(name));
+        }
+        match save_in(word) {
+            Some(name) => self.ruled(self.rules.kept_in(name)),
+            None => false,
         }
     }
 
-    // With words wanted behind a fault, which is said once.
-    fn explained(self) -> Option<Said<'a>>
-        ensures { option_map said_seen result ≡ explained (said_seen self.entry) }
+    // Takes an option that says a file in the same word.
+    fn by_file(&mut self, word: &'a str) -> bool
+        ensures { taken result (said_seen self.new) ≡ by_file (said_seen self.old) word.now }
     {
-        if self.explains {
-            return None;
+        if let Some(source) = source_in(word) {
+            return self.with_source(source);
         }
-        let mut said = self;
-        said.explains = true;
-        Some(said)
-    }
-
-    // With JSON wanted, which is said once.
-    fn in_json(self) -> Option<Said<'a>>
-        ensures { option_map said_seen result ≡ in_json (said_seen self.entry) }
-    {
-        if self.json {
-            return None;
-        }
-        let mut said = self;
-        said.json = true;
-        Some(said)
-    }
-
-    // With warnings wanted, which is said once.
-    fn warned(self) -> Option<Said<'a>>
-        ensures { option_map said_seen result ≡ warned (said_seen self.entry) }
-    {
-        if self.warns {
-            return None;
-        }
-        let mut said = self;
-        said.warns = true;
-        Some(said)
-    }
-
-    // With one more name.
-    fn named(self, name: &'a str) -> Option<Said<'a>>
-        ensures { option_map said_seen result ≡ named (said_seen self.entry) name.now }
-    {
-        let names = with_name(self.names, name)?;
-        let mut said = self;
-        said.names = names;
-        Some(said)
-    }
-
-    // With these rules of a run, where they can be said.
-    fn ruled(self, rules: Option<RunRules<'a>>) -> Option<Said<'a>>
-        ensures { option_map said_seen result
-            ≡ ruled (said_seen self.entry) (option_map rules_seen rules.entry) }
-    {
-        let rules = rules?;
-        let mut said = self;
-        said.next = Next::Any;
-        said.rules = rules;
-        Some(said)
-    }
-
-    // With an option that says in the same word where a run begins or is kept.
-    fn by_rule(self, word: &'a str) -> Option<Said<'a>>
-        ensures { option_map said_seen result ≡ by_rule (said_seen self.entry) word.now }
-    {
-        match from_in(word) {
-            Some(name) => self.ruled(self.rules.begun_in(name)),
-            None => self.ruled(self.rules.kept_in(save_in(word)?)),
+        match chart_in(word) {
+            Some(chart) => self.with_chart(chart),
+            None => self.by_rule(word),
         }
     }
 
-    // With an option that says a file in the same word.
-    fn by_file(self, word: &'a str) -> Option<Said<'a>>
-        ensures { option_map said_seen result ≡ by_file (said_seen self.entry) word.now }
-    {
-        match source_in(word) {
-            Some(source) => self.with_source(source),
-            None => match chart_in(word) {
-                Some(chart) => self.with_chart(chart),
-                None => self.by_rule(word),
-            },
-        }
-    }
-
-    // With an option that says its value in the same word.
-    fn valued(self, word: &'a str) -> Option<Said<'a>>
-        ensures { option_map said_seen result ≡ valued (said_seen self.entry) word.now }
+    // Takes an option that says its value in the same word.
+    fn valued(&mut self, word: &'a str) -> bool
+        ensures { taken result (said_seen self.new) ≡ valued (said_seen self.old) word.now }
     {
         match workers_in(word.as_bytes()) {
             Some(workers) => self.with_workers(workers),
@@ -286,18 +278,17 @@ impl<'a> Said<'a> {
         }
     }
 
-    // The next word is taken for this.
-    fn awaits(self, next: Next) -> Said<'a>
-        ensures { said_seen result ≡ record (said_seen self.entry) { next = next } }
+    // Takes the next word for this.
+    fn awaits(&mut self, next: Next) -> bool
+        ensures { taken result (said_seen self.new) ≡ Some (record (said_seen self.old) { next = next }) }
     {
-        let mut said = self;
-        said.next = next;
-        said
+        self.next = next;
+        true
     }
 
-    // With a flag, an option that says its value in the same word, or a name.
-    fn flagged(self, word: &'a str) -> Option<Said<'a>>
-        ensures { option_map said_seen result ≡ flagged (said_seen self.entry) word.now }
+    // Takes a flag, an option that says its value in the same word, or a name.
+    fn flagged(&mut self, word: &'a str) -> bool
+        ensures { taken result (said_seen self.new) ≡ flagged (said_seen self.old) word.now }
     {
         match word {
             "--strict" => self.ruled(self.rules.strictly()),
@@ -310,29 +301,32 @@ impl<'a> Said<'a> {
         }
     }
 
-    // With a word that may be an option.
-    fn opened(self, word: &'a str) -> Option<Said<'a>>
-        ensures { option_map said_seen result ≡ opened (said_seen self.entry) word.now }
+    // Takes a word that may be an option.
+    fn opened(&mut self, word: &'a str) -> bool
+        ensures { taken result (said_seen self.new) ≡ opened (said_seen self.old) word.now }
     {
         match word {
-            "--" => Some(self.awaits(Next::Name)),
-            "--workers" => Some(self.awaits(Next::Number)),
-            "--source" => Some(self.awaits(Next::Source)),
-            "--chart" => Some(self.awaits(Next::Chart)),
-            "--from" => Some(self.awaits(Next::From)),
-            "--save" => Some(self.awaits(Next::Save)),
+            "--" => self.awaits(Next::Name),
+            "--workers" => self.awaits(Next::Number),
+            "--source" => self.awaits(Next::Source),
+            "--chart" => self.awaits(Next::Chart),
+            "--from" => self.awaits(Next::From),
+            "--save" => self.awaits(Next::Save),
             word => self.flagged(word),
         }
     }
 
-    // With one more word.
-    fn step(self, word: &'a str) -> Option<Said<'a>>
-        ensures { option_map said_seen result ≡ step (said_seen self.entry) word.now }
+    // Takes one more word. Whether it can be taken.
+    fn step(&mut self, word: &'a str) -> bool
+        ensures { taken result (said_seen self.new) ≡ step (said_seen self.old) word.now }
     {
         match self.next {
             Next::Any => self.opened(word),
-            Next::Number => self.with_workers(workers_named(word.as_bytes())?),
-            Next::Source | Next::Chart | Next::From | Next::Save if is_option(word) => None,
+            Next::Number => match workers_named(word.as_bytes()) {
+                Some(workers) => self.with_workers(workers),
+                None => false,
+            },
+            Next::Source | Next::Chart | Next::From | Next::Save if is_option(word) => false,
             Next::Source => self.with_source(word),
             Next::Chart => self.with_chart(word),
             Next::From => self.ruled(self.rules.begun_in(word)),
@@ -341,23 +335,23 @@ impl<'a> Said<'a> {
         }
     }
 
-    // All of it, where no value is missing.
-    fn ended(self) -> Option<Said<'a>>
-        ensures { option_map said_seen result ≡ ended (said_seen self.entry) }
+    // Whether no value is missing.
+    fn is_ended(&self) -> bool
+        ensures { taken result (said_seen self.now) ≡ ended (said_seen self.now) }
     {
         match self.next {
-            Next::Any | Next::Name => Some(self),
-            Next::Number | Next::Source | Next::Chart | Next::From | Next::Save => None,
+            Next::Any | Next::Name => true,
+            Next::Number | Next::Source | Next::Chart | Next::From | Next::Save => false,
         }
     }
 
-    // With these words.
-    fn read_on(self, words: &'a [String]) -> Option<Said<'a>>
-        ensures { option_map said_seen result ≡ read_on (said_seen self.entry) (map string_bytes words.now) }
+    // Takes these words, which are the last ones. Whether they can be taken, and no value is missing.
+    fn read_on(&mut self, words: &'a [String]) -> bool
+        ensures { taken result (said_seen self.new) ≡ read_on (said_seen self.old) (map string_bytes words.now) }
     {
         match words.split_first() {
-            None => self.ended(),
-            Some((word, words)) => self.step(word.as_str())?.read_on(words),
+            None => self.is_ended(),
+            Some((word, words)) => self.step(word.as_str()) && self.read_on(words),
         }
     }
 
@@ -365,6 +359,11 @@ impl<'a> Said<'a> {
     pub(crate) fn by(words: &'a [String]) -> Option<Said<'a>>
         ensures { option_map said_seen result ≡ said_by (map string_bytes words.now) }
     {
-        Said::start().read_on(words)
+        let mut said = Said::start();
+        if said.read_on(words) {
+            Some(said)
+        } else {
+            None
+        }
     }
 }
