@@ -1,2 +1,1 @@
 pub mod Nowhere
-pub mod LineColumns

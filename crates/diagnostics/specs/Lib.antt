@@ -1,2 +1,1 @@
-pub mod LinesColumns
 pub mod Reports

@@ -1,10 +1,14 @@
 -- How each report of a fault begins.
-use Rattle.std.specs.Prelude.{ℕ, ◌≡◌, List, ◌++◌, codes}
+use Rattle.std.specs.Prelude.{ℕ, ◌≡◌, List, ◌++◌, take, codes}
 use Rattle.std.specs.Fmt.{decimal}
 use Rattle.sc_text.specs.FaultText.{broken_number}
-use Rattle.diagnostics.specs.LinesColumns.{place_shown}
+use Rattle.node_sources.specs.LinesColumns.{line_behind, column_behind}
 use Rattle.sc_text.specs.declared.read_fault.ReadFault.{ReadFault}
 use Rattle.sc_text.specs.declared.read_fault.ReadFault.TheVariants as read
+
+-- the place of the byte of this number as it is shown behind a name; of the end, where the text has no more than that
+abbrev pub place_shown : (text : List ℕ) → (at : ℕ) → List ℕ
+place_shown text at = codes ":" ++ (decimal (line_behind (take at text)) ++ (codes ":" ++ decimal (column_behind (take at text))))
 
 -- the report begins with this name; behind it stand the place, where one is told, and the fault. What else is said is
 -- left open

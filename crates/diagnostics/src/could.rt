@@ -14,165 +14,127 @@ pub(crate) struct Could {
 
 // Which names could stand where the grammar has one, and which words could not although it has them.
 #[derive(Clone, Copy)]
-struct Narrowing {
-    own: &'static [&'static str],
-    is_free: bool,
-    barred: &'static [Word],
+enum Narrowing {
+    Any,
+    // Behind `signal`.
+    NameAlone,
+    NoName,
+    // Behind `entry` and `exit`.
+    NoTrigger,
+    Item,
+    Signal,
+    Action,
+    During,
+    Wait,
+    // Behind the ticks of a wait.
+    Count,
+    Effect,
+    Target,
+    // Behind `shallow`, where a target stands.
+    History,
 }
 
-const ANY: Narrowing = Narrowing {
-    own: &[],
-    is_free: true,
-    barred: &[],
-};
+impl Narrowing {
+    // The words of extended charts alone that are names to the grammar, and could stand.
+    fn own(self) -> &'static [&'static str] {
+        match self {
+            Narrowing::Item => &["const", "pre", "signal"],
+            Narrowing::Signal => &["signal"],
+            Narrowing::Action => &["entry", "exit", "during"],
+            Narrowing::During => &["during"],
+            Narrowing::Wait => &["after"],
+            Narrowing::Count => &["of"],
+            Narrowing::Effect => &["emit"],
+            Narrowing::Target => &["shallow"],
+            Narrowing::History => &["history"],
+            _ => &[],
+        }
+    }
 
-// Behind `signal`.
-const NAME_ALONE: Narrowing = Narrowing {
-    own: &[],
-    is_free: true,
-    barred: &[Word::Bool, Word::Int],
-};
+    // Whether a name of the maker's own could.
+    fn is_free(self) -> bool {
+        matches!(
+            self,
+            Narrowing::Any
+                | Narrowing::NameAlone
+                | Narrowing::NoTrigger
+                | Narrowing::Effect
+                | Narrowing::Target
+        )
+    }
 
-const NO_NAME: Narrowing = Narrowing {
-    own: &[],
-    is_free: false,
-    barred: &[],
-};
-
-// Behind `entry` and `exit`.
-const NO_TRIGGER: Narrowing = Narrowing {
-    own: &[],
-    is_free: true,
-    barred: &[Word::If],
-};
-
-const ITEM: Narrowing = Narrowing {
-    own: &["const", "pre", "signal"],
-    is_free: false,
-    barred: &[],
-};
-
-const SIGNAL: Narrowing = Narrowing {
-    own: &["signal"],
-    is_free: false,
-    barred: &[],
-};
-
-const ACTION: Narrowing = Narrowing {
-    own: &["entry", "exit", "during"],
-    is_free: false,
-    barred: &[],
-};
-
-const DURING: Narrowing = Narrowing {
-    own: &["during"],
-    is_free: false,
-    barred: &[],
-};
-
-const WAIT: Narrowing = Narrowing {
-    own: &["after"],
-    is_free: false,
-    barred: &[],
-};
-
-// Behind the ticks of a wait.
-const COUNT: Narrowing = Narrowing {
-    own: &["of"],
-    is_free: false,
-    barred: &[],
-};
-
-const EFFECT: Narrowing = Narrowing {
-    own: &["emit"],
-    is_free: true,
-    barred: &[],
-};
-
-const TARGET: Narrowing = Narrowing {
-    own: &["shallow"],
-    is_free: true,
-    barred: &[],
-};
-
-// Behind `shallow`, where a target stands.
-const HISTORY: Narrowing = Narrowing {
-    own: &["history"],
-    is_free: false,
-    barred: &[],
-};
+    // Whether a word that the grammar has could not.
+    fn bars(self, word: Word) -> bool {
+        match self {
+            Narrowing::NameAlone => matches!(word, Word::Bool | Word::Int),
+            Narrowing::NoTrigger => word == Word::If,
+            _ => false,
+        }
+    }
+}
 
 // What a name leaves behind it.
 fn behind_name(name: &str, found: &Continuations) -> Narrowing {
     if takes(found, Sign::Semicolon) {
-        return if name == "shallow" { HISTORY } else { NO_NAME };
+        return if name == "shallow" {
+            Narrowing::History
+        } else {
+            Narrowing::NoName
+        };
     }
     if has(found, Word::Bool) {
         return if name == "signal" {
-            NAME_ALONE
+            Narrowing::NameAlone
         } else {
-            NO_NAME
+            Narrowing::NoName
         };
     }
-    if is_effect(found) {
-        return if name == "emit" { ANY } else { NO_NAME };
+    // a value can follow, which the name becomes
+    if takes(found, Sign::Becomes) {
+        return if name == "emit" {
+            Narrowing::Any
+        } else {
+            Narrowing::NoName
+        };
     }
     if name == "entry" || name == "exit" {
-        return NO_TRIGGER;
+        Narrowing::NoTrigger
+    } else {
+        Narrowing::Any
     }
-    ANY
 }
 
 // Whether this sign is among what can follow.
 fn takes(found: &Continuations, sign: Sign) -> bool {
-    for other in found.signs.as_slice() {
-        if *other == sign {
-            return true;
-        }
-    }
-    false
+    found.signs.as_slice().contains(&sign)
 }
 
-// Whether a value can follow that the name before it becomes.
-fn is_effect(found: &Continuations) -> bool {
-    takes(found, Sign::Becomes)
-}
-
-// Whether an expression stands before, behind which a name can follow.
-fn is_wait(found: &Continuations) -> bool {
-    found.name && takes(found, Sign::Plus) && takes(found, Sign::Slash)
+// Whether this word is.
+fn has(found: &Continuations, word: Word) -> bool {
+    found.words.as_slice().contains(&word)
 }
 
 // What stands behind this token of an extended chart.
 fn behind(before: &TokenKind, found: &Continuations) -> Narrowing {
     if found.number {
-        return ANY;
+        return Narrowing::Any;
     }
-    if is_wait(found) {
-        return COUNT;
+    // an expression stands before, behind which a name can follow
+    if found.name && takes(found, Sign::Plus) && takes(found, Sign::Slash) {
+        return Narrowing::Count;
     }
     match before {
         TokenKind::Name(name) => behind_name(name.as_str(), found),
-        TokenKind::Word(Word::Input) => NO_NAME,
-        TokenKind::Word(Word::Output | Word::Local) => SIGNAL,
-        TokenKind::Word(Word::Immediate) => DURING,
-        TokenKind::Word(Word::Go | Word::Strong | Word::Weak) => WAIT,
-        TokenKind::Word(Word::Do) | TokenKind::Sign(Sign::Comma) => EFFECT,
-        TokenKind::Sign(Sign::Arrow) => TARGET,
-        _ if has(found, Word::Input) => ITEM,
-        _ if has(found, Word::Go) => ACTION,
-        _ => ANY,
+        TokenKind::Word(Word::Input) => Narrowing::NoName,
+        TokenKind::Word(Word::Output | Word::Local) => Narrowing::Signal,
+        TokenKind::Word(Word::Immediate) => Narrowing::During,
+        TokenKind::Word(Word::Go | Word::Strong | Word::Weak) => Narrowing::Wait,
+        TokenKind::Word(Word::Do) | TokenKind::Sign(Sign::Comma) => Narrowing::Effect,
+        TokenKind::Sign(Sign::Arrow) => Narrowing::Target,
+        _ if has(found, Word::Input) => Narrowing::Item,
+        _ if has(found, Word::Go) => Narrowing::Action,
+        _ => Narrowing::Any,
     }
-}
-
-// Whether this word is among what can follow.
-fn has(found: &Continuations, word: Word) -> bool {
-    for other in found.words.as_slice() {
-        if *other == word {
-            return true;
-        }
-    }
-    false
 }
 
 impl Could {
@@ -186,7 +148,7 @@ impl Could {
         let by_grammar = continuations_of(alloc, grammar, front)?;
         let narrowing = match grammar {
             Grammar::ExtendedChart => behind(before, &by_grammar),
-            Grammar::Chart | Grammar::Scl => ANY,
+            Grammar::Chart | Grammar::Scl => Narrowing::Any,
         };
         Ok(Could {
             by_grammar,
@@ -196,7 +158,7 @@ impl Could {
 
     /// Whether a name of the maker's own could.
     pub(crate) fn has_name(&self) -> bool {
-        self.by_grammar.name && self.narrowing.is_free
+        self.by_grammar.name && self.narrowing.is_free()
     }
 
     pub(crate) fn has_number(&self) -> bool {
@@ -206,7 +168,7 @@ impl Could {
     /// The words of extended charts alone that could.
     pub(crate) fn own_words(&self) -> &'static [&'static str] {
         if self.by_grammar.name {
-            self.narrowing.own
+            self.narrowing.own()
         } else {
             &[]
         }
@@ -223,12 +185,7 @@ impl Could {
 
     /// Whether a word that the grammar has there could not stand all the same.
     pub(crate) fn is_barred(&self, word: Word) -> bool {
-        for other in self.narrowing.barred {
-            if *other == word {
-                return true;
-            }
-        }
-        false
+        self.narrowing.bars(word)
     }
 
     /// Whether this reserved word could.

@@ -58,24 +58,6 @@ fn add_called(could: &Could, things: &mut Vec<Thing>) -> Result<(), AllocError> 
     Ok(())
 }
 
-// Adds the words of extended charts that could stand there.
-fn add_own_words(could: &Could, things: &mut Vec<Thing>) -> Result<(), AllocError> {
-    for word in could.own_words() {
-        things.push(Thing::Spelled(word))?;
-    }
-    Ok(())
-}
-
-// Adds the words that could stand there.
-fn add_words(could: &Could, things: &mut Vec<Thing>) -> Result<(), AllocError> {
-    for word in could.words() {
-        if !is_told_of_word(could, *word) && !could.is_barred(*word) {
-            things.push(Thing::Spelled(word.text()))?;
-        }
-    }
-    Ok(())
-}
-
 // A sign as it is told: an operator that combines with what stands behind it.
 fn sign_text(could: &Could, sign: Sign) -> &'static str {
     match sign {
@@ -86,8 +68,16 @@ fn sign_text(could: &Could, sign: Sign) -> &'static str {
     }
 }
 
-// Adds the signs that could stand there.
-fn add_signs(could: &Could, things: &mut Vec<Thing>) -> Result<(), AllocError> {
+// Adds the words and the signs that could stand there.
+fn add_spelled(could: &Could, things: &mut Vec<Thing>) -> Result<(), AllocError> {
+    for word in could.own_words() {
+        things.push(Thing::Spelled(word))?;
+    }
+    for word in could.words() {
+        if !is_told_of_word(could, *word) && !could.is_barred(*word) {
+            things.push(Thing::Spelled(word.text()))?;
+        }
+    }
     for sign in could.signs() {
         if !is_told_of_sign(could, *sign) {
             things.push(Thing::Spelled(sign_text(could, *sign)))?;
@@ -107,22 +97,6 @@ fn joint(place: usize, count: usize) -> &'static str {
     }
 }
 
-// Adds what could stand there.
-fn add_things(could: &Could, things: &mut Vec<Thing>) -> Result<(), AllocError> {
-    add_called(could, things)?;
-    add_own_words(could, things)?;
-    add_words(could, things)?;
-    add_signs(could, things)
-}
-
-// Adds a thing.
-fn put_thing(text: &mut String, thing: Thing) -> Result<(), AllocError> {
-    match thing {
-        Thing::Called(name) => text.push_str(name),
-        Thing::Spelled(piece) => put_filled(text, "`@`", piece),
-    }
-}
-
 // Adds that this was found where these things could stand.
 fn put_found(text: &mut String, found: &str, things: &[Thing]) -> Result<(), AllocError> {
     if things.is_empty() {
@@ -131,7 +105,10 @@ fn put_found(text: &mut String, found: &str, things: &[Thing]) -> Result<(), All
     put_filled(text, "found @, expected ", found)?;
     for (place, thing) in things.iter().enumerate() {
         text.push_str(joint(place, things.len()))?;
-        put_thing(text, *thing)?;
+        match thing {
+            Thing::Called(name) => text.push_str(name)?,
+            Thing::Spelled(piece) => put_filled(text, "`@`", piece)?,
+        }
     }
     Ok(())
 }
@@ -144,6 +121,7 @@ pub(crate) fn put_expected(
     could: &Could,
 ) -> Result<(), AllocError> {
     let mut things = Vec::new(alloc);
-    add_things(could, &mut things)?;
+    add_called(could, &mut things)?;
+    add_spelled(could, &mut things)?;
     put_found(text, found, things.as_slice())
 }

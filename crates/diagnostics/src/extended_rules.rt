@@ -21,34 +21,21 @@ fn is_name(token: &TokenKind, name: &str) -> bool {
     }
 }
 
-fn is_kind(token: &TokenKind) -> bool {
-    matches!(token, TokenKind::Word(Word::Bool | Word::Int))
-}
-
-fn is_input(token: &TokenKind) -> bool {
-    matches!(token, TokenKind::Word(Word::Input))
-}
-
 fn is_region(token: &TokenKind) -> bool {
     matches!(token, TokenKind::Word(Word::Region))
 }
 
 // What a name is declared as behind these two tokens. None: as a variable, or it is not declared there.
 fn declared_behind(first: &TokenKind, second: &TokenKind) -> Option<Declared> {
-    if is_name(second, "signal") {
-        return Some(Declared::Signal);
-    }
-    if !is_kind(second) {
-        return None;
-    }
-    if is_name(first, "const") {
-        Some(Declared::Constant)
-    } else if is_name(first, "pre") {
-        Some(Declared::Before)
-    } else if is_input(first) {
-        Some(Declared::Input)
-    } else {
-        None
+    match second {
+        TokenKind::Name(word) if word.as_str() == "signal" => Some(Declared::Signal),
+        TokenKind::Word(Word::Bool | Word::Int) => match first {
+            TokenKind::Name(word) if word.as_str() == "const" => Some(Declared::Constant),
+            TokenKind::Name(word) if word.as_str() == "pre" => Some(Declared::Before),
+            TokenKind::Word(Word::Input) => Some(Declared::Input),
+            _ => None,
+        },
+        _ => None,
     }
 }
 
@@ -67,10 +54,8 @@ fn declared_as(tokens: &[Token], name: &str) -> Option<Declared> {
             return None;
         }
         if is_name(&token.kind, name) {
-            if let Some(before) = tokens.get(..place) {
-                if let Some(declared) = declared_last(before) {
-                    return Some(declared);
-                }
+            if let Some(declared) = declared_last(tokens.get(..place)?) {
+                return Some(declared);
             }
         }
     }

@@ -1,10 +1,11 @@
 //! The words that extended charts alone have, where they stand wrong.
 
 use crate::could::Could;
-use crate::found::{name_in, stands_at};
+use crate::found::stands_at;
 use crate::fronts::front_of;
 use crate::near_names::difference;
 use crate::told::Told;
+use node_sources::name_in;
 use sc_text::{Sign, TokenKind};
 
 const CONSTANT: Told = Told {
@@ -42,36 +43,6 @@ const TARGETS: Told = Told {
     cure: "write `-> S;`, or `-> shallow history S;`",
 };
 
-// A word that could stand there, and what is wrong with what follows it.
-#[derive(Clone, Copy)]
-struct Misuse {
-    word: &'static str,
-    told: Told,
-}
-
-const MISUSES: [Misuse; 5] = [
-    Misuse {
-        word: "const",
-        told: CONSTANT,
-    },
-    Misuse {
-        word: "pre",
-        told: BEFORE,
-    },
-    Misuse {
-        word: "signal",
-        told: SIGNAL,
-    },
-    Misuse {
-        word: "entry",
-        told: ENTRY,
-    },
-    Misuse {
-        word: "exit",
-        told: ENTRY,
-    },
-];
-
 const APART: Told = Told {
     cause: "this `=` stands apart from the operator before it",
     cure: "write `+=`, `-=` or `*=`",
@@ -80,7 +51,7 @@ const APART: Told = Told {
 /// What is wrong at this byte of a text behind this token, where it is the use of a word of extended charts, or of an
 /// operator before `=`.
 pub(crate) fn misuse_at(text: &str, at: usize, before: &TokenKind, could: &Could) -> Option<Told> {
-    if is_apart(text, at) && could.has_sign(Sign::Becomes) {
+    if stands_at(text, at, "=") && !stands_at(text, at, "==") && could.has_sign(Sign::Becomes) {
         return Some(APART);
     }
     if is_other_name(before) && could.is_name_alone() {
@@ -104,23 +75,13 @@ pub(crate) fn misuse_at(text: &str, at: usize, before: &TokenKind, could: &Could
 fn is_behind_arrow(text: &str, at: usize) -> bool {
     let mut is_behind = false;
     for byte in front_of(text, at).as_bytes() {
-        if *byte == b'>' {
-            is_behind = true;
-        } else if !is_of_names(*byte) {
-            is_behind = false;
-        }
+        is_behind = match *byte {
+            b'>' => true,
+            b'_' | b' ' | b'\t' | b'\r' | b'\n' => is_behind,
+            byte => is_behind && byte.is_ascii_alphanumeric(),
+        };
     }
     is_behind
-}
-
-// Whether a byte stands in a name, or between two.
-fn is_of_names(byte: u8) -> bool {
-    byte.is_ascii_alphanumeric() || matches!(byte, b'_' | b' ' | b'\t' | b'\r' | b'\n')
-}
-
-// Whether `=` stands there alone.
-fn is_apart(text: &str, at: usize) -> bool {
-    stands_at(text, at, "=") && !stands_at(text, at, "==")
 }
 
 // Whether this is a name, and none that another one follows.
@@ -133,12 +94,13 @@ fn is_other_name(token: &TokenKind) -> bool {
 
 // What is wrong where this word stands, although it could.
 fn misused_word(word: &str) -> Option<Told> {
-    for misuse in &MISUSES {
-        if word == misuse.word {
-            return Some(misuse.told);
-        }
+    match word {
+        "const" => Some(CONSTANT),
+        "pre" => Some(BEFORE),
+        "signal" => Some(SIGNAL),
+        "entry" | "exit" => Some(ENTRY),
+        _ => None,
     }
-    None
 }
 
 /// The word of extended charts that could stand there and is spelled nearly so.

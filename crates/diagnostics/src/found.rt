@@ -1,7 +1,7 @@
 //! What stands at a place of a text.
 
 use crate::told::filled;
-use sc_values::NAME_LIMIT;
+use node_sources::name_in;
 use std::alloc::{AllocError, Global};
 
 /// Whether this piece stands at a byte of a text.
@@ -20,26 +20,6 @@ pub(crate) fn one_at(text: &str, at: usize, pieces: &[&'static str]) -> Option<&
         }
     }
     None
-}
-
-// Whether a name goes on at a byte of a text.
-fn goes_on_name(text: &str, at: usize) -> bool {
-    match text.as_bytes().get(at) {
-        Some(byte) => byte.is_ascii_alphanumeric() || *byte == b'_',
-        None => false,
-    }
-}
-
-/// The name, or the word, that begins at a byte of a text. Empty: none does.
-pub(crate) fn name_in(text: &str, at: usize) -> &str {
-    let mut end = at;
-    for _ in 0..NAME_LIMIT {
-        if !goes_on_name(text, end) {
-            break;
-        }
-        end = end.saturating_add(1);
-    }
-    text.get(at..end).unwrap_or("")
 }
 
 // The signs of two characters.

@@ -3,14 +3,14 @@
 use crate::could::Could;
 use crate::expected::put_expected;
 use crate::extended_words::{misuse_at, near_own_word};
-use crate::found::{found, name_in, one_at, stands_at};
+use crate::found::{found, one_at, stands_at};
 use crate::fronts::{front_of, last_token};
-use crate::line_columns::{LineColumn, line_column_of};
 use crate::near_names::difference;
 use crate::spellings::{for_sign, for_word};
 use crate::told::{Told, put_filled};
 use crate::unclosed::last_open;
 use crate::words::Words;
+use node_sources::{LineColumn, line_column_of, name_in};
 use sc_text::{Sign, TokenKind, Word};
 use std::alloc::{AllocError, Global};
 use text_continuations::Grammar;
@@ -150,31 +150,16 @@ fn cure_of_sign(stop: Stop<'_>, could: &Could) -> Option<&'static str> {
     }
 }
 
-// What stands before a place, as far as it tells what is meant there.
-#[derive(Clone, Copy, PartialEq, Eq)]
-enum Before {
-    State,
-    Comma,
-    Other,
-}
-
-// What this token is.
-fn before_of(token: &TokenKind) -> Before {
-    match token {
-        TokenKind::Word(Word::State) => Before::State,
-        TokenKind::Sign(Sign::Comma) => Before::Comma,
-        _ => Before::Other,
-    }
-}
-
 // Whether charts have no such word, or none like it.
 fn is_foreign(grammar: Grammar, word: Word) -> bool {
     grammar != Grammar::Scl && (word == Word::Else || word == Word::Goto)
 }
 
 // What helps where a reserved word stands.
-fn cure_of_reserved(word: Word, before: Before, could: &Could) -> Option<Cure> {
-    if before == Before::State && (word == Word::Initial || word == Word::Final) {
+fn cure_of_reserved(word: Word, before: &TokenKind, could: &Could) -> Option<Cure> {
+    if matches!(before, TokenKind::Word(Word::State))
+        && (word == Word::Initial || word == Word::Final)
+    {
         return Some(Cure::OfWord("write `@ state`", word.text()));
     }
     if (word == Word::Bool || word == Word::Int) && could.has_word(Word::Input) {
@@ -187,7 +172,7 @@ fn cure_of_reserved(word: Word, before: Before, could: &Could) -> Option<Cure> {
     {
         return Some(Cure::Said(TRANSITIONS));
     }
-    if word == Word::Do && could.has_name() && before == Before::Comma {
+    if word == Word::Do && could.has_name() && matches!(before, TokenKind::Sign(Sign::Comma)) {
         return Some(Cure::Said("`do` stands once, before the first effect"));
     }
     if could.has_name() && !could.begins_expression() {
@@ -253,9 +238,7 @@ fn cure_at_least(could: &Could) -> &'static str {
 // What helps where a word or a name stands, or nothing of either.
 fn cure_of_word(grammar: Grammar, before: &TokenKind, name: &str, could: &Could) -> Option<Cure> {
     match Word::of(name.as_bytes()) {
-        Some(word) if !is_foreign(grammar, word) => {
-            cure_of_reserved(word, before_of(before), could)
-        }
+        Some(word) if !is_foreign(grammar, word) => { cure_of_reserved(word, before, could) }
         None if name.is_empty() => None,
         _ => cure_of_name(grammar, name, could),
     }

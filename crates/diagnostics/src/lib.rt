@@ -12,7 +12,6 @@ mod found;
 mod fronts;
 mod grammar_words;
 mod limit_words;
-mod line_columns;
 mod lines;
 mod near_names;
 mod nodes;
@@ -28,7 +27,6 @@ mod walks;
 mod words;
 
 pub use author_report::author_fault_told;
-pub use line_columns::{LineColumn, line_column_of};
 pub use lines::marked_line;
 pub use program_report::{program_fault_explained, program_fault_told};
 pub use report::{explained, line_column_text, text_fault_explained, told_nowhere};

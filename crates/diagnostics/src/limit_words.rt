@@ -1,9 +1,9 @@
 //! A limit that is passed, in words.
 
-use crate::found::name_in;
 use crate::fronts::{front_of, last_token};
 use crate::told::Told;
 use crate::words::Words;
+use node_sources::name_in;
 use sc_text::{ReadFault, TokenKind, Word, tokens};
 use std::alloc::{AllocError, Global};
 use text_continuations::Grammar;

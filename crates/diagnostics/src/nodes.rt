@@ -1,13 +1,11 @@
 //! A node of a program as it is shown: its place in the source text, what it does, and the line of the text.
 
 use crate::edges::{name_of, written};
-use crate::found::name_in;
-use crate::line_columns::LineColumn;
 use crate::lines::{put_margin, put_marked_line};
 use crate::told::put_filled;
 use compiler::LinkedProgram;
 use extended_nodes::AuthorNode;
-use node_sources::{Origin, Part, Positions};
+use node_sources::{LineColumn, Origin, Part, Positions, name_in};
 use sc_graph::{Links, NodeId, Program, Step};
 use sc_values::Name;
 use sqlite_items::Items;
@@ -88,11 +86,7 @@ impl<'a> Shown<'a> {
 
     /// The place of an origin.
     pub(crate) fn line_column(&self, origin: Origin) -> LineColumn {
-        let position = self.positions.position(origin.at);
-        LineColumn {
-            line: position.line,
-            column: position.column,
-        }
+        self.positions.line_column(origin.at)
     }
 }
 

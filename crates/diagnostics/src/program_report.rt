@@ -5,7 +5,6 @@ ghost use Rattle.compiler.specs.FaultText.{fault_text};
 ghost use Rattle.diagnostics.specs.Reports.{Tells};
 ghost use Rattle.scl_graph.specs.Answers.{IsGraph};
 
-use crate::line_columns::line_column_of;
 use crate::lines::put_marked_line;
 use crate::nodes::{Shown, put_around};
 use crate::program_words::in_words;
@@ -15,7 +14,7 @@ use crate::walks::{first_node, put_conflict, put_place, put_walk};
 use compiler::{CompileFault, LinkedProgram, graph_of_scl};
 use conflict_edges::ConflictFault;
 use extended_nodes::AuthorNode;
-use node_sources::{label_origin, origins_in};
+use node_sources::{label_origin, line_column_of, origins_in};
 use priority_weights::TablesFault;
 use sc_graph::NodeId;
 use sc_values::Name;

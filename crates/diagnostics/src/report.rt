@@ -3,13 +3,12 @@
 ghost use Rattle.std.specs.Prelude.{IfOk, ◌≡◌, ◌++◌, codes, string_bytes};
 ghost use Rattle.std.specs.Fmt.{decimal};
 ghost use Rattle.sc_text.specs.FaultText.{broken_number};
-ghost use Rattle.diagnostics.specs.Reports.{Tells, TellsAt, TellsPlace, text_fault};
-ghost use Rattle.diagnostics.specs.LinesColumns.{place_shown};
+ghost use Rattle.diagnostics.specs.Reports.{Tells, TellsAt, TellsPlace, place_shown, text_fault};
 
-use crate::line_columns::{LineColumn, line_column_of};
 use crate::lines::put_marked_line;
 use crate::told::put_filled;
 use crate::words::{Words, words_of};
+use node_sources::{LineColumn, line_column_of};
 use sc_text::{FaultKind, ReadFault};
 use std::alloc::{AllocError, Global};
 

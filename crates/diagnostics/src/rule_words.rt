@@ -1,10 +1,10 @@
 //! A rule of the language that is broken, and a name that stands twice, in words.
 
 use crate::extended_rules::{INPUT_ASSIGNED, told_of_extended};
-use crate::found::name_in;
 use crate::fronts::{front_of, last_token};
 use crate::told::Told;
 use crate::words::Words;
+use node_sources::name_in;
 use sc_text::{Sign, Token, TokenKind, Word, tokens};
 use std::alloc::{AllocError, Global};
 use text_continuations::Grammar;

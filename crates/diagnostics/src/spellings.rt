@@ -1,263 +1,125 @@
 //! What other languages spell otherwise.
 
-use crate::found::stands_at;
 use text_continuations::Grammar;
-
-// A piece of another language, and what is written here.
-#[derive(Clone, Copy)]
-struct Spelling {
-    piece: &'static str,
-    written: &'static str,
-}
-
-// Pieces that begin at the place; the longer of two that begin alike comes first.
-const SIGNS: [Spelling; 19] = [
-    Spelling {
-        piece: "&",
-        written: "write `and`: both sides are computed",
-    },
-    Spelling {
-        piece: "|",
-        written: "write `or`: both sides are computed",
-    },
-    Spelling {
-        piece: "!",
-        written: "write `not`, and `!=` between two values",
-    },
-    Spelling {
-        piece: "=>",
-        written: "a transition leads to its state by `->`",
-    },
-    Spelling {
-        piece: ":=",
-        written: "a value is given by `=`",
-    },
-    Spelling {
-        piece: "++",
-        written: "write `x = x + 1`",
-    },
-    Spelling {
-        piece: "--",
-        written: "write `x = x - 1`",
-    },
-    Spelling {
-        piece: "+=",
-        written: "write `x = x + ..`",
-    },
-    Spelling {
-        piece: "-=",
-        written: "write `x = x - ..`",
-    },
-    Spelling {
-        piece: "*=",
-        written: "write `x = x * ..`",
-    },
-    Spelling {
-        piece: "/*",
-        written: "a comment begins with `//` and ends with its line",
-    },
-    Spelling {
-        piece: "#",
-        written: "a comment begins with `//` and ends with its line",
-    },
-    Spelling {
-        piece: "\"",
-        written: "there are no texts: a variable is a truth value or a number",
-    },
-    Spelling {
-        piece: "'",
-        written: "there are no texts: a variable is a truth value or a number",
-    },
-    Spelling {
-        piece: "?",
-        written: "there is no choice within an expression: take two transitions, or an `if` in SCL",
-    },
-    Spelling {
-        piece: "[",
-        written: "there are no arrays: give each value a name",
-    },
-    Spelling {
-        piece: ".",
-        written: "numbers are whole, and a state is named alone: count in tenths or hundredths",
-    },
-    Spelling {
-        piece: "\u{feff}",
-        written: "the file begins with a byte order mark: save it as UTF-8 without one",
-    },
-    Spelling {
-        piece: "\\",
-        written: "a line ends where it likes: nothing joins two lines",
-    },
-];
-
-// Words that stand at the place.
-const WORDS: [Spelling; 9] = [
-    Spelling {
-        piece: "else",
-        written: "a transition has no `else`: write another one behind it, without `if`; they are tested in their order",
-    },
-    Spelling {
-        piece: "var",
-        written: "a variable is declared by `input`, `output` or `local`, and `bool` or `int`",
-    },
-    Spelling {
-        piece: "boolean",
-        written: "write `bool`",
-    },
-    Spelling {
-        piece: "integer",
-        written: "write `int`",
-    },
-    Spelling {
-        piece: "float",
-        written: "there are whole numbers alone: count in tenths or hundredths",
-    },
-    Spelling {
-        piece: "when",
-        written: "a condition stands behind `if`",
-    },
-    Spelling {
-        piece: "goto",
-        written: "a transition begins with `go`, and leads to its state by `->`",
-    },
-    Spelling {
-        piece: "connector",
-        written: "take a state whose transitions are all `go immediate`",
-    },
-    Spelling {
-        piece: "while",
-        written: "go back by `goto` to a label, with a `pause;` on the way",
-    },
-];
-
-// Words of extended charts, in a chart.
-const CHART_WORDS: [Spelling; 9] = [
-    Spelling {
-        piece: "const",
-        written: "a chart has no constants: write the number, or begin the text with `extended chart`",
-    },
-    Spelling {
-        piece: "pre",
-        written: "a chart does not know what a variable was: begin the text with `extended chart`",
-    },
-    Spelling {
-        piece: "signal",
-        written: "take an `output bool` or a `local bool`, and set it to false again; or begin the text with `extended chart`",
-    },
-    Spelling {
-        piece: "emit",
-        written: "set a truth value, and to false again; or begin the text with `extended chart`, which has signals",
-    },
-    Spelling {
-        piece: "entry",
-        written: "do it in each transition that leads to the state; or begin the text with `extended chart`",
-    },
-    Spelling {
-        piece: "exit",
-        written: "do it in each transition that leaves the state; or begin the text with `extended chart`",
-    },
-    Spelling {
-        piece: "during",
-        written: "write a transition of the state that leads back to it; or begin the text with `extended chart`",
-    },
-    Spelling {
-        piece: "after",
-        written: "count the ticks in a variable; or begin the text with `extended chart`",
-    },
-    Spelling {
-        piece: "history",
-        written: "note in a variable which state was active; or begin the text with `extended chart`",
-    },
-];
-
-// The same in an extended chart, where they have no place.
-const EXTENDED_WORDS: [Spelling; 11] = [
-    Spelling {
-        piece: "const",
-        written: "constants stand among the variables, before all regions",
-    },
-    Spelling {
-        piece: "pre",
-        written: "what variables were is named among the variables, before all regions",
-    },
-    Spelling {
-        piece: "signal",
-        written: "signals stand among the variables, before all regions; none is an input",
-    },
-    Spelling {
-        piece: "emit",
-        written: "a signal is emitted among effects, behind `do`",
-    },
-    Spelling {
-        piece: "entry",
-        written: "actions stand in a state, before its regions and transitions",
-    },
-    Spelling {
-        piece: "exit",
-        written: "actions stand in a state, before its regions and transitions",
-    },
-    Spelling {
-        piece: "during",
-        written: "actions stand in a state, before its regions and transitions",
-    },
-    Spelling {
-        piece: "after",
-        written: "a wait stands behind `go`, `strong` or `weak`, without `immediate`",
-    },
-    Spelling {
-        piece: "of",
-        written: "what is counted stands behind the ticks of a wait: `after 3 of A`",
-    },
-    Spelling {
-        piece: "shallow",
-        written: "history stands before a target: `-> shallow history S`",
-    },
-    Spelling {
-        piece: "history",
-        written: "history stands before a target: `-> shallow history S`",
-    },
-];
-
-// The same in SCL.
-const SCL_WORDS: [Spelling; 2] = [
-    Spelling {
-        piece: "const",
-        written: "there are no constants: write the number, or take a local variable",
-    },
-    Spelling {
-        piece: "signal",
-        written: "take an `output bool` or a `local bool`, and set it to false again",
-    },
-];
 
 /// What to write for a piece of another language that stands at a byte of a text.
 pub(crate) fn for_sign(text: &str, at: usize) -> Option<&'static str> {
-    for spelling in &SIGNS {
-        if stands_at(text, at, spelling.piece) {
-            return Some(spelling.written);
-        }
+    match text.as_bytes().get(at..)? {
+        [b'&', ..] => Some("write `and`: both sides are computed"),
+        [b'|', ..] => Some("write `or`: both sides are computed"),
+        [b'!', ..] => Some("write `not`, and `!=` between two values"),
+        [b'=', b'>', ..] => Some("a transition leads to its state by `->`"),
+        [b':', b'=', ..] => Some("a value is given by `=`"),
+        [b'+', b'+', ..] => Some("write `x = x + 1`"),
+        [b'-', b'-', ..] => Some("write `x = x - 1`"),
+        [b'+', b'=', ..] => Some("write `x = x + ..`"),
+        [b'-', b'=', ..] => Some("write `x = x - ..`"),
+        [b'*', b'=', ..] => Some("write `x = x * ..`"),
+        [b'/', b'*', ..] | [b'#', ..] => Some("a comment begins with `//` and ends with its line"),
+        [b'"', ..] | [b'\'', ..] => Some(
+            "there are no texts: a variable is a truth value or a number",
+        ),
+        [b'?', ..] => Some(
+            "there is no choice within an expression: take two transitions, or an `if` in SCL",
+        ),
+        [b'[', ..] => Some("there are no arrays: give each value a name"),
+        [b'.', ..] => Some(
+            "numbers are whole, and a state is named alone: count in tenths or hundredths",
+        ),
+        [0xEF, 0xBB, 0xBF, ..] => Some(
+            "the file begins with a byte order mark: save it as UTF-8 without one",
+        ),
+        [b'\\', ..] => Some("a line ends where it likes: nothing joins two lines"),
+        _ => None,
     }
-    None
 }
 
-// What is written for a word, where it is one of these.
-fn written_for(spellings: &[Spelling], word: &str) -> Option<&'static str> {
-    for spelling in spellings {
-        if word == spelling.piece {
-            return Some(spelling.written);
-        }
+// What is written for a word of another language, in a text of any grammar.
+fn in_any(word: &str) -> Option<&'static str> {
+    match word {
+        "else" => Some(
+            "a transition has no `else`: write another one behind it, without `if`; they are tested in their order",
+        ),
+        "var" => Some(
+            "a variable is declared by `input`, `output` or `local`, and `bool` or `int`",
+        ),
+        "boolean" => Some("write `bool`"),
+        "integer" => Some("write `int`"),
+        "float" => Some("there are whole numbers alone: count in tenths or hundredths"),
+        "when" => Some("a condition stands behind `if`"),
+        "goto" => Some("a transition begins with `go`, and leads to its state by `->`"),
+        "connector" => Some("take a state whose transitions are all `go immediate`"),
+        "while" => Some("go back by `goto` to a label, with a `pause;` on the way"),
+        _ => None,
     }
-    None
+}
+
+// The same for words of extended charts, in a chart.
+fn in_chart(word: &str) -> Option<&'static str> {
+    match word {
+        "const" => Some(
+            "a chart has no constants: write the number, or begin the text with `extended chart`",
+        ),
+        "pre" => Some(
+            "a chart does not know what a variable was: begin the text with `extended chart`",
+        ),
+        "signal" => Some(
+            "take an `output bool` or a `local bool`, and set it to false again; or begin the text with `extended chart`",
+        ),
+        "emit" => Some(
+            "set a truth value, and to false again; or begin the text with `extended chart`, which has signals",
+        ),
+        "entry" => Some(
+            "do it in each transition that leads to the state; or begin the text with `extended chart`",
+        ),
+        "exit" => Some(
+            "do it in each transition that leaves the state; or begin the text with `extended chart`",
+        ),
+        "during" => Some(
+            "write a transition of the state that leads back to it; or begin the text with `extended chart`",
+        ),
+        "after" => Some("count the ticks in a variable; or begin the text with `extended chart`"),
+        "history" => Some(
+            "note in a variable which state was active; or begin the text with `extended chart`",
+        ),
+        _ => None,
+    }
+}
+
+// The same in an extended chart, where they have no place.
+fn in_extended_chart(word: &str) -> Option<&'static str> {
+    match word {
+        "const" => Some("constants stand among the variables, before all regions"),
+        "pre" => Some("what variables were is named among the variables, before all regions"),
+        "signal" => Some("signals stand among the variables, before all regions; none is an input"),
+        "emit" => Some("a signal is emitted among effects, behind `do`"),
+        "entry" | "exit" | "during" => Some(
+            "actions stand in a state, before its regions and transitions",
+        ),
+        "after" => Some("a wait stands behind `go`, `strong` or `weak`, without `immediate`"),
+        "of" => Some("what is counted stands behind the ticks of a wait: `after 3 of A`"),
+        "shallow" | "history" => Some("history stands before a target: `-> shallow history S`"),
+        _ => None,
+    }
+}
+
+// The same in SCL.
+fn in_scl(word: &str) -> Option<&'static str> {
+    match word {
+        "const" => Some("there are no constants: write the number, or take a local variable"),
+        "signal" => Some("take an `output bool` or a `local bool`, and set it to false again"),
+        _ => None,
+    }
 }
 
 /// What to write for a word of another language, in a text of this grammar.
 pub(crate) fn for_word(grammar: Grammar, word: &str) -> Option<&'static str> {
-    if let Some(written) = written_for(&WORDS, word) {
-        return Some(written);
-    }
-    match grammar {
-        Grammar::Chart => written_for(&CHART_WORDS, word),
-        Grammar::ExtendedChart => written_for(&EXTENDED_WORDS, word),
-        Grammar::Scl => written_for(&SCL_WORDS, word),
+    match in_any(word) {
+        Some(written) => Some(written),
+        None => match grammar {
+            Grammar::Chart => in_chart(word),
+            Grammar::ExtendedChart => in_extended_chart(word),
+            Grammar::Scl => in_scl(word),
+        },
     }
 }

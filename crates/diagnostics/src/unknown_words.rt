@@ -1,10 +1,10 @@
 //! A name that is not declared, in words.
 
-use crate::found::name_in;
 use crate::fronts::{front_of, last_token};
 use crate::near_names::nearest;
 use crate::told::{Told, filled};
 use crate::words::Words;
+use node_sources::name_in;
 use sc_text::{Sign, TokenKind, Word};
 use sc_values::Name;
 use std::alloc::{AllocError, Global};

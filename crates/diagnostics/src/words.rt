@@ -1,7 +1,7 @@
 //! The faults of readers in words.
 
 use crate::extended_rules::{has_double_underscore, told_of_extended_kind};
-use crate::found::{found, name_in, stands_at};
+use crate::found::{found, stands_at};
 use crate::fronts::front_of;
 use crate::grammar_words::grammar_words;
 use crate::limit_words::limit_words;
@@ -10,6 +10,7 @@ use crate::spellings::for_sign;
 use crate::told::{Told, filled};
 use crate::unknown_words::unknown_words;
 use block_comments::without_comments;
+use node_sources::name_in;
 use sc_text::FaultKind;
 use std::alloc::{AllocError, Global};
 use text_continuations::Grammar;

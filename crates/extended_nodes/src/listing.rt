@@ -6,7 +6,7 @@ ghost use Rattle.node_sources.specs.Listing.{ListsPlaces};
 use crate::node::AuthorNode;
 use crate::sources::author_sources;
 use image_listing::{image_text_with_cells, left_cell};
-use node_sources::{Origin, Part, Positions, name_at};
+use node_sources::{Origin, Part, Positions, name_in};
 use sc_graph::{Program, are_same};
 use sqlite_items::Items;
 use std::alloc::{AllocError, Global};
@@ -33,90 +33,105 @@ fn sort_of(origin: &Origin) -> &'static str {
     }
 }
 
-// The state in which a transition or an effect stands.
-fn state_text(alloc: Global, text: &str, origin: &Origin) -> Result<String, AllocError> {
-    match origin.state {
-        Some(place) if place != origin.at => {
-            let state = name_at(alloc, text, place)?;
-            format!(in alloc; " of {state}")
-        }
-        _ => Ok(String::new(alloc)),
-    }
-}
-
-// The line and the column of an origin, and what stands there.
-fn origin_text(
-    alloc: Global,
+// Puts the line and the column of an origin, and what stands there, behind a text.
+fn put_origin(
+    told: &mut String,
     text: &str,
     positions: &Positions<'_>,
     origin: &Origin,
-) -> Result<String, AllocError> {
-    let position = positions.position(origin.at);
-    let line = position.line;
-    let column = position.column;
-    let sort = sort_of(origin);
-    let name = name_at(alloc, text, origin.at)?;
-    let state = state_text(alloc, text, origin)?;
-    format!(in alloc; "{line}:{column} {sort}{name}{state}")
-}
-
-// What is told of a place, in parentheses where a node is made.
-fn cell_text(alloc: Global, told: &str, is_made: bool) -> Result<String, AllocError> {
-    if is_made {
-        format!(in alloc; "({told})  ")
-    } else {
-        format!(in alloc; "{told}  ")
+) -> Result<(), AllocError> {
+    let line_column = positions.line_column(origin.at);
+    let line = line_column.line;
+    let column = line_column.column;
+    write!(told, "{line}:{column} ")?;
+    told.push_str(sort_of(origin))?;
+    told.push_str(name_in(text, origin.at))?;
+    match origin.state {
+        // the state in which a transition or an effect stands
+        Some(place) if place != origin.at => {
+            told.push_str(" of ")?;
+            told.push_str(name_in(text, place))
+        }
+        _ => Ok(()),
     }
 }
 
-// The cell of a node: in parentheses where it is made. None: it has no place.
-fn node_cell(
+// Puts what is told of a node behind a text: in parentheses where it is made. None: it has no place.
+fn put_node(
+    told: &mut String,
+    text: &str,
+    positions: &Positions<'_>,
+    node: Option<AuthorNode>,
+) -> Result<(), AllocError> {
+    let Some(node) = node else {
+        return Ok(());
+    };
+    if !node.is_made {
+        put_origin(told, text, positions, &node.origin)?;
+        return told.push_str("  ");
+    }
+    told.push_str("(")?;
+    put_origin(told, text, positions, &node.origin)?;
+    told.push_str(")  ")
+}
+
+// Puts the cell of a node behind others.
+fn put_cell(
     alloc: Global,
     text: &str,
     positions: &Positions<'_>,
-    node: &Option<AuthorNode>,
-) -> Result<String, AllocError> {
-    let Some(node) = node else {
-        return left_cell(alloc, WIDTH, "");
-    };
-    let told = origin_text(alloc, text, positions, &node.origin)?;
-    let cell = cell_text(alloc, told.as_str(), node.is_made)?;
-    left_cell(alloc, WIDTH, cell.as_str())
+    node: Option<AuthorNode>,
+    cells: &mut Items<String>,
+) -> Result<(), AllocError> {
+    let mut told = String::new(alloc);
+    put_node(&mut told, text, positions, node)?;
+    cells.push(left_cell(alloc, WIDTH, told.as_str())?)
 }
 
-// A cell for each of these nodes.
-fn node_cells(
+// Puts a cell for each of these nodes behind others.
+fn put_places(
     alloc: Global,
     text: &str,
     nodes: &[Option<AuthorNode>],
-) -> Result<Items<String>, AllocError> {
+    cells: &mut Items<String>,
+) -> Result<(), AllocError> {
     let positions = Positions::of(alloc, text)?;
-    let mut cells = Items::new(alloc);
     for node in nodes {
-        cells.push(node_cell(alloc, text, &positions, node)?)?;
+        put_cell(alloc, text, &positions, *node, cells)?;
     }
-    Ok(cells)
+    Ok(())
 }
 
-// An empty cell for each node.
-fn empty_cells(alloc: Global, program: &Program) -> Result<Items<String>, AllocError> {
-    let mut cells = Items::new(alloc);
+// Puts an empty cell for each node behind others.
+fn put_empty(
+    alloc: Global,
+    program: &Program,
+    cells: &mut Items<String>,
+) -> Result<(), AllocError> {
     for _ in program.nodes() {
         cells.push(left_cell(alloc, WIDTH, "")?)?;
     }
-    Ok(cells)
+    Ok(())
 }
 
-// The cells of the nodes of a program: their places, where the text is of an extended chart that makes it.
-fn cells_of(alloc: Global, program: &Program, text: &str) -> Result<Items<String>, AllocError> {
+// Puts the cells of the nodes of a program behind others: their places, where the text is of an extended chart that
+// makes it.
+fn put_cells(
+    alloc: Global,
+    program: &Program,
+    text: &str,
+    cells: &mut Items<String>,
+) -> Result<(), AllocError> {
     let Some(sources) = author_sources(alloc, text)? else {
-        return empty_cells(alloc, program);
+        return put_empty(alloc, program, cells);
     };
-    if are_same(sources.graph.get().program(), program) {
-        node_cells(alloc, text, sources.nodes.as_slice())
+    let put = if are_same(sources.graph.get().program(), program) {
+        put_places(alloc, text, sources.nodes.as_slice(), cells)
     } else {
-        empty_cells(alloc, program)
-    }
+        put_empty(alloc, program, cells)
+    };
+    drop(sources);
+    put
 }
 
 /// The listing of an image, in which each node's line has behind its number the line and the column of the text of the
@@ -131,7 +146,8 @@ pub fn image_text_with_author(
 ) -> Result<String, AllocError>
     ensures { IfOk result (λ listing. ListsPlaces image.now (string_bytes listing)) }
 {
-    let cells = cells_of(alloc, image.image().program(), text)?;
+    let mut cells = Items::new(alloc);
+    put_cells(alloc, image.image().program(), text, &mut cells)?;
     let head = left_cell(alloc, WIDTH, "source")?;
     image_text_with_cells(alloc, image, head.as_str(), cells.as_slice())
 }

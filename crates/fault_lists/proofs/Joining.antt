@@ -9,8 +9,7 @@ use Rattle.sc_text.specs.declared.read_fault.ReadFault.{ReadFault}
 use Rattle.sc_text.specs.declared.read_fault.ReadFault.TheVariants as read
 use Rattle.drafts.specs.declared.flaw.Flaw.{Flaw}
 use Rattle.sc_text.specs.declared.read_fault.FaultKind.{FaultKind}
-use Rattle.diagnostics.specs.Reports.{Tells, TellsAt, TellsPlace, text_fault}
-use Rattle.diagnostics.specs.LinesColumns.{place_shown}
+use Rattle.diagnostics.specs.Reports.{Tells, TellsAt, TellsPlace, place_shown, text_fault}
 use Rattle.fault_lists.specs.Reports.{AreReports, AreTold, TellsAll, TellsEach, TellsFurther}
 use Rattle.fault_lists.specs.Inside.{Goes}
 

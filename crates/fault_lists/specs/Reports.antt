@@ -19,8 +19,7 @@ use Rattle.extended_drafts.specs.Reading as extended
 use Rattle.text_continuations.specs.Continuations.{IsReadBy}
 use Rattle.text_continuations.specs.declared.grammars.Grammar.{Grammar}
 use Rattle.text_continuations.specs.declared.grammars.Grammar.TheVariants as grammars
-use Rattle.diagnostics.specs.Reports.{Tells, TellsAt, TellsPlace, text_fault}
-use Rattle.diagnostics.specs.LinesColumns.{place_shown}
+use Rattle.diagnostics.specs.Reports.{Tells, TellsAt, TellsPlace, place_shown, text_fault}
 
 -- a report for each of these flaws, with its line and column, one behind the other, and nothing else
 abbrev pub AreReports : (name text : List ℕ) → List Flaw → (told : List ℕ) → Type 0

@@ -10,3 +10,4 @@ mod SclSourcesTold
 pub mod Listed
 mod LabelsTold
 mod LanguagesTold
+pub mod LineColumns

@@ -6,3 +6,4 @@ pub mod Labels
 pub mod Laws
 pub mod SclLaws
 pub mod Listing
+pub mod LinesColumns

@@ -15,50 +15,63 @@ use verifier::Verified;
 // How wide a place is, with what stands behind it.
 const WIDTH: usize = 13;
 
-// The line and the column of an origin.
-fn place_cell(
+// Puts the cell of an origin, its line and its column, behind others.
+fn put_place(
     alloc: Global,
     positions: &Positions<'_>,
     origin: &Origin,
-) -> Result<String, AllocError> {
-    let position = positions.position(origin.at);
-    let line = position.line;
-    let column = position.column;
+    cells: &mut Items<String>,
+) -> Result<(), AllocError> {
+    let line_column = positions.line_column(origin.at);
+    let line = line_column.line;
+    let column = line_column.column;
     let text = format!(in alloc; "{line}:{column}")?;
-    left_cell(alloc, WIDTH, text.as_str())
+    cells.push(left_cell(alloc, WIDTH, text.as_str())?)
 }
 
-// A cell for each of these origins.
-fn place_cells(alloc: Global, text: &str, origins: &[Origin]) -> Result<Items<String>, AllocError> {
+// Puts a cell for each of these origins behind others.
+fn put_places(
+    alloc: Global,
+    text: &str,
+    origins: &[Origin],
+    cells: &mut Items<String>,
+) -> Result<(), AllocError> {
     let positions = Positions::of(alloc, text)?;
-    let mut cells = Items::new(alloc);
     for origin in origins {
-        cells.push(place_cell(alloc, &positions, origin)?)?;
+        put_place(alloc, &positions, origin, cells)?;
     }
-    Ok(cells)
+    Ok(())
 }
 
-// An empty cell for each node.
-fn empty_cells(alloc: Global, program: &Program) -> Result<Items<String>, AllocError> {
-    let mut cells = Items::new(alloc);
+// Puts an empty cell for each node behind others.
+fn put_empty(
+    alloc: Global,
+    program: &Program,
+    cells: &mut Items<String>,
+) -> Result<(), AllocError> {
     for _ in program.nodes() {
         cells.push(left_cell(alloc, WIDTH, "")?)?;
     }
-    Ok(cells)
+    Ok(())
 }
 
-// The cells of the nodes of a program: their places, where that is the program of the text.
-fn cells_of(alloc: Global, program: &Program, text: &str) -> Result<Items<String>, AllocError> {
+// Puts the cells of the nodes of a program behind others: their places, where that is the program of the text.
+fn put_cells(
+    alloc: Global,
+    program: &Program,
+    text: &str,
+    cells: &mut Items<String>,
+) -> Result<(), AllocError> {
     let Some(sources) = sources_of(alloc, text)? else {
-        return empty_cells(alloc, program);
+        return put_empty(alloc, program, cells);
     };
-    let cells = if are_same(&sources.program, program) {
-        place_cells(alloc, text, sources.origins.as_slice())
+    let put = if are_same(&sources.program, program) {
+        put_places(alloc, text, sources.origins.as_slice(), cells)
     } else {
-        empty_cells(alloc, program)
+        put_empty(alloc, program, cells)
     };
     drop(sources);
-    cells
+    put
 }
 
 /// The listing of an image, in which each node's line has behind its number the line and the column of the text from
@@ -68,7 +81,8 @@ fn cells_of(alloc: Global, program: &Program, text: &str) -> Result<Items<String
 pub fn image_text_with(alloc: Global, image: &Verified, text: &str) -> Result<String, AllocError>
     ensures { IfOk result (λ listing. ListsPlaces image.now (string_bytes listing)) }
 {
+    let mut cells = Items::new(alloc);
+    put_cells(alloc, image.image().program(), text, &mut cells)?;
     let head = left_cell(alloc, WIDTH, "source")?;
-    let cells = cells_of(alloc, image.image().program(), text)?;
     image_text_with_cells(alloc, image, head.as_str(), cells.as_slice())
 }

@@ -1,19 +1,17 @@
 //! The name that stands at a place of a text.
 
 use sc_values::NAME_LIMIT;
-use std::alloc::{AllocError, Global};
 
-/// The name, or the word, that begins at a byte of a text. Err: memory was refused.
-pub fn name_at(alloc: Global, text: &str, at: usize) -> Result<String, AllocError> {
-    let bytes = text.as_bytes();
-    let mut name = String::new(alloc);
-    for offset in 0..NAME_LIMIT {
-        match bytes.get(at.saturating_add(offset)) {
+/// The name, or the word, that begins at a byte of a text. Empty: none does.
+pub fn name_in(text: &str, at: usize) -> &str {
+    let mut end = at;
+    for _ in 0..NAME_LIMIT {
+        match text.as_bytes().get(end) {
             Some(byte) if byte.is_ascii_alphanumeric() || *byte == b'_' => {
-                name.push(*byte as char)?;
+                end = end.saturating_add(1);
             }
-            _ => return Ok(name),
+            _ => break,
         }
     }
-    Ok(name)
+    text.get(at..end).unwrap_or("")
 }

@@ -1,44 +1,17 @@
 //! Lines and columns of the places of a text, found without a walk from its beginning.
 
+use crate::line_columns::{LineColumn, START};
 use sqlite_items::Items;
 use std::alloc::{AllocError, Global};
-
-/// A line and a column, each from 1. Columns count characters; a tab is one.
-#[derive(Clone, Copy, PartialEq, Eq)]
-pub struct Position {
-    pub line: usize,
-    pub column: usize,
-}
 
 // How many bytes lie between two places that are noted.
 const STRIDE: usize = 256;
 
-const START: Position = Position { line: 1, column: 1 };
-
-impl Position {
-    // The position behind a byte that stands here. The further bytes of a character move nothing.
-    fn behind(self, byte: u8) -> Position {
-        if byte == b'\n' {
-            Position {
-                line: self.line.saturating_add(1),
-                column: 1,
-            }
-        } else if byte >= 0x80 && byte < 0xC0 {
-            self
-        } else {
-            Position {
-                line: self.line,
-                column: self.column.saturating_add(1),
-            }
-        }
-    }
-}
-
-/// The positions of the bytes of a text.
+/// The lines and columns of the bytes of a text.
 #[derive(Drop)]
 pub struct Positions<'a> {
     bytes: &'a [u8],
-    noted: Items<Position>,
+    noted: Items<LineColumn>,
 }
 
 impl<'a> Positions<'a> {
@@ -56,13 +29,12 @@ impl<'a> Positions<'a> {
         Ok(Positions { bytes, noted })
     }
 
-    /// The position of the byte of this number, from 0, at which a character begins; behind the last byte that of the
-    /// end.
-    pub fn position(&self, at: usize) -> Position {
+    /// That of the byte of this number, from 0, at which a character begins; behind the last byte that of the end.
+    pub fn line_column(&self, at: usize) -> LineColumn {
         let place = at.min(self.bytes.len());
         let first = self.last_noted(place / STRIDE);
         let mut here = match self.noted.get(first) {
-            Some(position) => *position,
+            Some(line_column) => *line_column,
             None => START,
         };
         let begin = first.saturating_mul(STRIDE);

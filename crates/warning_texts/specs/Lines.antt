@@ -1,6 +1,6 @@
 -- The lines of a text.
 use Rattle.std.specs.Prelude.{ℕ, ◌-◌, nat_eq, Bool, not, ◌&&◌, List, [], ◌∷◌, take, count_by, if◌then◌else◌}
-use Rattle.diagnostics.specs.LinesColumns.{is_line_feed}
+use Rattle.node_sources.specs.LinesColumns.{is_line_feed}
 
 -- of so many line feeds those that are still to come behind a byte
 abbrev pub left_behind : (feeds byte : ℕ) → ℕ

@@ -8,7 +8,7 @@ use Rattle.chart_drafts.specs.Checked.{IsSound, IsTextFault}
 use Rattle.chart_reader.specs.Resolved.{chart_of}
 use Rattle.chart_warnings.specs.declared.warning.Warning.{Warning}
 use Rattle.chart_warnings.specs.Warnings.{warnings_of}
-use Rattle.diagnostics.specs.LinesColumns.{place_shown}
+use Rattle.diagnostics.specs.Reports.{place_shown}
 use Rattle.warning_texts.specs.declared.places.ChartPlaces.{ChartPlaces}
 use Rattle.warning_texts.specs.Allowance.{code_text, is_allowed}
 use Rattle.warning_texts.specs.Lines.{are_lines}

@@ -3,7 +3,7 @@
 ghost use Rattle.std.specs.Prelude.{◌≡◌, drop, take};
 ghost use Rattle.warning_texts.specs.Lines.{are_lines, behind_feeds, first_line, left_behind, line_of};
 
-use diagnostics::line_column_of;
+use node_sources::line_column_of;
 
 /// The line in which a place of a text stands.
 pub(crate) fn line_of(text: &str, at: usize) -> &[u8]

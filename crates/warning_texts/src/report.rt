@@ -1,7 +1,7 @@
 //! The report of a warning.
 
 ghost use Rattle.std.specs.Prelude.{IfOk, IsTrue, string_bytes};
-ghost use Rattle.diagnostics.specs.LinesColumns.{place_shown};
+ghost use Rattle.diagnostics.specs.Reports.{place_shown};
 ghost use Rattle.warning_texts.specs.Allowance.{code_text};
 ghost use Rattle.warning_texts.specs.Lines.{are_lines};
 ghost use Rattle.warning_texts.specs.Reports.{IsReport};
@@ -12,7 +12,8 @@ use crate::lines::are_lines;
 use crate::warned_text::WarnedText;
 use crate::words::cause_of;
 use chart_warnings::Warning;
-use diagnostics::{line_column_of, line_column_text, marked_line};
+use diagnostics::{line_column_text, marked_line};
+use node_sources::line_column_of;
 use std::alloc::{AllocError, Global};
 
 /// The lines of a report.

@@ -1,7 +1,6 @@
 -- Lines and columns of a text, each from 1. Columns count characters, and a tab is one.
-use Rattle.std.specs.Prelude.{ℕ, ◌≡◌, ◌+◌, ◌==◌, nat_le, Bool, true, false, not, ◌&&◌, ◌||◌, List, [], ◌∷◌, ◌++◌, take, count_by, codes}
-use Rattle.std.specs.Fmt.{decimal}
-use Rattle.diagnostics.specs.declared.line_columns.LineColumn.{LineColumn}
+use Rattle.std.specs.Prelude.{ℕ, ◌≡◌, ◌+◌, ◌==◌, nat_le, Bool, true, false, not, ◌&&◌, ◌||◌, List, [], ◌∷◌, count_by}
+use Rattle.node_sources.specs.declared.line_columns.LineColumn.{LineColumn}
 
 abbrev pub is_line_feed : ℕ → Bool
 is_line_feed byte = byte == 10
@@ -35,7 +34,3 @@ column_behind before = 1 + count_by begins_character (last_line before)
 pub record IsLineColumn (before : List ℕ) (line_column : LineColumn) : Type 0 where
   pub line : line_column.line ≡ line_behind before
   pub column : line_column.column ≡ column_behind before
-
--- the place of the byte of this number as it is shown behind a name; of the end, where the text has no more than that
-abbrev pub place_shown : (text : List ℕ) → (at : ℕ) → List ℕ
-place_shown text at = codes ":" ++ (decimal (line_behind (take at text)) ++ (codes ":" ++ decimal (column_behind (take at text))))

@@ -1,11 +1,12 @@
 -- The line and the column behind one byte more.
-use Rattle.std.proofs.Common.{◌≡◌, ℕ, ◌+◌, ◌<◌, ◌≤◌, cond, get_or, Bool, true, false, ◌||◌, List, [], ◌∷◌, ◌++◌, length, length-append, take, drop}
+use Rattle.std.proofs.Common.{◌≡◌, ℕ, ◌+◌, ◌-◌, ◌^◌, ◌<◌, ◌≤◌, min, cond, get_or, Bool, true, false, ◌||◌, List, [], ◌∷◌, ◌++◌, length, length-append, take, drop}
 use Rattle.std.proofs.Common.{count_by, refl, sym, ◌∙◌, ap, arith}
 use Rattle.std.specs.Cmp.{unsigned_Decides}
+use Rattle.std.proofs.Math.Nat.{min-eq_left}
 use Rattle.std.proofs.lemmas.List.{take_more, take-append-drop}
 use Rattle.std.proofs.lemmas.List.Sums.{sum_by-append, count_by_more_yes, count_by_more_no, count_by-le-length}
-use Rattle.diagnostics.specs.declared.line_columns.LineColumn.{LineColumn}
-use Rattle.diagnostics.specs.LinesColumns.{IsLineColumn, is_line_feed, begins_character, has_line_feed, last_of, last_line, line_behind, column_behind}
+use Rattle.node_sources.specs.declared.line_columns.LineColumn.{LineColumn}
+use Rattle.node_sources.specs.LinesColumns.{IsLineColumn, is_line_feed, begins_character, has_line_feed, last_of, last_line, line_behind, column_behind}
 
 has_with : (bytes : List ℕ) (byte : ℕ) → is_line_feed byte ≡ true → has_line_feed (bytes ++ byte ∷ []) ≡ true
 has_with [] byte is = ap (λ b. b || false) is
@@ -96,6 +97,10 @@ column_fits bytes i =
     let b = last_line_short (take i bytes) in
     let c = take_short bytes i in
     omega arith
+
+-- what is one more where it is counted up to the last number of the machine
+pub one_more : (n size r : ℕ) → r ≡ min (n + 1) (2 ^ 64 - 1) → n ≤ 1 + size → size < 2 ^ 63 → r ≡ n + 1
+one_more n size r is fits short = is ∙ min-eq_left (omega (arith, fits, short))
 
 -- ---- as a place
 
