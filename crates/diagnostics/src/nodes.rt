@@ -5,7 +5,7 @@ use crate::lines::{put_margin, put_marked_line};
 use crate::told::put_filled;
 use compiler::LinkedProgram;
 use extended_nodes::AuthorNode;
-use node_sources::{LineColumn, Origin, Part, Positions, name_in};
+use node_sources::{LineColumn, Origin, Positions, SourcePart, name_in};
 use sc_graph::{Links, NodeId, Program, Step};
 use sc_values::Name;
 use sqlite_items::Items;
@@ -112,16 +112,16 @@ pub(crate) fn written_name(program: &Program, node: NodeId) -> Option<Name> {
 }
 
 // What stands before the name of the state, or of the region, to which a node of a chart belongs.
-fn part_text(part: Part) -> &'static str {
+fn part_text(part: SourcePart) -> &'static str {
     match part {
-        Part::Statement => "",
-        Part::Chart => ", of the chart as a whole",
-        Part::Region => ", of",
-        Part::State => ", of",
-        Part::Transition => ", in a transition of",
-        Part::Abort => ", for an abort of",
-        Part::Entry => ", for the entry of",
-        Part::Count => ", to count the regions that have not ended, for",
+        SourcePart::Statement => "",
+        SourcePart::Chart => ", of the chart as a whole",
+        SourcePart::Region => ", of",
+        SourcePart::State => ", of",
+        SourcePart::Transition => ", in a transition of",
+        SourcePart::Abort => ", for an abort of",
+        SourcePart::Entry => ", for the entry of",
+        SourcePart::Count => ", to count the regions that have not ended, for",
     }
 }
 

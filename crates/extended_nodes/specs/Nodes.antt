@@ -10,8 +10,8 @@ use Rattle.chart_elements.specs.declared.element.Element.TheVariants as element
 use Rattle.chart_places.specs.declared.places.Places.{Places}
 use Rattle.node_elements.specs.Origins.{node_elements}
 use Rattle.node_sources.specs.declared.origin.Origin.{Origin}
-use Rattle.node_sources.specs.declared.origin.Part.{Part}
-use Rattle.node_sources.specs.declared.origin.Part.TheVariants as part
+use Rattle.node_sources.specs.declared.origin.SourcePart.{SourcePart}
+use Rattle.node_sources.specs.declared.origin.SourcePart.TheVariants as part
 use Rattle.node_sources.specs.ChartOrigins.{element_origin}
 use Rattle.node_sources.specs.Parts.{part_of}
 use Rattle.extended_places.specs.declared.origins.AuthorOrigin.{AuthorOrigin}
@@ -20,7 +20,7 @@ use Rattle.extended_places.specs.Origins.{origin_of}
 use Rattle.extended_nodes.specs.declared.node.AuthorNode.{AuthorNode}
 
 -- what stands at the place of an element for which something is made
-abbrev pub made_part : Element → Part
+abbrev pub made_part : Element → SourcePart
 made_part element.Chart = part.Chart
 made_part (element.Region n) = part.Region
 made_part (element.State n) = part.State
@@ -28,7 +28,7 @@ made_part (element.Transition n) = part.Transition
 made_part (element.Effect n) = part.Transition
 
 -- this is done there, but of what is made no more is told than for what it is
-abbrev pub told_part : Part → AuthorOrigin → Part
+abbrev pub told_part : SourcePart → AuthorOrigin → SourcePart
 told_part does o = if o.is_made then made_part o.from else does
 
 abbrev pub told_as : (is_made : Bool) → Option Origin → Option AuthorNode
@@ -36,7 +36,7 @@ told_as made (Some o) = Some (record { origin = o; is_made = made })
 told_as made None = None
 
 -- what does this, and comes from an element of the reduced chart with this origin. None: that has none, or the origin no place
-abbrev pub in_author : Places → Part → Option AuthorOrigin → Option AuthorNode
+abbrev pub in_author : Places → SourcePart → Option AuthorOrigin → Option AuthorNode
 in_author p does (Some o) = told_as o.is_made (element_origin p (told_part does o) o.from)
 in_author p does None = None
 

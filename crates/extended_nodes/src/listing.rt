@@ -6,7 +6,7 @@ ghost use Rattle.node_sources.specs.Listing.{ListsPlaces};
 use crate::node::AuthorNode;
 use crate::sources::author_sources;
 use image_listing::{image_text_with_cells, left_cell};
-use node_sources::{Origin, Part, Positions, name_in};
+use node_sources::{Origin, Positions, SourcePart, name_in};
 use sc_graph::{Program, are_same};
 use sqlite_items::Items;
 use std::alloc::{AllocError, Global};
@@ -26,8 +26,8 @@ fn names_state(origin: &Origin) -> bool {
 // What stands before the name at the place of an origin. A transition and an effect have none.
 fn sort_of(origin: &Origin) -> &'static str {
     match origin.part {
-        Part::Chart => "chart ",
-        Part::Region => "region ",
+        SourcePart::Chart => "chart ",
+        SourcePart::Region => "region ",
         _ if names_state(origin) => "state ",
         _ => "",
     }

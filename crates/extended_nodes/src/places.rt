@@ -7,26 +7,26 @@ use crate::node::AuthorNode;
 use chart_elements::Element;
 use chart_places::Places;
 use extended_places::{AuthorOrigin, AuthorOrigins};
-use node_sources::{Part, element_origin, part_of};
+use node_sources::{SourcePart, element_origin, part_of};
 use sc_graph::Program;
 use sqlite_items::{Items, at};
 use std::alloc::{AllocError, Global};
 
 // What stands at the place of an element for which something is made.
-fn made_part(from: Element) -> Part
+fn made_part(from: Element) -> SourcePart
     ensures { result ≡ made_part from }
 {
     match from {
-        Element::Chart => Part::Chart,
-        Element::Region(_) => Part::Region,
-        Element::State(_) => Part::State,
-        Element::Transition(_) => Part::Transition,
-        Element::Effect(_) => Part::Transition,
+        Element::Chart => SourcePart::Chart,
+        Element::Region(_) => SourcePart::Region,
+        Element::State(_) => SourcePart::State,
+        Element::Transition(_) => SourcePart::Transition,
+        Element::Effect(_) => SourcePart::Transition,
     }
 }
 
 // What is told of what does this: of what is made no more than for what it is.
-fn told_part(does: Part, origin: AuthorOrigin) -> Part
+fn told_part(does: SourcePart, origin: AuthorOrigin) -> SourcePart
     ensures { result ≡ told_part does origin }
 {
     if origin.is_made {
@@ -40,7 +40,7 @@ fn told_part(does: Part, origin: AuthorOrigin) -> Part
 /// has no place.
 pub(crate) fn in_author(
     places: &Places,
-    does: Part,
+    does: SourcePart,
     origin: Option<AuthorOrigin>,
 ) -> Option<AuthorNode>
     ensures { result ≡ in_author places.now does origin }

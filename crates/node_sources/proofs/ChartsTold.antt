@@ -32,7 +32,7 @@ use Rattle.node_elements.specs.Laws.{Comes, ElementsTellNodes, NodeFrom, TellsEl
 use Rattle.node_elements.specs.Origins.{composed, node_elements}
 use Rattle.node_sources.proofs.Items.{Item, item_below}
 use Rattle.node_sources.specs.declared.origin.Origin.{Origin}
-use Rattle.node_sources.specs.declared.origin.Part.{Part}
+use Rattle.node_sources.specs.declared.origin.SourcePart.{SourcePart}
 use Rattle.node_sources.specs.ChartOrigins.{chart_origins, node_origin, origins_from, standing, standing_if}
 use Rattle.node_sources.specs.Parts.{part_of}
 use Rattle.node_sources.specs.Sources.{ChartSources}
@@ -94,7 +94,7 @@ module _ (text : List ℕ) (c : Chart) (p : Places) (is : IsPlaced text c p) (sc
       let place : HasPlace p comes.from = has_place text c p (tells_places places) comes.from nodes.item.step comes.does in
       let found : slice_get (node_elements c) k ≡ Some (Some comes.from) = comes.found in
       let same : from ≡ Some comes.from = cc in
-      let part : Part = part_of q.variables nodes.item.step comes.from in
+      let part : SourcePart = part_of q.variables nodes.item.step comes.from in
       let origin : node_origin p q.variables from (slice_get q.nodes k) ≡ Some (standing p part comes.from place.at) =
       ap (λ f. node_origin p q.variables f (slice_get q.nodes k)) same
       ∙ ap (node_origin p q.variables (Some comes.from)) nodes.there

@@ -17,7 +17,7 @@ use Rattle.node_elements.specs.Laws.{Comes, ElementsTellNodes, NodeFrom, TellsEl
 use Rattle.node_elements.specs.Origins.{node_elements}
 use Rattle.node_elements.proofs.Telling.{get_mapped}
 use Rattle.node_sources.specs.declared.origin.Origin.{Origin}
-use Rattle.node_sources.specs.declared.origin.Part.{Part}
+use Rattle.node_sources.specs.declared.origin.SourcePart.{SourcePart}
 use Rattle.node_sources.specs.ChartOrigins.{in_state_around, node_origin, origins_from, standing, standing_if}
 use Rattle.node_sources.specs.Laws.{ElementStands, IsStanding, NodeTold, SourcesTellCharts}
 use Rattle.node_sources.specs.Parts.{part_of}
@@ -45,11 +45,11 @@ get_from p q i (e ∷ elements) (suc k) from h =
 
 -- ---- places
 
-in_state_around_at : (part : Part) (at : ℕ) (around : Option StateAround) → (in_state_around part at around).at ≡ at
+in_state_around_at : (part : SourcePart) (at : ℕ) (around : Option StateAround) → (in_state_around part at around).at ≡ at
 in_state_around_at part at (Some around) = refl
 in_state_around_at part at None = refl
 
-standing_at : (p : Places) (part : Part) (from : Element) (at : ℕ) → (standing p part from at).at ≡ at
+standing_at : (p : Places) (part : SourcePart) (from : Element) (at : ℕ) → (standing p part from at).at ≡ at
 standing_at p part element.Chart at = refl
 standing_at p part (element.Region n) at = refl
 standing_at p part (element.State n) at = in_state_around_at part at (state_around p (element.State n))
@@ -87,7 +87,7 @@ node_told elements places text q origins s k n o is stands =
     let comes : Comes s.chart k n.step =
     told.comes k n (subst (λ (r : Program). slice_get r.nodes k ≡ Some n) s.graph.is is) in
     let place : HasPlace s.places comes.from = has_place text s.chart s.places tells comes.from n.step comes.does in
-    let part : Part = part_of q.variables n.step comes.from in
+    let part : SourcePart = part_of q.variables n.step comes.from in
     let from_zero : 0 + k ≡ k = omega arith in
     let mine : slice_get (map Some origins) k ≡ Some (Some o) = get_mapped Some origins k o stands in
     let there : slice_get (map Some origins) k ≡ Some (node_origin s.places q.variables (Some comes.from) (slice_get q.nodes k)) =

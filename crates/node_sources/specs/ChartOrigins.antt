@@ -12,28 +12,28 @@ use Rattle.chart_places.specs.declared.states_around.StateAround.{StateAround}
 use Rattle.chart_places.specs.Places.{place_of, state_around}
 use Rattle.node_elements.specs.Origins.{node_elements}
 use Rattle.node_sources.specs.declared.origin.Origin.{Origin}
-use Rattle.node_sources.specs.declared.origin.Part.{Part}
+use Rattle.node_sources.specs.declared.origin.SourcePart.{SourcePart}
 use Rattle.node_sources.specs.Parts.{part_of}
 
 -- a part of a state
-abbrev pub in_state_around : Part → ℕ → Option StateAround → Origin
+abbrev pub in_state_around : SourcePart → ℕ → Option StateAround → Origin
 in_state_around part at (Some around) = record { at = at; part = part; region = Some around.region; state = Some around.state }
 in_state_around part at None = record { at = at; part = part; region = None; state = None }
 
 -- what stands at a place: the chart lies in no region, and a region in none but itself
-abbrev pub standing : Places → Part → Element → ℕ → Origin
+abbrev pub standing : Places → SourcePart → Element → ℕ → Origin
 standing p part element.Chart at = record { at = at; part = part; region = None; state = None }
 standing p part (element.Region n) at = record { at = at; part = part; region = Some at; state = None }
 standing p part (element.State n) at = in_state_around part at (state_around p (element.State n))
 standing p part (element.Transition n) at = in_state_around part at (state_around p (element.Transition n))
 standing p part (element.Effect n) at = in_state_around part at (state_around p (element.Effect n))
 
-abbrev pub standing_if : Places → Part → Element → Option ℕ → Option Origin
+abbrev pub standing_if : Places → SourcePart → Element → Option ℕ → Option Origin
 standing_if p part from (Some at) = Some (standing p part from at)
 standing_if p part from None = None
 
 -- an element as a part of the text. None: it has no place
-abbrev pub element_origin : Places → Part → Element → Option Origin
+abbrev pub element_origin : Places → SourcePart → Element → Option Origin
 element_origin p part from = standing_if p part from (place_of p from)
 
 -- a node that comes from an element

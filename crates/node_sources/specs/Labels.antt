@@ -22,8 +22,8 @@ use Rattle.lowering_origins.specs.Origins.{point_origins}
 use Rattle.expansion_origins.specs.Origins.{expansion_origins}
 use Rattle.node_elements.specs.Origins.{through}
 use Rattle.node_sources.specs.declared.origin.Origin.{Origin}
-use Rattle.node_sources.specs.declared.origin.Part.{Part}
-use Rattle.node_sources.specs.declared.origin.Part.TheVariants as part
+use Rattle.node_sources.specs.declared.origin.SourcePart.{SourcePart}
+use Rattle.node_sources.specs.declared.origin.SourcePart.TheVariants as part
 use Rattle.node_sources.specs.ChartOrigins.{element_origin}
 use Rattle.node_sources.specs.SclOrigins.{at_first, spots_of}
 
@@ -38,7 +38,7 @@ label_at Forks = None
 label_at Ends = None
 
 -- a label of a state or of a region, or one that was added for an abort
-abbrev pub label_part : Element → Part
+abbrev pub label_part : Element → SourcePart
 label_part element.Chart = part.Chart
 label_part (element.Region n) = part.Region
 label_part (element.State n) = part.State

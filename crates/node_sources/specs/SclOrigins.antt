@@ -12,7 +12,7 @@ use Rattle.graph_origins.specs.declared.origin.NodeOrigin.{NodeOrigin}
 use Rattle.graph_origins.specs.declared.origin.NodeOrigin.TheVariants as node
 use Rattle.graph_origins.specs.Origins.{node_origins}
 use Rattle.node_sources.specs.declared.origin.Origin.{Origin}
-use Rattle.node_sources.specs.declared.origin.Part.TheVariants as part
+use Rattle.node_sources.specs.declared.origin.SourcePart.TheVariants as part
 use Rattle.node_sources.specs.declared.statements.StatementPlace.{StatementPlace}
 
 -- ---- statements

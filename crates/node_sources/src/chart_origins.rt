@@ -4,7 +4,7 @@ ghost use Rattle.std.specs.Prelude.{◌≡◌, ℕ, IfOk, IsSome, Option, Some, 
 ghost use Rattle.chart_elements.specs.declared.element.Element.{Element};
 ghost use Rattle.node_sources.specs.ChartOrigins.{element_origin, in_state_around, node_origin, origins_from, standing};
 
-use crate::origin::{Origin, Part};
+use crate::origin::{Origin, SourcePart};
 use crate::parts::part_of;
 use chart_elements::Element;
 use chart_places::{Places, StateAround};
@@ -13,7 +13,7 @@ use sqlite_items::{Items, at};
 use std::alloc::{AllocError, Global};
 
 // A part of a state.
-fn in_state_around(part: Part, place: usize, around: Option<StateAround>) -> Origin
+fn in_state_around(part: SourcePart, place: usize, around: Option<StateAround>) -> Origin
     ensures { result ≡ in_state_around part place around }
 {
     match around {
@@ -33,7 +33,7 @@ fn in_state_around(part: Part, place: usize, around: Option<StateAround>) -> Ori
 }
 
 // What stands at the place of an element.
-fn standing(places: &Places, part: Part, from: Element, place: usize) -> Origin
+fn standing(places: &Places, part: SourcePart, from: Element, place: usize) -> Origin
     ensures { result ≡ standing places.now part from place }
 {
     match from {
@@ -51,7 +51,7 @@ fn standing(places: &Places, part: Part, from: Element, place: usize) -> Origin
 }
 
 /// An element of a chart as a part of its text. None: it has no place.
-pub fn element_origin(places: &Places, part: Part, from: Element) -> Option<Origin>
+pub fn element_origin(places: &Places, part: SourcePart, from: Element) -> Option<Origin>
     ensures { result ≡ element_origin places.now part from }
 {
     match places.place_of(from) {

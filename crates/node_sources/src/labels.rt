@@ -7,7 +7,7 @@ ghost use Rattle.node_sources.specs.Labels.{label_at, label_origin, label_part};
 ghost use Rattle.source_programs.specs.Kept.{KeepsChart, KeepsDraft};
 
 use crate::chart_origins::element_origin;
-use crate::origin::{Origin, Part};
+use crate::origin::{Origin, SourcePart};
 use crate::scl_sources::{first_origin, tokens_of};
 use crate::statements::spots_of;
 use chart_elements::Element;
@@ -117,15 +117,15 @@ pub fn label_point(alloc: Global, scl: &Scl, label: Name) -> Result<Option<usize
 }
 
 /// What stands at the place of an element for which the lowering makes a label.
-pub fn label_part(from: Element) -> Part
+pub fn label_part(from: Element) -> SourcePart
     ensures { result ≡ label_part from }
 {
     match from {
-        Element::Chart => Part::Chart,
-        Element::Region(_) => Part::Region,
-        Element::State(_) => Part::State,
-        Element::Transition(_) => Part::Abort,
-        Element::Effect(_) => Part::Transition,
+        Element::Chart => SourcePart::Chart,
+        Element::Region(_) => SourcePart::Region,
+        Element::State(_) => SourcePart::State,
+        Element::Transition(_) => SourcePart::Abort,
+        Element::Effect(_) => SourcePart::Transition,
     }
 }
 

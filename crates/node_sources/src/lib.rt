@@ -23,7 +23,7 @@ pub use laws::{sources_tell_charts, sources_tell_scl};
 pub use line_columns::{LineColumn, line_column_of};
 pub use listing::image_text_with;
 pub use names::name_in;
-pub use origin::{Origin, Part};
+pub use origin::{Origin, SourcePart};
 pub use parts::part_of;
 pub use positions::Positions;
 pub use sources::{Sources, origins_in, sources_in, sources_of};

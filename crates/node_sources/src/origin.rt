@@ -5,7 +5,7 @@ ghost use Rattle.node_sources.specs.SclOrigins.{statement_at};
 
 /// What stands at the place of an origin.
 #[derive(Clone, Copy, PartialEq, Eq)]
-pub enum Part {
+pub enum SourcePart {
     /// A statement of SCL text, or the word that opens a branch or the text.
     Statement,
     /// The name of a chart, whose regions are entered and end.
@@ -30,7 +30,7 @@ pub struct Origin {
     /// The first byte in the text, from 0.
     pub at: usize,
     /// What stands there.
-    pub part: Part,
+    pub part: SourcePart,
     /// Where the name of the region stands that it is in, or for an abort that of its superstate. SCL text has none.
     pub region: Option<usize>,
     /// Where the name of the state stands that it belongs to, or for an abort its superstate.
@@ -44,7 +44,7 @@ impl Origin {
     {
         Origin {
             at,
-            part: Part::Statement,
+            part: SourcePart::Statement,
             region: None,
             state: None,
         }

@@ -4,7 +4,7 @@ ghost use Rattle.std.specs.Prelude.{◌≡◌, slice_get};
 ghost use Rattle.node_sources.specs.Parts.{added_for, concerned, concerned_for, is_byte, loaded};
 ghost use Rattle.node_sources.specs.Parts.{of_state, of_transition, part_of};
 
-use crate::origin::Part;
+use crate::origin::SourcePart;
 use chart_elements::Element;
 use sc_graph::{Step, Variable, VariableId};
 use sc_values::Operation;
@@ -21,15 +21,15 @@ fn has_byte(name: &[u8], number: usize, byte: u8) -> bool
 }
 
 // What a variable of this name is added for. None: it is declared in the text.
-fn added_for(name: &[u8]) -> Option<Part>
+fn added_for(name: &[u8]) -> Option<SourcePart>
     ensures { result ≡ added_for name.now }
 {
     if !has_byte(name, 0, b'_') {
         None
     } else if has_byte(name, 1, b'r') {
-        Some(Part::Count)
+        Some(SourcePart::Count)
     } else {
-        Some(Part::Abort)
+        Some(SourcePart::Abort)
     }
 }
 
@@ -56,7 +56,7 @@ fn concerned(step: &Step) -> Option<VariableId>
 }
 
 // What the variable that a step concerns is added for.
-fn concerned_for(variables: &[Variable], variable: Option<VariableId>) -> Option<Part>
+fn concerned_for(variables: &[Variable], variable: Option<VariableId>) -> Option<SourcePart>
     ensures { result ≡ concerned_for variables.now variable }
 {
     match variable {
@@ -68,37 +68,37 @@ fn concerned_for(variables: &[Variable], variable: Option<VariableId>) -> Option
     }
 }
 
-fn of_state(step: &Step) -> Part
+fn of_state(step: &Step) -> SourcePart
     ensures { result ≡ of_state step.now }
 {
     match step {
-        Step::Assign { .. } => Part::Entry,
-        Step::Update { .. } => Part::Count,
-        _ => Part::State,
+        Step::Assign { .. } => SourcePart::Entry,
+        Step::Update { .. } => SourcePart::Count,
+        _ => SourcePart::State,
     }
 }
 
-fn of_transition(step: &Step) -> Part
+fn of_transition(step: &Step) -> SourcePart
     ensures { result ≡ of_transition step.now }
 {
     match step {
-        Step::Cond { .. } => Part::Transition,
-        _ => Part::Abort,
+        Step::Cond { .. } => SourcePart::Transition,
+        _ => SourcePart::Abort,
     }
 }
 
 /// What is done by this step at the place of the element from which its node comes.
-pub fn part_of(variables: &[Variable], step: &Step, from: Element) -> Part
+pub fn part_of(variables: &[Variable], step: &Step, from: Element) -> SourcePart
     ensures { result ≡ part_of variables.now step.now from }
 {
     match from {
-        Element::Chart => Part::Chart,
-        Element::Region(_) => Part::Region,
+        Element::Chart => SourcePart::Chart,
+        Element::Region(_) => SourcePart::Region,
         Element::State(_) => of_state(step),
         Element::Transition(_) => match concerned_for(variables, concerned(step)) {
             Some(part) => part,
             None => of_transition(step),
         },
-        Element::Effect(_) => Part::Transition,
+        Element::Effect(_) => SourcePart::Transition,
     }
 }
