@@ -1,11 +1,13 @@
 -- What each region and each state of a draft is, its names looked up, and which rows it leaves.
-use Rattle.std.proofs.Common.{◌≡◌, ℕ, true, List, [], ◌∷◌, length, map, codes, refl, ap, ◌∙◌}
-use Rattle.std.proofs.lemmas.List.{length-map}
+use Rattle.std.proofs.Common.{◌≡◌, ℕ, true, List, [], ◌∷◌, ◌++◌, length, map, codes, refl, ap, sym, ◌∙◌}
+use Rattle.std.proofs.lemmas.List.{append-nil, length-map}
 use Rattle.chart_drafts.specs.declared.draft.DraftRegion.{DraftRegion}
 use Rattle.chart_drafts.specs.declared.draft.DraftRegion.TheViews.{out-DraftRegion, out-DraftState}
 use Rattle.chart_drafts.specs.declared.draft.DraftRegion.TheFolds.{fold_out-DraftRegion, fold_out-DraftState}
 use Rattle.chart_drafts.specs.declared.draft.DraftState.{DraftState}
 use Rattle.chart_drafts.specs.Flaws.{state_names}
+use Rattle.chart_reader.specs.Narrow.{AreNarrow}
+use Rattle.chart_reader.proofs.Inner.{none_narrow}
 use Rattle.extended_drafts.specs.declared.draft.DraftRows.{DraftRows}
 use Rattle.extended_charts.specs.declared.extended.ExtendedRegion.{ExtendedRegion}
 use Rattle.extended_charts.specs.declared.extended.ExtendedState.{ExtendedState}
@@ -78,6 +80,10 @@ module _ (names : List (List ℕ)) where
         states = all_states own rows (map (state_of names) (out-DraftRegion r).states);
       })) (piece_names (out-DraftRegion r).states)
 
-  pub region_leaves : (r : DraftRegion) (rows : DraftRows) → (region_of names r).behind rows
-      ≡ behind_states rows (map (state_of names) (out-DraftRegion r).states)
-  region_leaves r rows = ap (λ p. p.behind rows) (region_piece_is r)
+-- none are put where none may stand, and none of the rows are taken
+module _ (names : List (List ℕ)) (levels : ℕ) (texts : List DraftRegion) (rows : DraftRows) (are : AreNarrow levels texts) (none : levels ≡ 0) where
+  pub none_put : (made : List ExtendedRegion) → made ≡ made ++ all_regions rows (map (region_of names) texts)
+  none_put made = sym (append-nil made) ∙ ap (λ x. made ++ all_regions rows (map (region_of names) x)) (sym (none_narrow levels texts are none))
+
+  pub none_taken : rows ≡ behind_regions rows (map (region_of names) texts)
+  none_taken = ap (λ x. behind_regions rows (map (region_of names) x)) (sym (none_narrow levels texts are none))

@@ -35,10 +35,17 @@ conditions names ways = map (λ c. expression_of names c.condition.operations) (
 abbrev pub first_number : List DraftWay → ℕ
 first_number ways = elapsed - length (counts_of ways)
 
+-- a number names at least so many ticks
+abbrev pub at_least : (number : ℕ) → (ticks : Expr) → Expr
+at_least number ticks = expr.Binary operator.GreaterOrEqual (expr.Load number) ticks
+
+abbrev pub one_less : Expr → Expr
+one_less ticks = expr.Binary operator.Subtract ticks (expr.Literal (value.Int (pos 1)))
+
+-- the condition is true, and was in all of so many ticks but this one
+abbrev pub with_this : (number : ℕ) → (condition ticks : Expr) → Expr
+with_this number condition ticks = expr.Binary operator.And condition (at_least number (one_less ticks))
+
 -- the condition was true in so many ticks, where a number names in how many it was before this one
 abbrev pub counted : (number : ℕ) → (condition ticks : Expr) → Expr
-counted number condition ticks =
-    expr.Binary operator.Or
-    (expr.Binary operator.And condition
-    (expr.Binary operator.GreaterOrEqual (expr.Load number) (expr.Binary operator.Subtract ticks (expr.Literal (value.Int (pos 1))))))
-    (expr.Binary operator.GreaterOrEqual (expr.Load number) ticks)
+counted number condition ticks = expr.Binary operator.Or (with_this number condition ticks) (at_least number ticks)

@@ -33,7 +33,7 @@ use Rattle.extended_charts.specs.declared.extended.ExtendedState.{ExtendedState}
 use Rattle.extended_charts.specs.declared.extended.ExtendedRegion.TheViews.{roll-ExtendedRegion, roll-ExtendedState}
 use Rattle.extended_charts.specs.Reading.{elapsed}
 use Rattle.extended_reader.specs.declared.sorts.Sort.TheVariants as sort
-use Rattle.extended_reader.specs.Counts.{first_number, conditions, counted}
+use Rattle.extended_reader.specs.Counts.{at_least, first_number, conditions, counted}
 use Rattle.extended_reader.specs.Items.{all_of, names_of, declared_of, signal_numbers, before_of, constant_of}
 
 -- ---- actions, over what has these names
@@ -67,7 +67,7 @@ durings_of names (e ∷ entries) =
 
 -- so many ticks went by since the state was entered, all or those of a count, which has this number
 abbrev pub waited : (names : List (List ℕ)) → (number : ℕ) → (ticks : Expr) → Option DraftCount → Expr
-waited names number ticks None = expr.Binary operator.GreaterOrEqual (expr.Load elapsed) ticks
+waited names number ticks None = at_least elapsed ticks
 waited names number ticks (Some c) = counted number (condition_of names c.condition) ticks
 
 abbrev pub waited_by : (names : List (List ℕ)) → (number : ℕ) → DraftDelay → Expr

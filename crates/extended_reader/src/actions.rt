@@ -1,64 +1,94 @@
 //! The actions of a state, with their names looked up.
 
-ghost use Rattle.std.specs.Prelude.{◌≡◌, ◌≤◌, IfOk, length};
+ghost use Rattle.std.specs.Prelude.{◌≡◌, ◌≤◌, [], ◌∷◌, ◌++◌, OnOk, length};
 ghost use Rattle.sc_graph.specs.Limits.{variable_limit};
 ghost use Rattle.drafts.specs.Flaws.{variable_names};
+ghost use Rattle.extended_reader.specs.Inside.{fill_actions};
 ghost use Rattle.extended_reader.specs.Resolved.{actions_of, during_of, durings_of};
 
-use chart_reader::{effects, trigger};
+use chart_reader::{effects, put_effects, trigger};
 use core_charts::Effect;
 use drafts::Scope;
-use extended_charts::During;
+use extended_charts::{During, ExtendedState};
 use extended_drafts::DraftEntry;
 use sqlite_items::Items;
 use std::alloc::{AllocError, Global};
 
-/// The effects behind this word, over these variables. Err: memory was refused.
-pub(crate) fn actions_of(
+/// Puts the actions of a state, over these variables, behind others. Err: memory was refused.
+pub(crate) fn put_actions(
+    alloc: Global,
+    scope: &Scope,
+    entries: &[DraftEntry],
+    state: &mut ExtendedState,
+) -> Result<(), AllocError>
+    requires { length scope.now.variables.now ≤ variable_limit }
+    ensures { OnOk result (state.new ≡
+        fill_actions (variable_names scope.now.variables.now) entries.now state.old) }
+{
+    put_word_actions(alloc, "entry", scope, entries, &mut state.entry)?;
+    put_word_actions(alloc, "exit", scope, entries, &mut state.exit)?;
+    put_durings(alloc, scope, entries, &mut state.during)
+}
+
+// Puts the effects behind this word behind others.
+fn put_word_actions(
     alloc: Global,
     word: &str,
     scope: &Scope,
     entries: &[DraftEntry],
-) -> Result<Items<Effect>, AllocError>
+    made: &mut Items<Effect>,
+) -> Result<(), AllocError>
     requires { length scope.now.variables.now ≤ variable_limit }
-    ensures { IfOk result (λ all. all ≡
+    ensures { OnOk result (made.new ≡ made.old ++
         actions_of word.now (variable_names scope.now.variables.now) entries.now) }
 {
-    let mut all = Items::new(alloc);
     for entry in entries {
         if entry.word.name.as_str() == word {
-            all.append(effects(alloc, scope, entry.effects.as_slice())?)?;
+            put_effects(alloc, scope, entry.effects.as_slice(), made)?;
         }
     }
-    Ok(all)
+    Ok(())
 }
 
-/// Those that are made while the state goes on, over these variables. Err: memory was refused.
-pub(crate) fn durings_of(
+// Puts those that are made while the state goes on behind others.
+fn put_durings(
     alloc: Global,
     scope: &Scope,
     entries: &[DraftEntry],
-) -> Result<Items<During>, AllocError>
+    made: &mut Items<During>,
+) -> Result<(), AllocError>
     requires { length scope.now.variables.now ≤ variable_limit }
-    ensures { IfOk result (λ all. all ≡
+    ensures { OnOk result (made.new ≡ made.old ++
         durings_of (variable_names scope.now.variables.now) entries.now) }
 {
-    let mut all = Items::new(alloc);
     for entry in entries {
         if entry.word.name.as_str() == "during" {
-            all.push(during_of(alloc, scope, entry)?)?;
+            put_during(alloc, scope, entry, made)?;
         }
     }
-    Ok(all)
+    Ok(())
 }
 
-fn during_of(alloc: Global, scope: &Scope, entry: &DraftEntry) -> Result<During, AllocError>
+fn put_during(
+    alloc: Global,
+    scope: &Scope,
+    entry: &DraftEntry,
+    made: &mut Items<During>,
+) -> Result<(), AllocError>
     requires { length scope.now.variables.now ≤ variable_limit }
-    ensures { IfOk result (λ one. one ≡ during_of (variable_names scope.now.variables.now) entry.now) }
+    ensures { OnOk result (made.new ≡ made.old ++
+        during_of (variable_names scope.now.variables.now) entry.now ∷ []) }
 {
-    Ok(During {
-        immediate: entry.immediate,
-        trigger: trigger(alloc, scope, &entry.trigger)?,
-        effects: effects(alloc, scope, entry.effects.as_slice())?,
-    })
+    let trigger = trigger(alloc, scope, &entry.trigger)?;
+    match effects(alloc, scope, entry.effects.as_slice()) {
+        Ok(effects) => made.push(During {
+            immediate: entry.immediate,
+            trigger,
+            effects,
+        }),
+        Err(error) => {
+            drop(trigger);
+            Err(error)
+        }
+    }
 }

@@ -1,36 +1,55 @@
 //! The conditions of which ticks are counted, and what transitions ask of them.
 
-ghost use Rattle.std.specs.Prelude.{◌≡◌, ◌≤◌, ◌+◌, IfOk, length};
+ghost use Rattle.std.specs.Prelude.{◌≡◌, ◌≤◌, ◌+◌, [], ◌∷◌, ◌++◌, IfOk, OnOk, length};
 ghost use Rattle.sc_values.specs.declared.expression.Expr.TheVariants as expr;
 ghost use Rattle.sc_values.specs.declared.operator.BinaryOperator.TheVariants as operator;
 ghost use Rattle.sc_graph.specs.Limits.{variable_limit};
 ghost use Rattle.drafts.specs.Flaws.{variable_names};
-ghost use Rattle.extended_reader.specs.Counts.{counts_of, conditions, counted};
+ghost use Rattle.drafts.specs.Resolved.{expression_of};
+ghost use Rattle.extended_reader.specs.Counts.{at_least, conditions, counted, counts_of, one_less, with_this};
 
-use drafts::Scope;
+use drafts::{Scope, TextExpression};
 use extended_drafts::DraftWay;
 use sc_values::{BinaryOperator, Expr, Value};
 use sqlite_items::{Boxed, Items};
 use std::alloc::{AllocError, Global};
 
-/// The conditions of which these transitions count the ticks, over these variables. Err: memory was refused.
-pub(crate) fn conditions(
+/// Puts the conditions of which these transitions count the ticks, over these variables, behind others. Err: memory was
+/// refused.
+pub(crate) fn put_conditions(
     alloc: Global,
     scope: &Scope,
     ways: &[DraftWay],
-) -> Result<Items<Expr>, AllocError>
+    made: &mut Items<Expr>,
+) -> Result<(), AllocError>
     requires { length scope.now.variables.now ≤ variable_limit }
-    ensures { IfOk result (λ all. all ≡ conditions (variable_names scope.now.variables.now) ways.now) }
+    ensures { OnOk result (made.new ≡
+        made.old ++ conditions (variable_names scope.now.variables.now) ways.now) }
 {
-    let mut all = Items::new(alloc);
     for way in ways {
         if let Some(delay) = &way.delay {
             if let Some(count) = &delay.count {
-                all.push(scope.resolved(alloc, &count.condition)?)?;
+                put_condition(alloc, scope, &count.condition, made)?;
             }
         }
     }
-    Ok(all)
+    Ok(())
+}
+
+fn put_condition(
+    alloc: Global,
+    scope: &Scope,
+    condition: &TextExpression,
+    made: &mut Items<Expr>,
+) -> Result<(), AllocError>
+    requires { length scope.now.variables.now ≤ variable_limit }
+    ensures { OnOk result (made.new ≡ made.old ++
+        expression_of (variable_names scope.now.variables.now) condition.now.operations ∷ []) }
+{
+    match scope.resolved(alloc, condition) {
+        Ok(resolved) => made.push(resolved),
+        Err(error) => Err(error),
+    }
 }
 
 fn one_more(count: u16) -> Result<u16, AllocError>
@@ -57,13 +76,47 @@ pub(crate) fn counts_in(ways: &[DraftWay]) -> Result<u16, AllocError>
     Ok(counts)
 }
 
+/// An operator over these operands. Err: memory was refused.
+pub(crate) fn binary(
+    alloc: Global,
+    operator: BinaryOperator,
+    left: Expr,
+    right: Expr,
+) -> Result<Expr, AllocError>
+    ensures { IfOk result (λ made. made ≡ expr.Binary operator left right) }
+{
+    match Boxed::new(alloc, left) {
+        Ok(left) => binary_over(alloc, operator, left, right),
+        Err(error) => {
+            drop(right);
+            Err(error)
+        }
+    }
+}
+
+fn binary_over(
+    alloc: Global,
+    operator: BinaryOperator,
+    left: Boxed<Expr>,
+    right: Expr,
+) -> Result<Expr, AllocError>
+    ensures { IfOk result (λ made. made ≡ expr.Binary operator left right) }
+{
+    match Boxed::new(alloc, right) {
+        Ok(right) => Ok(Expr::Binary(operator, left, right)),
+        Err(error) => {
+            drop(left);
+            Err(error)
+        }
+    }
+}
+
 /// That a number names at least so many ticks. Err: memory was refused.
 pub(crate) fn at_least(alloc: Global, number: u16, ticks: Expr) -> Result<Expr, AllocError>
-    ensures { IfOk result (λ made. made ≡ expr.Binary operator.GreaterOrEqual (expr.Load number) ticks) }
+    ensures { IfOk result (λ made. made ≡ at_least number ticks) }
 {
-    let number = Boxed::new(alloc, Expr::Load(number))?;
-    let ticks = Boxed::new(alloc, ticks)?;
-    Ok(Expr::Binary(BinaryOperator::GreaterOrEqual, number, ticks))
+    let number = Expr::Load(number);
+    binary(alloc, BinaryOperator::GreaterOrEqual, number, ticks)
 }
 
 /// That the condition was true in so many ticks, where a number names in how many it was before this one. Err: memory
@@ -76,12 +129,51 @@ pub(crate) fn counted(
 ) -> Result<Expr, AllocError>
     ensures { IfOk result (λ made. made ≡ counted number condition ticks) }
 {
-    let all = Boxed::new(alloc, ticks.copied(alloc)?)?;
-    let one = Boxed::new(alloc, Expr::Literal(Value::Int(1)))?;
-    let others = Expr::Binary(BinaryOperator::Subtract, all, one);
-    let before = Boxed::new(alloc, at_least(alloc, number, others)?)?;
-    let condition = Boxed::new(alloc, condition)?;
-    let with_this = Boxed::new(alloc, Expr::Binary(BinaryOperator::And, condition, before))?;
-    let without = Boxed::new(alloc, at_least(alloc, number, ticks)?)?;
-    Ok(Expr::Binary(BinaryOperator::Or, with_this, without))
+    match with_this(alloc, number, condition, &ticks) {
+        Ok(with_this) => with_this_or_without(alloc, number, with_this, ticks),
+        Err(error) => {
+            drop(ticks);
+            Err(error)
+        }
+    }
+}
+
+fn with_this_or_without(
+    alloc: Global,
+    number: u16,
+    with_this: Expr,
+    ticks: Expr,
+) -> Result<Expr, AllocError>
+    ensures { IfOk result (λ made. made ≡ expr.Binary operator.Or with_this (at_least number ticks)) }
+{
+    match at_least(alloc, number, ticks) {
+        Ok(without) => binary(alloc, BinaryOperator::Or, with_this, without),
+        Err(error) => {
+            drop(with_this);
+            Err(error)
+        }
+    }
+}
+
+// That there are as many with this tick.
+fn with_this(alloc: Global, number: u16, condition: Expr, ticks: &Expr) -> Result<Expr, AllocError>
+    ensures { IfOk result (λ made. made ≡ with_this number condition ticks.now) }
+{
+    match one_less(alloc, number, ticks) {
+        Ok(before) => binary(alloc, BinaryOperator::And, condition, before),
+        Err(error) => {
+            drop(condition);
+            Err(error)
+        }
+    }
+}
+
+// That a number names at least so many ticks but one.
+fn one_less(alloc: Global, number: u16, ticks: &Expr) -> Result<Expr, AllocError>
+    ensures { IfOk result (λ made. made ≡ at_least number (one_less ticks.now)) }
+{
+    let all = ticks.copied(alloc)?;
+    let one = Expr::Literal(Value::Int(1));
+    let others = binary(alloc, BinaryOperator::Subtract, all, one)?;
+    at_least(alloc, number, others)
 }

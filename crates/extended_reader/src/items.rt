@@ -1,6 +1,6 @@
 //! The variables of an extended chart, its signals, those of which is asked what they were, and its constants.
 
-ghost use Rattle.std.specs.Prelude.{◌≡◌, ◌≤◌, IfOk, length, map};
+ghost use Rattle.std.specs.Prelude.{◌≡◌, ◌≤◌, ◌++◌, OnOk, length, map};
 ghost use Rattle.sc_graph.specs.Limits.{variable_limit};
 ghost use Rattle.drafts.specs.Flaws.{variable_names};
 ghost use Rattle.extended_reader.specs.declared.sorts.Sort.TheVariants as sort;
@@ -15,19 +15,21 @@ use extended_drafts::DraftItem;
 use sc_graph::{Variable, VariableId};
 use sc_text::TextOperation;
 use sqlite_items::Items;
-use std::alloc::{AllocError, Global};
+use std::alloc::AllocError;
 
-/// The variables among these items. Err: memory was refused.
-pub(crate) fn variables(alloc: Global, items: &[DraftItem]) -> Result<Items<Declared>, AllocError>
-    ensures { IfOk result (λ all. all ≡ map declared_of (all_of sort.Variable items.now)) }
+/// Puts the variables among these items behind others. Err: memory was refused.
+pub(crate) fn put_variables(
+    items: &[DraftItem],
+    made: &mut Items<Declared>,
+) -> Result<(), AllocError>
+    ensures { OnOk result (made.new ≡ made.old ++ map declared_of (all_of sort.Variable items.now)) }
 {
-    let mut all = Items::new(alloc);
     for item in items {
         if Sort::Variable.fits(item.word) {
-            all.push(declared_of(item))?;
+            made.push(declared_of(item))?;
         }
     }
-    Ok(all)
+    Ok(())
 }
 
 fn declared_of(item: &DraftItem) -> Declared
@@ -43,41 +45,40 @@ fn declared_of(item: &DraftItem) -> Declared
     }
 }
 
-/// The numbers of the signals among these items. Err: memory was refused.
-pub(crate) fn signal_numbers(
-    alloc: Global,
+/// Puts the numbers of the signals among these items behind others. Err: memory was refused.
+pub(crate) fn put_signals(
     scope: &Scope,
     items: &[DraftItem],
-) -> Result<Items<VariableId>, AllocError>
+    made: &mut Items<VariableId>,
+) -> Result<(), AllocError>
     requires { length scope.now.variables.now ≤ variable_limit }
-    ensures { IfOk result (λ all. all ≡ signal_numbers (variable_names scope.now.variables.now) items.now) }
+    ensures { OnOk result (made.new ≡
+        made.old ++ signal_numbers (variable_names scope.now.variables.now) items.now) }
 {
-    let mut all = Items::new(alloc);
     for item in items {
         if item.signal.is_some() {
-            all.push(scope.number(item.declared.named.name))?;
+            made.push(scope.number(item.declared.named.name))?;
         }
     }
-    Ok(all)
+    Ok(())
 }
 
-/// The variables of which these items ask what they were. Err: memory was refused.
-pub(crate) fn befores(
-    alloc: Global,
+/// Puts the variables of which these items ask what they were behind others. Err: memory was refused.
+pub(crate) fn put_befores(
     scope: &Scope,
     items: &[DraftItem],
-) -> Result<Items<VariableId>, AllocError>
+    made: &mut Items<VariableId>,
+) -> Result<(), AllocError>
     requires { length scope.now.variables.now ≤ variable_limit }
-    ensures { IfOk result (λ all. all ≡
+    ensures { OnOk result (made.new ≡ made.old ++
         map (before_of (variable_names scope.now.variables.now)) (all_of sort.Before items.now)) }
 {
-    let mut all = Items::new(alloc);
     for item in items {
         if Sort::Before.fits(item.word) {
-            all.push(before_of(scope, item))?;
+            made.push(before_of(scope, item))?;
         }
     }
-    Ok(all)
+    Ok(())
 }
 
 fn before_of(scope: &Scope, item: &DraftItem) -> VariableId
@@ -101,18 +102,20 @@ fn variable_alone(scope: &Scope, operations: &[TextOperation]) -> VariableId
     }
 }
 
-/// The constants among these items. Err: memory was refused.
-pub(crate) fn constants(alloc: Global, items: &[DraftItem]) -> Result<Items<Constant>, AllocError>
-    ensures { IfOk result (λ all. all ≡ map constant_of (all_of sort.Constant items.now)) }
+/// Puts the constants among these items behind others. Err: memory was refused.
+pub(crate) fn put_constants(
+    items: &[DraftItem],
+    made: &mut Items<Constant>,
+) -> Result<(), AllocError>
+    ensures { OnOk result (made.new ≡ made.old ++ map constant_of (all_of sort.Constant items.now)) }
 {
-    let mut all = Items::new(alloc);
     for item in items {
         if Sort::Constant.fits(item.word) {
-            all.push(Constant {
+            made.push(Constant {
                 name: item.declared.named.name,
                 value: value_in(&item.value),
             })?;
         }
     }
-    Ok(all)
+    Ok(())
 }

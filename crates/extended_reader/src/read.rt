@@ -20,6 +20,8 @@ pub fn read_extended(alloc: Global, text: &str) -> Result<ExtendedChart, ReadFau
     ensures exact { IsExact text.now result }
 {
     let draft = read_checked_extended(alloc, text)?;
-    let chart = extended_of(alloc, &draft)?;
+    let made = extended_of(alloc, &draft);
+    drop(draft);
+    let chart = made?;
     Ok(chart)
 }

@@ -1,15 +1,17 @@
 //! The transitions of a draft with what is new of them, their names looked up.
 
-ghost use Rattle.std.specs.Prelude.{◌≡◌, ◌≤◌, IfOk, OnOk, length};
+ghost use Rattle.std.specs.Prelude.{◌≡◌, ◌≤◌, [], ◌∷◌, ◌++◌, IfOk, OnOk, Some, length};
+ghost use Rattle.sc_values.specs.declared.expression.Expr.TheVariants as expr;
+ghost use Rattle.sc_values.specs.declared.operator.BinaryOperator.TheVariants as operator;
 ghost use Rattle.std.specs.Option.{option_copied};
 ghost use Rattle.sc_graph.specs.Limits.{variable_limit};
 ghost use Rattle.drafts.specs.Flaws.{variable_names};
 ghost use Rattle.chart_drafts.specs.Flaws.{state_names};
 ghost use Rattle.extended_reader.specs.Inside.{rows_in};
 ghost use Rattle.extended_reader.specs.Resolved.{waited, waited_trigger, until_trigger, trigger_of, delayed_transition};
-ghost use Rattle.extended_reader.specs.Resolved.{all_transitions, behind_transition, behind_transitions};
+ghost use Rattle.extended_reader.specs.Resolved.{condition_of, all_transitions, behind_transition, behind_transitions};
 
-use crate::counts::{at_least, counted};
+use crate::counts::{at_least, binary, counted};
 use crate::rows::RowsLeft;
 use crate::targets::target;
 use chart_drafts::DraftTransition;
@@ -19,52 +21,60 @@ use drafts::{Scope, TextExpression};
 use extended_charts::ELAPSED;
 use extended_drafts::{DraftCount, DraftDelay};
 use sc_values::{BinaryOperator, Expr};
-use sqlite_items::{Boxed, Items};
+use sqlite_items::Items;
 use std::alloc::{AllocError, Global};
 
-/// The transitions of a state of a region with these states, over these variables, which take their rows off those
-/// that are left. Err: memory was refused.
-pub(crate) fn transitions(
+/// Puts the transitions of a state of a region with these states, over these variables, which take their rows off those
+/// that are left, behind others. Err: memory was refused.
+pub(crate) fn put_transitions(
     alloc: Global,
     scope: &Scope,
     states: &StateScope,
     rows: &mut RowsLeft,
     texts: &[DraftTransition],
-) -> Result<Items<Transition>, AllocError>
+    made: &mut Items<Transition>,
+) -> Result<(), AllocError>
     requires { length scope.now.variables.now ≤ variable_limit }
-    ensures made { IfOk result (λ all. all ≡ all_transitions (variable_names scope.now.variables.now)
+    ensures made { OnOk result (made.new ≡ made.old ++ all_transitions (variable_names scope.now.variables.now)
         (state_names states.now.states.now) (rows_in rows.old) texts.now) }
     ensures left { OnOk result (rows_in rows.new ≡ behind_transitions (rows_in rows.old) texts.now) }
 {
-    let mut all = Items::new(alloc);
     for text in texts {
-        all.push(transition(alloc, scope, states, rows, text)?)?;
+        put_transition(alloc, scope, states, rows, text, made)?;
     }
-    Ok(all)
+    Ok(())
 }
 
-// A transition, which takes its row off those that are left.
-fn transition(
+// Puts a transition, which takes its row off those that are left, behind others.
+fn put_transition(
     alloc: Global,
     scope: &Scope,
     states: &StateScope,
     rows: &mut RowsLeft,
     text: &DraftTransition,
-) -> Result<Transition, AllocError>
+    made: &mut Items<Transition>,
+) -> Result<(), AllocError>
     requires { length scope.now.variables.now ≤ variable_limit }
-    ensures made { IfOk result (λ one. one ≡ delayed_transition (variable_names scope.now.variables.now)
-        (state_names states.now.states.now) rows.old.ways.now text.now) }
+    ensures made { OnOk result (made.new ≡ made.old ++ delayed_transition (variable_names scope.now.variables.now)
+        (state_names states.now.states.now) rows.old.ways.now text.now ∷ []) }
     ensures left { OnOk result (rows_in rows.new ≡ behind_transition (rows_in rows.old)) }
 {
     let number = rows.number();
     let (delay, by_history) = rows.way();
-    Ok(Transition {
-        kind: text.kind,
-        immediate: text.immediate,
-        trigger: trigger_of(alloc, scope, number, delay, &text.trigger)?,
-        effects: effects(alloc, scope, text.effects.as_slice())?,
-        target: target(states, by_history, text.target.name),
-    })
+    let trigger = trigger_of(alloc, scope, number, delay, &text.trigger)?;
+    match effects(alloc, scope, text.effects.as_slice()) {
+        Ok(effects) => made.push(Transition {
+            kind: text.kind,
+            immediate: text.immediate,
+            trigger,
+            effects,
+            target: target(states, by_history, text.target.name),
+        }),
+        Err(error) => {
+            drop(trigger);
+            Err(error)
+        }
+    }
 }
 
 // The trigger of a transition that waits, or not.
@@ -118,13 +128,31 @@ fn waited_trigger(
     let ticks = scope.resolved(alloc, &delay.until)?;
     let waited = waited(alloc, scope, number, ticks, &delay.count)?;
     match text {
-        Some(condition) => {
-            let condition = scope.resolved(alloc, condition)?;
-            let waited = Boxed::new(alloc, waited)?;
-            let both = Expr::Binary(BinaryOperator::And, waited, Boxed::new(alloc, condition)?);
+        Some(condition) => both(alloc, scope, waited, condition),
+        None => Ok(Some(waited)),
+    }
+}
+
+// That it waited, and that the condition is true.
+fn both(
+    alloc: Global,
+    scope: &Scope,
+    waited: Expr,
+    condition: &TextExpression,
+) -> Result<Option<Expr>, AllocError>
+    requires { length scope.now.variables.now ≤ variable_limit }
+    ensures { IfOk result (λ one. one ≡ Some (expr.Binary operator.And waited
+        (condition_of (variable_names scope.now.variables.now) condition.now))) }
+{
+    match scope.resolved(alloc, condition) {
+        Ok(condition) => {
+            let both = binary(alloc, BinaryOperator::And, waited, condition)?;
             Ok(Some(both))
         }
-        None => Ok(Some(waited)),
+        Err(error) => {
+            drop(waited);
+            Err(error)
+        }
     }
 }
 
@@ -141,10 +169,13 @@ fn waited(
         waited (variable_names scope.now.variables.now) number ticks count.now) }
 {
     match count {
-        Some(count) => {
-            let condition = scope.resolved(alloc, &count.condition)?;
-            counted(alloc, number, condition, ticks)
-        }
+        Some(count) => match scope.resolved(alloc, &count.condition) {
+            Ok(condition) => counted(alloc, number, condition, ticks),
+            Err(error) => {
+                drop(ticks);
+                Err(error)
+            }
+        },
         None => at_least(alloc, ELAPSED, ticks),
     }
 }

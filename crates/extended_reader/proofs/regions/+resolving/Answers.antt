@@ -2,8 +2,8 @@ use Rattle.std.proofs.Common.{rules}
 use Rattle.chart_reader.proofs.Inner.{states_few}
 use Rattle.extended_reader.proofs.regions.+resolving.Goals as goal
 
-pub regions-region-requires : goal.regions-region-requires
-regions-region-requires t c = (
+pub put_regions-put_region-requires : goal.put_regions-put_region-requires
+put_regions-put_region-requires t c = (
   search rules,
   (
     c.requires.few_variables,

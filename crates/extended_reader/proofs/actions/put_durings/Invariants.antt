@@ -1,9 +1,9 @@
 use Rattle.std.proofs.Common.{◌≡◌, ◌++◌, drop}
 use Rattle.drafts.specs.Flaws.{variable_names}
 use Rattle.extended_reader.specs.Resolved.{durings_of}
-use Rattle.extended_reader.proofs.actions.durings_of.Given as goal
+use Rattle.extended_reader.proofs.actions.put_durings.Given as goal
 
 abbrev pub invariant-loop-entry : goal.invariant-loop-entry
 invariant-loop-entry l =
-    l.all ++ durings_of (variable_names l.scope.variables.now) (drop l.entry-index l.entries)
-    ≡ durings_of (variable_names l.scope.variables.now) l.entries
+    l.made ++ durings_of (variable_names l.scope.variables.now) (drop l.entry-index l.entries)
+    ≡ l.fn.made ++ durings_of (variable_names l.scope.variables.now) l.entries

@@ -3,10 +3,10 @@ use Rattle.drafts.specs.Flaws.{variable_names}
 use Rattle.chart_drafts.specs.Flaws.{state_names}
 use Rattle.extended_reader.specs.Inside.{rows_in}
 use Rattle.extended_reader.specs.Resolved.{all_transitions, behind_transitions}
-use Rattle.extended_reader.proofs.transitions.transitions.Given as goal
+use Rattle.extended_reader.proofs.transitions.put_transitions.Given as goal
 
 abbrev pub invariant-loop-text : goal.invariant-loop-text
 invariant-loop-text l =
-    (l.all ++ all_transitions (variable_names l.scope.variables.now) (state_names l.states.states.now) (rows_in l.rows) (drop l.text-index l.texts)
-    ≡ all_transitions (variable_names l.scope.variables.now) (state_names l.states.states.now) (rows_in l.fn.rows) l.texts)
+    (l.made ++ all_transitions (variable_names l.scope.variables.now) (state_names l.states.states.now) (rows_in l.rows) (drop l.text-index l.texts)
+    ≡ l.fn.made ++ all_transitions (variable_names l.scope.variables.now) (state_names l.states.states.now) (rows_in l.fn.rows) l.texts)
     × (behind_transitions (rows_in l.rows) (drop l.text-index l.texts) ≡ behind_transitions (rows_in l.fn.rows) l.texts)

@@ -1,9 +1,0 @@
-use Rattle.std.proofs.Common.{◌≡◌, ◌++◌, drop}
-use Rattle.drafts.specs.Flaws.{variable_names}
-use Rattle.extended_reader.specs.Resolved.{actions_of}
-use Rattle.extended_reader.proofs.actions.actions_of.Given as goal
-
-abbrev pub invariant-loop-entry : goal.invariant-loop-entry
-invariant-loop-entry l =
-    l.all ++ actions_of l.word (variable_names l.scope.variables.now) (drop l.entry-index l.entries)
-    ≡ actions_of l.word (variable_names l.scope.variables.now) l.entries
