@@ -4,7 +4,7 @@ ghost use Rattle.std.specs.Prelude.{◌≡◌, MatchResult};
 ghost use Rattle.grammar.specs.Read.{read, starts};
 ghost use Rattle.sc_text.specs.Expression.{text_tokens, after, expression};
 ghost use Rattle.sc_text.specs.Reading.{Stops};
-ghost use Rattle.chart_drafts.specs.ChartText.{the_sign, declaration, placed, effect, some_effects};
+ghost use Rattle.chart_drafts.specs.ChartText.{the_sign, declaration, placed, effect};
 ghost use Rattle.chart_drafts.specs.ChartText.{effects, target, trigger, outcome};
 ghost use Rattle.chart_drafts.specs.ChartText.{termination, tested, transition_first};
 ghost use Rattle.chart_drafts.specs.ChartText.{transition, leaving};
@@ -13,7 +13,7 @@ ghost use Rattle.chart_drafts.specs.Phrase.{Gives};
 
 use crate::ahead::{Ahead, skip_sign};
 use crate::draft::{DraftEffect, DraftTransition};
-use crate::rows::{Part, RowPart, listed, listed_behind, put_row};
+use crate::rows::{Part, RowPart, listed_behind, put_row};
 use crate::words::{
     declared_kind, declared_role, flag, join_word, last_name, name, tested_word,
     tested_word_follows,
@@ -87,20 +87,6 @@ impl Part for ListedEffects {
         let value = value(alloc, ahead, end)?;
         Ok(DraftEffect { variable, value })
     }
-}
-
-/// The assignments behind the word `do`.
-#[tactic(auto, unfolding(crate::specs::ChartText::some_effects, crate::specs::ChartText::next_effect))]
-pub fn some_effects(
-    alloc: Global,
-    ahead: &mut Ahead,
-    end: usize,
-) -> Result<Items<DraftEffect>, ReadFault>
-    ensures { MatchResult result
-        (λ x. Gives (read (some_effects (expression 0)) ahead.old.tokens.now) x ahead.new.tokens.now)
-        (λ fault. Stops end (read (some_effects (expression 0)) ahead.old.tokens.now) fault) }
-{
-    listed::<ListedEffects>(alloc, ahead, end)
 }
 
 #[tactic(auto, unfolding(crate::specs::ChartText::effects, crate::specs::ChartText::some_effects, crate::specs::ChartText::next_effect))]
