@@ -97,6 +97,14 @@ fn joint(place: usize, count: usize) -> &'static str {
     }
 }
 
+// Adds a thing.
+fn put_thing(text: &mut String, thing: Thing) -> Result<(), AllocError> {
+    match thing {
+        Thing::Called(name) => text.push_str(name),
+        Thing::Spelled(piece) => put_filled(text, "`@`", piece),
+    }
+}
+
 // Adds that this was found where these things could stand.
 fn put_found(text: &mut String, found: &str, things: &[Thing]) -> Result<(), AllocError> {
     if things.is_empty() {
@@ -105,10 +113,7 @@ fn put_found(text: &mut String, found: &str, things: &[Thing]) -> Result<(), All
     put_filled(text, "found @, expected ", found)?;
     for (place, thing) in things.iter().enumerate() {
         text.push_str(joint(place, things.len()))?;
-        match thing {
-            Thing::Called(name) => text.push_str(name)?,
-            Thing::Spelled(piece) => put_filled(text, "`@`", piece)?,
-        }
+        put_thing(text, *thing)?;
     }
     Ok(())
 }

@@ -1,35 +1,40 @@
 //! What other languages spell otherwise.
 
+use crate::found::stands_at;
 use text_continuations::Grammar;
 
 /// What to write for a piece of another language that stands at a byte of a text.
 pub(crate) fn for_sign(text: &str, at: usize) -> Option<&'static str> {
-    match text.as_bytes().get(at..)? {
-        [b'&', ..] => Some("write `and`: both sides are computed"),
-        [b'|', ..] => Some("write `or`: both sides are computed"),
-        [b'!', ..] => Some("write `not`, and `!=` between two values"),
-        [b'=', b'>', ..] => Some("a transition leads to its state by `->`"),
-        [b':', b'=', ..] => Some("a value is given by `=`"),
-        [b'+', b'+', ..] => Some("write `x = x + 1`"),
-        [b'-', b'-', ..] => Some("write `x = x - 1`"),
-        [b'+', b'=', ..] => Some("write `x = x + ..`"),
-        [b'-', b'=', ..] => Some("write `x = x - ..`"),
-        [b'*', b'=', ..] => Some("write `x = x * ..`"),
-        [b'/', b'*', ..] | [b'#', ..] => Some("a comment begins with `//` and ends with its line"),
-        [b'"', ..] | [b'\'', ..] => Some(
-            "there are no texts: a variable is a truth value or a number",
-        ),
-        [b'?', ..] => Some(
+    let bytes = text.as_bytes();
+    let second = match bytes.get(at.saturating_add(1)) {
+        Some(byte) => *byte,
+        None => b' ',
+    };
+    match *bytes.get(at)? {
+        b'&' => Some("write `and`: both sides are computed"),
+        b'|' => Some("write `or`: both sides are computed"),
+        b'!' => Some("write `not`, and `!=` between two values"),
+        b'=' if second == b'>' => Some("a transition leads to its state by `->`"),
+        b':' if second == b'=' => Some("a value is given by `=`"),
+        b'+' if second == b'+' => Some("write `x = x + 1`"),
+        b'-' if second == b'-' => Some("write `x = x - 1`"),
+        b'+' if second == b'=' => Some("write `x = x + ..`"),
+        b'-' if second == b'=' => Some("write `x = x - ..`"),
+        b'*' if second == b'=' => Some("write `x = x * ..`"),
+        b'/' if second == b'*' => Some("a comment begins with `//` and ends with its line"),
+        b'#' => Some("a comment begins with `//` and ends with its line"),
+        b'"' | b'\'' => Some("there are no texts: a variable is a truth value or a number"),
+        b'?' => Some(
             "there is no choice within an expression: take two transitions, or an `if` in SCL",
         ),
-        [b'[', ..] => Some("there are no arrays: give each value a name"),
-        [b'.', ..] => Some(
+        b'[' => Some("there are no arrays: give each value a name"),
+        b'.' => Some(
             "numbers are whole, and a state is named alone: count in tenths or hundredths",
         ),
-        [0xEF, 0xBB, 0xBF, ..] => Some(
+        0xEF if stands_at(text, at, "\u{feff}") => Some(
             "the file begins with a byte order mark: save it as UTF-8 without one",
         ),
-        [b'\\', ..] => Some("a line ends where it likes: nothing joins two lines"),
+        b'\\' => Some("a line ends where it likes: nothing joins two lines"),
         _ => None,
     }
 }
