@@ -4,8 +4,8 @@ ghost use Rattle.std.specs.Prelude.{◌≡◌, ◌++◌, IfOk, codes, map, strin
 ghost use Rattle.chart_elements.specs.Paths.{beside};
 ghost use Rattle.author_states.specs.Paths.{paths_of, paths_of_region, paths_of_state};
 
-use extended_charts::{ExtendedChart, ExtendedRegion, ExtendedState};
 use chart_elements::joined;
+use extended_charts::{ExtendedChart, ExtendedRegion, ExtendedState};
 use std::alloc::{AllocError, Global};
 
 /// The path of each state of an extended chart, in the order of the text: the name of its region and its own, with a

@@ -10,8 +10,8 @@ use crate::fault::LoadFault;
 use crate::files::Files;
 use crate::load::bytes_of;
 use abort_expansion::ExpandFault;
-use compiler::CompileFault;
 use chart_texts::{Unreduced, begins_extended, reduced_of};
+use compiler::CompileFault;
 use std::alloc::Global;
 
 /// The text of the chart to which the extended chart is reduced that these bytes spell as text. Err: they spell none,

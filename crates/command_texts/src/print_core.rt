@@ -6,10 +6,10 @@ ghost use Rattle.command_texts.specs.Cores.{BytesLackCore, ChartLacksCore, FileL
 ghost use Rattle.chart_texts.specs.CoreText.{IsCoreText};
 
 use abort_expansion::ExpandFault;
+use chart_texts::core_text;
 use command_files::{Files, LoadFault, source_of};
 use compiler::CompileFault;
 use core_charts::Chart;
-use chart_texts::core_text;
 use image_charts::chart_in;
 use std::alloc::Global;
 

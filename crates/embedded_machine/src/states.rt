@@ -9,11 +9,11 @@ ghost use Rattle.chart_elements.specs.Paths.{paths_of};
 ghost use Rattle.embedded_machine.specs.Opened.{ended_by_zero, no_states};
 
 use abort_expansion::{ExpandFault, expand};
+use chart_elements::paths_of;
 use core_charts::Chart;
 use node_states::stands_for;
 use sc_graph::{Control, Status};
 use sqlite_items::Items;
-use chart_elements::paths_of;
 use std::alloc::{AllocError, Global};
 use std::marker::Model;
 

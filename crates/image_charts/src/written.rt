@@ -6,10 +6,10 @@ ghost use Rattle.image_charts.specs.Written.{told_by, told_of_author};
 ghost use Rattle.chart_elements.specs.Paths.{paths_of};
 
 use author_states::AuthorStates;
+use chart_elements::paths_of;
 use compiled_charts::Compiled;
 use core_charts::Chart;
 use sqlite_items::Items;
-use chart_elements::paths_of;
 use std::alloc::{AllocError, Global};
 use std::marker::Model;
 

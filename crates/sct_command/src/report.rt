@@ -7,10 +7,10 @@ ghost use Rattle.diagnostics.specs.Reports.{Tells, text_fault};
 ghost use Rattle.fault_lists.specs.Reports.{TellsEach};
 ghost use Rattle.sct_command.specs.Explaining.{IsReport, TellsEachFlaw, told_fault};
 
+use chart_texts::begins_extended;
 use command_files::{LoadFault, shown_name};
 use compiler::CompileFault;
 use diagnostics::{author_fault_told, program_fault_told, told_nowhere};
-use chart_texts::begins_extended;
 use fault_lists::faults_explained;
 use sc_text::ReadFault;
 use source_programs::ReadSource;

@@ -6,8 +6,8 @@ ghost use Rattle.command_files.specs.FaultText.{shown_name};
 ghost use Rattle.sct_command.specs.Beside.{AreWarnings};
 ghost use Rattle.sct_command.specs.Warned.{IsWarned};
 
-use command_files::shown_name;
 use chart_texts::begins_extended;
+use command_files::shown_name;
 use extended_warnings::author_warnings_told;
 use std::alloc::{AllocError, Global};
 use std::str;
