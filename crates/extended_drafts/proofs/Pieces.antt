@@ -151,23 +151,25 @@ module _ (text : List Token) (e : starts text_tokens (the_word word.Immediate) t
 
 -- ---- transitions
 
-pub tested_made : (text a b c rest : List Token) (m : TransitionKind × ℕ) (w : Bool × Option DraftDelay) (t : Option TextExpression)
-    (x : List DraftEffect × DraftLead) → Gives (read (moment tested_words) text) m a → Gives (read (pause e0) a) w b → Gives (read (trigger e0) b) t c
-    → Gives (read (outcome e0) c) x rest → Gives (read (tested e0) text) (delayed m w t x) rest
-unfolding tested
-tested_made text a b c rest m w t x p q r s =
-    made_gives (λ x. delayed x.0 x.1.0 x.1.1.0 x.1.1.1) (seq (moment tested_words) (seq (pause e0) (seq (trigger e0) (outcome e0)))) text (m, (w, (t, x))) rest
-    (seq_gives (moment tested_words) (seq (pause e0) (seq (trigger e0) (outcome e0))) text a rest m (w, (t, x)) p
-    (seq_gives (pause e0) (seq (trigger e0) (outcome e0)) a b rest w (t, x) q (seq_gives (trigger e0) (outcome e0) b c rest t x r s)))
+abbrev triggered : Grows (Option TextExpression × (List DraftEffect × DraftLead))
+triggered = seq (trigger e0) (outcome e0)
 
-pub termination_made : (text a b rest : List Token) (m : TransitionKind × ℕ) (t : Option TextExpression) (x : List DraftEffect × DraftLead)
-    (o : Option DraftDelay) → Gives (read (moment (the_word word.Join)) text) m a → Gives (read (trigger e0) a) t b → Gives (read (outcome e0) b) x rest
+pub tested_made : (text a b rest : List Token) (m : TransitionKind × ℕ) (w : Bool × Option DraftDelay) (t : Option TextExpression)
+    (x : List DraftEffect × DraftLead) → Gives (read (moment tested_words) text) m a → Gives (read (pause e0) a) w b
+    → Gives (read triggered b) (t, x) rest → Gives (read (tested e0) text) (delayed m w t x) rest
+unfolding tested
+tested_made text a b rest m w t x p q r =
+    made_gives (λ x. delayed x.0 x.1.0 x.1.1.0 x.1.1.1) (seq (moment tested_words) (seq (pause e0) triggered)) text (m, (w, (t, x))) rest
+    (seq_gives (moment tested_words) (seq (pause e0) triggered) text a rest m (w, (t, x)) p (seq_gives (pause e0) triggered a b rest w (t, x) q r))
+
+pub termination_made : (text a rest : List Token) (m : TransitionKind × ℕ) (t : Option TextExpression) (x : List DraftEffect × DraftLead)
+    (o : Option DraftDelay) → Gives (read (moment (the_word word.Join)) text) m a → Gives (read triggered a) (t, x) rest
     → o ≡ option_map hold_of t → Gives (read (termination e0) text) (transition_of m false None x.0 x.1.target, way_of o x.1) rest
 unfolding termination
-termination_made text a b rest m t x o p q r e =
+termination_made text a rest m t x o p q e =
     subst (λ z. Gives (read (termination e0) text) (transition_of m false None x.0 x.1.target, way_of z x.1) rest) (sym e)
-    (made_gives (λ x. ended x.0 x.1.0 x.1.1) (seq (moment (the_word word.Join)) (seq (trigger e0) (outcome e0))) text (m, (t, x)) rest
-    (seq_gives (moment (the_word word.Join)) (seq (trigger e0) (outcome e0)) text a rest m (t, x) p (seq_gives (trigger e0) (outcome e0) a b rest t x q r)))
+    (made_gives (λ x. ended x.0 x.1.0 x.1.1) (seq (moment (the_word word.Join)) triggered) text (m, (t, x)) rest
+    (seq_gives (moment (the_word word.Join)) triggered text a rest m (t, x) p q))
 
 module _ (text : List Token) where
   pub is_termination : starts text_tokens (the_word word.Join) text ≡ true → read (transition e0) text ≡ read (termination e0) text

@@ -49,8 +49,13 @@ pub fn extended_told_flaws(alloc: Global, draft: &ExtendedDraft) -> Result<Items
     ensures { IfOk result (λ told. told ≡ told_of (extended_flaws draft.now)) }
 {
     let mut found = told_flaws(alloc, &draft.core)?;
-    new_flaws(alloc, draft, &mut found)?;
-    Ok(found)
+    match new_flaws(alloc, draft, &mut found) {
+        Ok(()) => Ok(found),
+        Err(error) => {
+            drop(found);
+            Err(error)
+        }
+    }
 }
 
 // The flaws of what is new.

@@ -217,6 +217,11 @@ pub(crate) fn outcome(
         (λ fault. Stops end (read (outcome (expression 0)) ahead.old.tokens.now) fault) }
 {
     let effects = effects(alloc, ahead, end)?;
-    let lead = leading(ahead, end)?;
-    Ok((effects, lead))
+    match leading(ahead, end) {
+        Ok(lead) => Ok((effects, lead)),
+        Err(fault) => {
+            drop(effects);
+            Err(fault)
+        }
+    }
 }

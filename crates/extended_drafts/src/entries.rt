@@ -31,13 +31,18 @@ impl Part for Entries {
         let immediate = flag(ahead, Word::Immediate);
         let word = name(ahead, end)?;
         let trigger = trigger(alloc, ahead, end)?;
-        let effects = outcomes(alloc, ahead, end)?;
-        Ok(DraftEntry {
-            immediate,
-            word,
-            trigger,
-            effects,
-        })
+        match outcomes(alloc, ahead, end) {
+            Ok(effects) => Ok(DraftEntry {
+                immediate,
+                word,
+                trigger,
+                effects,
+            }),
+            Err(fault) => {
+                drop(trigger);
+                Err(fault)
+            }
+        }
     }
 }
 

@@ -1,6 +1,6 @@
 //! Reading what stands among the variables of an extended chart.
 
-ghost use Rattle.std.specs.Prelude.{◌≡◌, IfOk, MatchResult, map};
+ghost use Rattle.std.specs.Prelude.{◌≡◌, ◌++◌, MatchResult, OnOk, map};
 ghost use Rattle.grammar.specs.Read.{read, starts};
 ghost use Rattle.sc_text.specs.Expression.{text_tokens, expression};
 ghost use Rattle.sc_text.specs.Reading.{Stops};
@@ -213,20 +213,24 @@ fn last_value(
         (λ fault. Stops end (read (last_value (expression 0)) ahead.old.tokens.now) fault) }
 {
     let value = item_value(alloc, ahead, end)?;
-    skip_sign(ahead, end, Sign::Semicolon)?;
-    Ok(value)
+    match skip_sign(ahead, end, Sign::Semicolon) {
+        Ok(()) => Ok(value),
+        Err(fault) => {
+            drop(value);
+            Err(fault)
+        }
+    }
 }
 
-/// What these items are declared as. Err: memory was refused.
-pub(crate) fn declarations(
-    alloc: Global,
+/// Puts what these items are declared as behind others. Err: memory was refused.
+pub(crate) fn put_declarations(
     items: &[DraftItem],
-) -> Result<Items<Declaration>, AllocError>
-    ensures { IfOk result (λ all. all ≡ map (λ x. x.declared) items.now) }
+    made: &mut Items<Declaration>,
+) -> Result<(), AllocError>
+    ensures { OnOk result (made.new ≡ made.old ++ map (λ x. x.declared) items.now) }
 {
-    let mut all = Items::new(alloc);
     for item in items {
-        all.push(item.declared)?;
+        made.push(item.declared)?;
     }
-    Ok(all)
+    Ok(())
 }

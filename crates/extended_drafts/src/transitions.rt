@@ -1,26 +1,28 @@
 //! Reading transitions with what is new of them.
 
-ghost use Rattle.std.specs.Prelude.{◌≡◌, MatchResult, option_map};
+ghost use Rattle.std.specs.Prelude.{◌≡◌, [], ◌∷◌, ◌++◌, MatchResult, OnOk, option_map};
+ghost use Rattle.grammar.specs.Grammar.{seq};
 ghost use Rattle.grammar.specs.Read.{read};
 ghost use Rattle.sc_text.specs.Expression.{expression};
 ghost use Rattle.sc_text.specs.Reading.{Stops};
+ghost use Rattle.chart_drafts.specs.ChartText.{trigger};
 ghost use Rattle.chart_drafts.specs.Phrase.{Gives};
 ghost use Rattle.extended_drafts.specs.Draft.{hold_of};
 ghost use Rattle.extended_drafts.specs.ExtendedText.{some_count, counted, some_delay, pause, tested, termination};
-ghost use Rattle.extended_drafts.specs.ExtendedText.{transition, transitions, leaving};
-ghost use Rattle.extended_drafts.specs.Inside.{Puts, put_ways};
+ghost use Rattle.extended_drafts.specs.ExtendedText.{outcome, transition, transitions, leaving};
+ghost use Rattle.extended_drafts.specs.Inside.{Puts, put_way, put_ways};
 
-use crate::draft::{DraftCount, DraftDelay, DraftWay};
+use crate::draft::{DraftCount, DraftDelay, DraftLead, DraftWay};
 use crate::effects::outcome;
-use chart_drafts::DraftTransition;
 use chart_drafts::text_parts::{
     Ahead, join_word, name, placed, skip_sign, tested_word, transition_follows, trigger,
 };
+use chart_drafts::{DraftEffect, DraftTransition};
 use drafts::{TextExpression, name_follows};
 use sc_text::ahead::{behind, word_follows};
 use sc_text::{ReadFault, Sign, Word};
 use sqlite_items::Items;
-use std::alloc::Global;
+use std::alloc::{AllocError, Global};
 
 #[tactic(auto, using(crate::proofs::Pieces::some_delay_gives, chart_drafts::proofs::Parts::made_stops, chart_drafts::proofs::Parts::seq_stops_first, chart_drafts::proofs::Parts::seq_stops_second), unfolding(crate::specs::ExtendedText::some_delay))]
 fn some_delay(alloc: Global, ahead: &mut Ahead, end: usize) -> Result<DraftDelay, ReadFault>
@@ -30,12 +32,17 @@ fn some_delay(alloc: Global, ahead: &mut Ahead, end: usize) -> Result<DraftDelay
 {
     let word = name(ahead, end)?;
     let until = placed(alloc, ahead, end)?;
-    let count = counted(alloc, ahead, end)?;
-    Ok(DraftDelay {
-        word: Some(word),
-        until,
-        count,
-    })
+    match counted(alloc, ahead, end) {
+        Ok(count) => Ok(DraftDelay {
+            word: Some(word),
+            until,
+            count,
+        }),
+        Err(fault) => {
+            drop(until);
+            Err(fault)
+        }
+    }
 }
 
 // The condition of which ticks are counted, where there is one.
@@ -85,6 +92,28 @@ fn pause(
     Ok((false, Some(delay)))
 }
 
+// The trigger of a transition, what it does, and where it leads.
+#[tactic(auto, using(chart_drafts::proofs::Parts::seq_stops_first, chart_drafts::proofs::Parts::seq_stops_second, chart_drafts::proofs::Parts::seq_gives))]
+fn triggered(
+    alloc: Global,
+    ahead: &mut Ahead,
+    end: usize,
+) -> Result<(Option<TextExpression>, (Items<DraftEffect>, DraftLead)), ReadFault>
+    ensures { MatchResult result
+        (λ x. Gives (read (seq (trigger (expression 0)) (outcome (expression 0))) ahead.old.tokens.now) x
+        ahead.new.tokens.now)
+        (λ fault. Stops end (read (seq (trigger (expression 0)) (outcome (expression 0))) ahead.old.tokens.now) fault) }
+{
+    let trigger = trigger(alloc, ahead, end)?;
+    match outcome(alloc, ahead, end) {
+        Ok(does) => Ok((trigger, does)),
+        Err(fault) => {
+            drop(trigger);
+            Err(fault)
+        }
+    }
+}
+
 #[tactic(auto, using(crate::proofs::Pieces::tested_made, chart_drafts::proofs::Parts::made_stops, chart_drafts::proofs::Parts::seq_stops_first, chart_drafts::proofs::Parts::seq_stops_second), unfolding(crate::specs::ExtendedText::tested))]
 fn tested(
     alloc: Global,
@@ -97,21 +126,28 @@ fn tested(
 {
     let (kind, at) = tested_word(ahead, end)?;
     let (immediate, delay) = pause(alloc, ahead, end)?;
-    let trigger = trigger(alloc, ahead, end)?;
-    let (effects, lead) = outcome(alloc, ahead, end)?;
-    let transition = DraftTransition {
-        kind,
-        at,
-        immediate,
-        trigger,
-        effects,
-        target: lead.target,
-    };
-    let way = DraftWay {
-        delay,
-        history: lead.history,
-    };
-    Ok((transition, way))
+    match triggered(alloc, ahead, end) {
+        Ok((trigger, does)) => {
+            let (effects, lead) = does;
+            let transition = DraftTransition {
+                kind,
+                at,
+                immediate,
+                trigger,
+                effects,
+                target: lead.target,
+            };
+            let way = DraftWay {
+                delay,
+                history: lead.history,
+            };
+            Ok((transition, way))
+        }
+        Err(fault) => {
+            drop(delay);
+            Err(fault)
+        }
+    }
 }
 
 // The trigger of a termination, for which it waits.
@@ -139,8 +175,8 @@ fn termination(
         (λ fault. Stops end (read (termination (expression 0)) ahead.old.tokens.now) fault) }
 {
     let (kind, at) = join_word(ahead, end)?;
-    let trigger = trigger(alloc, ahead, end)?;
-    let (effects, lead) = outcome(alloc, ahead, end)?;
+    let (trigger, does) = triggered(alloc, ahead, end)?;
+    let (effects, lead) = does;
     let delay = hold_of(trigger);
     let ends = DraftTransition {
         kind,
@@ -189,11 +225,45 @@ fn transitions(
         if !transition_follows(ahead.tokens) {
             return Ok(());
         }
-        let (next, way) = transition(alloc, ahead, end)?;
-        found.push(next)?;
-        ways.push(way)?;
+        put_transition(alloc, ahead, end, found, ways)?;
     }
     Ok(())
+}
+
+// Puts a transition, and what is new of it, behind others.
+fn put_transition(
+    alloc: Global,
+    ahead: &mut Ahead,
+    end: usize,
+    found: &mut Items<DraftTransition>,
+    ways: &mut Items<DraftWay>,
+) -> Result<(), ReadFault>
+    ensures { MatchResult result
+        (λ _. Puts (read (transition (expression 0)) ahead.old.tokens.now) put_way
+        (found.old, ways.old) (found.new, ways.new) ahead.new.tokens.now)
+        (λ fault. Stops end (read (transition (expression 0)) ahead.old.tokens.now) fault) }
+{
+    let (next, way) = transition(alloc, ahead, end)?;
+    put_both(next, way, found, ways)?;
+    Ok(())
+}
+
+fn put_both(
+    next: DraftTransition,
+    way: DraftWay,
+    found: &mut Items<DraftTransition>,
+    ways: &mut Items<DraftWay>,
+) -> Result<(), AllocError>
+    ensures next { OnOk result (found.new ≡ found.old ++ next ∷ []) }
+    ensures way { OnOk result (ways.new ≡ ways.old ++ way ∷ []) }
+{
+    match found.push(next) {
+        Ok(()) => ways.push(way),
+        Err(error) => {
+            drop(way);
+            Err(error)
+        }
+    }
 }
 
 /// Puts the transitions of a state with what is new of them behind others, up to the brace that closes it.

@@ -16,7 +16,7 @@ ghost use Rattle.extended_drafts.specs.ExtendedText.{parts, within, extended_tex
 ghost use Rattle.extended_drafts.specs.Reading.{IsExtendedDraft, IsDraftFault};
 
 use crate::draft::{DraftItem, DraftRows, ExtendedDraft};
-use crate::items::{ChartItems, declarations};
+use crate::items::{ChartItems, put_declarations};
 use crate::regions::regions;
 use block_comments::without_comments;
 use chart_drafts::text_parts::{Ahead, name, put_row, skip_sign, title};
@@ -150,16 +150,24 @@ fn draft_of(
     let (named, parts) = chart;
     let (items, behind) = parts;
     let (regions, rows) = behind;
-    let variables = declarations(alloc, items.as_slice())?;
-    let core = DraftChart {
-        named,
-        variables,
-        regions,
-    };
-    Ok(ExtendedDraft {
-        word,
-        core,
-        items,
-        rows,
-    })
+    let mut variables = Items::new(alloc);
+    match put_declarations(items.as_slice(), &mut variables) {
+        Ok(()) => Ok(ExtendedDraft {
+            word,
+            core: DraftChart {
+                named,
+                variables,
+                regions,
+            },
+            items,
+            rows,
+        }),
+        Err(error) => {
+            drop(variables);
+            drop(items);
+            drop(regions);
+            drop(rows);
+            Err(error)
+        }
+    }
 }

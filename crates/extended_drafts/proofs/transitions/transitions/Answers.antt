@@ -7,7 +7,7 @@ use Rattle.chart_drafts.specs.ChartText.{transition_first}
 use Rattle.extended_drafts.specs.Draft.{parted}
 use Rattle.extended_drafts.specs.ExtendedText.{transition, transitions}
 use Rattle.extended_drafts.specs.Inside.{put_way, put_ways}
-use Rattle.extended_drafts.proofs.Putting.{putting_ends, putting_over, putting_stops, putting_on, ways_put, both_put}
+use Rattle.extended_drafts.proofs.Putting.{putting_ends, putting_over, putting_stops, putting_on, ways_put}
 use Rattle.extended_drafts.proofs.Pieces.{transitions_put}
 use Rattle.extended_drafts.proofs.transitions.transitions.Goals as goal
 
@@ -26,9 +26,9 @@ returns-then-not-transition_follows c =
     putting_ends put_way (transition (expression 0)) transition_first _ _ _ parted put_ways ways_put _ _ c.loop-used.invariant
     (search (rules, over, c.transition_follows.ensures))
 
-pub returns-in_err-next : goal.returns-in_err-next
+pub returns-in_err-put_transition : goal.returns-in_err-put_transition
 unfolding transitions
-returns-in_err-next c =
+returns-in_err-put_transition c =
     let on = c.if-not-transition_follows.false in
     let more : starts text_tokens transition_first c.loop-used.ahead.tokens.now ≡ true = search (rules, on, c.transition_follows.ensures) in
     let stops : (f : ReadFault) → Stops c.args.end (read (transition (expression 0)) c.loop-used.ahead.tokens.now) f
@@ -42,4 +42,4 @@ loop-used-preserved c =
     let on = c.if-not-transition_follows.false in
     let more : starts text_tokens transition_first c.loop-used.ahead.tokens.now ≡ true = search (rules, on, c.transition_follows.ensures) in
     putting_on put_way (transition (expression 0)) transition_first _ _ _ _ _ _ _ _ c.loop-used-test.true c.loop-used.invariant more
-    (both_put _ _ _ _ _ _ _ _ c.in_ok-next.ensures c.in_ok-push.ensures.ok c.in_ok-push-2.ensures.ok)
+    c.in_ok-put_transition.ensures
