@@ -2,7 +2,6 @@
 
 ghost use Rattle.std.specs.Prelude.{◌≡◌, IfOk, List, nat_lt, string_bytes};
 ghost use Rattle.sc_values.specs.declared.expression.Expr.TheOpen as tree;
-ghost use Rattle.scl_printer.specs.Expressions.{divisor_text};
 ghost use Rattle.drawing.specs.declared.symbols.Symbol.{Symbol};
 ghost use Rattle.drawing.specs.Expressions.{operand, sparing_text, written, written_step};
 ghost use Rattle.drawing.specs.Inside.Seen.{seen};
@@ -11,7 +10,7 @@ use crate::levels::{WHOLE, binary_level, left_level, right_level, unary_level};
 use crate::symbols::{Symbol, symbol_text};
 use sc_graph::VariableId;
 use sc_values::{BinaryOperator, Expr, UnaryOperator, Value};
-use scl_printer::{closing_text, infix_text, opening_text, prefix_text};
+use scl_printer::{closing_text, divisor_text, infix_text, opening_text, prefix_text};
 use std::alloc::{AllocError, Global};
 
 /// The text of an expression, and its level.
@@ -99,23 +98,6 @@ fn unary(alloc: Global, operator: UnaryOperator, inner: Written) -> Result<Writt
         text: format!(in alloc; "{before}{inner}{behind}")?,
         level: unary_level(operator),
     })
-}
-
-// What stands behind the operand of an operator: where it divides, its sign and the divisor.
-fn divisor_text(alloc: Global, operator: UnaryOperator) -> Result<String, AllocError>
-    ensures { IfOk result (λ text. string_bytes text ≡ divisor_text operator) }
-{
-    match operator {
-        UnaryOperator::Divide(divisor) => {
-            let number = divisor.number();
-            format!(in alloc; " / {number}")
-        }
-        UnaryOperator::Remainder(divisor) => {
-            let number = divisor.number();
-            format!(in alloc; " % {number}")
-        }
-        UnaryOperator::Negate | UnaryOperator::Not => Ok(String::new(alloc)),
-    }
 }
 
 fn binary(

@@ -23,4 +23,3 @@ pub use graphs::graph_drawing;
 pub use labels::{effect_text, further_text, trigger_text, words_text};
 pub use regions::drawing_of;
 pub use symbols::Symbol;
-pub use variables::{kind_word, role_word};

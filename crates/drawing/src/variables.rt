@@ -1,26 +1,8 @@
 //! The box with the variables of a chart.
 
-use crate::pieces::put_all;
-use sc_graph::{Role, Variable};
-use sc_values::Kind;
+use sc_graph::Variable;
+use scl_printer::{kind_prefix, role_prefix};
 use std::alloc::{AllocError, Global};
-
-/// The word of a role, with a blank behind it.
-pub fn role_word(role: Role) -> &'static str {
-    match role {
-        Role::Input => "input ",
-        Role::Output => "output ",
-        Role::Local => "local ",
-    }
-}
-
-/// The word of a kind.
-pub fn kind_word(kind: Kind) -> &'static str {
-    match kind {
-        Kind::Bool => "bool",
-        Kind::Int => "int",
-    }
-}
 
 /// The lines of these variables in their box. Err: memory was refused.
 pub(crate) fn variable_lines(alloc: Global, variables: &[Variable]) -> Result<String, AllocError> {
@@ -33,8 +15,10 @@ pub(crate) fn variable_lines(alloc: Global, variables: &[Variable]) -> Result<St
 
 // Puts the line of a variable behind others.
 fn put_line(lines: &mut String, variable: &Variable) -> Result<(), AllocError> {
-    put_all(lines, &[role_word(variable.role), kind_word(variable.kind)])?;
-    put_all(lines, &[" ", variable.name.as_str(), "\\l"])
+    lines.push_str(role_prefix(variable.role))?;
+    lines.push_str(kind_prefix(variable.kind))?;
+    lines.push_str(variable.name.as_str())?;
+    lines.push_str("\\l")
 }
 
 /// Puts the box with these lines behind a text, where there are some. Err: memory was refused.
