@@ -1,57 +1,55 @@
 //! The lines of the variables and constants of an extended chart.
 
-use drawing::{kind_word, role_word};
 use extended_charts::{Constant, Declared, ExtendedChart};
 use sc_graph::{Role, VariableId};
-use sc_values::{Kind, Value};
+use sc_values::Value;
+use scl_printer::{kind_prefix, role_prefix};
 use std::alloc::{AllocError, Global};
 
-fn value_text(alloc: Global, value: Value) -> Result<String, AllocError> {
+// Puts a value behind a text.
+fn put_value(text: &mut String, value: Value) -> Result<(), AllocError> {
     match value {
-        Value::Bool(true) => format!(in alloc; "true"),
-        Value::Bool(false) => format!(in alloc; "false"),
-        Value::Int(number) => format!(in alloc; "{number}"),
-    }
-}
-
-// What a variable holds before the first tick, where that is told.
-fn initial_text(alloc: Global, initial: Option<Value>) -> Result<String, AllocError> {
-    match initial {
-        Some(value) => {
-            let value = value_text(alloc, value)?;
-            format!(in alloc; " = {value}")
-        }
-        None => Ok(String::new(alloc)),
+        Value::Bool(true) => text.push_str("true"),
+        Value::Bool(false) => text.push_str("false"),
+        Value::Int(number) => write!(text, "{number}"),
     }
 }
 
 // The words before the name of a signal.
 fn signal_words(role: Role) -> &'static str {
     match role {
-        Role::Output => "output signal",
-        Role::Input | Role::Local => "signal",
+        Role::Output => "output signal ",
+        Role::Input | Role::Local => "signal ",
     }
 }
 
-fn signal_line(alloc: Global, declared: &Declared) -> Result<String, AllocError> {
-    let words = signal_words(declared.variable.role);
-    let name = declared.variable.name;
-    format!(in alloc; "{words} {name}\\l")
+// Puts the line of a signal behind a text.
+fn put_signal(text: &mut String, declared: &Declared) -> Result<(), AllocError> {
+    text.push_str(signal_words(declared.variable.role))?;
+    text.push_str(declared.variable.name.as_str())?;
+    text.push_str("\\l")
 }
 
-fn variable_line(alloc: Global, declared: &Declared) -> Result<String, AllocError> {
-    let role = role_word(declared.variable.role);
-    let kind = kind_word(declared.variable.kind);
-    let name = declared.variable.name;
-    let initial = initial_text(alloc, declared.initial)?;
-    format!(in alloc; "{role}{kind} {name}{initial}\\l")
+// Puts the line of a variable behind a text, with what it holds before the first tick where that is told.
+fn put_variable(text: &mut String, declared: &Declared) -> Result<(), AllocError> {
+    text.push_str(role_prefix(declared.variable.role))?;
+    text.push_str(kind_prefix(declared.variable.kind))?;
+    text.push_str(declared.variable.name.as_str())?;
+    if let Some(value) = declared.initial {
+        text.push_str(" = ")?;
+        put_value(text, value)?;
+    }
+    text.push_str("\\l")
 }
 
-fn constant_line(alloc: Global, constant: &Constant) -> Result<String, AllocError> {
-    let kind = kind_word(constant.value.kind());
-    let name = constant.name;
-    let value = value_text(alloc, constant.value)?;
-    format!(in alloc; "const {kind} {name} = {value}\\l")
+// Puts the line of a constant behind a text.
+fn put_constant(text: &mut String, constant: &Constant) -> Result<(), AllocError> {
+    text.push_str("const ")?;
+    text.push_str(kind_prefix(constant.value.kind()))?;
+    text.push_str(constant.name.as_str())?;
+    text.push_str(" = ")?;
+    put_value(text, constant.value)?;
+    text.push_str("\\l")
 }
 
 fn is_among(signals: &[VariableId], variable: usize) -> bool {
@@ -60,31 +58,16 @@ fn is_among(signals: &[VariableId], variable: usize) -> bool {
 
 // Puts the lines of variables behind a text.
 fn put_variables(
-    alloc: Global,
     text: &mut String,
     signals: &[VariableId],
     variables: &[Declared],
 ) -> Result<(), AllocError> {
     for (number, declared) in variables.iter().enumerate() {
-        let line = if is_among(signals, number) {
-            signal_line(alloc, declared)?
+        if is_among(signals, number) {
+            put_signal(text, declared)?;
         } else {
-            variable_line(alloc, declared)?
-        };
-        text.push_str(line.as_str())?;
-    }
-    Ok(())
-}
-
-// Puts the lines of constants behind a text.
-fn put_constants(
-    alloc: Global,
-    text: &mut String,
-    constants: &[Constant],
-) -> Result<(), AllocError> {
-    for constant in constants {
-        let line = constant_line(alloc, constant)?;
-        text.push_str(line.as_str())?;
+            put_variable(text, declared)?;
+        }
     }
     Ok(())
 }
@@ -93,7 +76,9 @@ fn put_constants(
 pub(crate) fn variable_lines(alloc: Global, chart: &ExtendedChart) -> Result<String, AllocError> {
     let mut lines = String::new(alloc);
     let signals = chart.signals.as_slice();
-    put_variables(alloc, &mut lines, signals, chart.variables.as_slice())?;
-    put_constants(alloc, &mut lines, chart.constants.as_slice())?;
+    put_variables(&mut lines, signals, chart.variables.as_slice())?;
+    for constant in chart.constants.as_slice() {
+        put_constant(&mut lines, constant)?;
+    }
     Ok(lines)
 }
