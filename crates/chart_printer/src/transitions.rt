@@ -1,16 +1,15 @@
 //! The texts of transitions.
 
 ghost use Rattle.std.specs.Prelude.{◌≡◌, ◌++◌, IfOk, slice_get, string_bytes};
-ghost use Rattle.scl_printer.specs.Expressions.{variable_text};
 ghost use Rattle.chart_printer.specs.Layout.{effect_text, effects_text, further_text, named};
 ghost use Rattle.chart_printer.specs.Layout.{transition_text, transitions_text, trigger_text};
 
 use crate::lines::put_line;
 use crate::words::{immediate_text, word_of};
 use core_charts::{Effect, Transition};
-use sc_graph::{Variable, VariableId};
+use sc_graph::Variable;
 use sc_values::{Expr, Name};
-use scl_printer::text_of;
+use scl_printer::{text_of, variable_text};
 use sqlite_items::at;
 use std::alloc::{AllocError, Global};
 
@@ -31,23 +30,6 @@ pub fn trigger_text(
     }
 }
 
-// The name of the variable of this number.
-fn variable_text(
-    alloc: Global,
-    variables: &[Variable],
-    variable: VariableId,
-) -> Result<String, AllocError>
-    ensures { IfOk result (λ text. string_bytes text ≡ variable_text variables.now variable) }
-{
-    match at(variables, variable as usize) {
-        Some(variable) => {
-            let name = variable.name;
-            format!(in alloc; "{name}")
-        }
-        None => Ok(String::new(alloc)),
-    }
-}
-
 /// An effect: the name of its variable, and the expression whose value that gets. Err: memory was refused.
 #[tactic(auto, unfolding(crate::specs::Layout::effect_text))]
 pub fn effect_text(
@@ -57,7 +39,7 @@ pub fn effect_text(
 ) -> Result<String, AllocError>
     ensures { IfOk result (λ text. string_bytes text ≡ effect_text variables.now effect.now) }
 {
-    let name = variable_text(alloc, variables, effect.variable)?;
+    let name = variable_text(variables, effect.variable);
     let value = text_of(alloc, variables, &effect.value)?;
     format!(in alloc; "{name} = {value}")
 }
