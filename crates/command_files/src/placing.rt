@@ -157,6 +157,21 @@ fn sync_folder<R: SystemFiles>(rt: &R, name: &str) {
     }
 }
 
+// Fills a new file, which then takes this name.
+fn take_name<R: SystemFiles>(
+    rt: &R,
+    file: R::File,
+    beside: &str,
+    name: &str,
+    old: Option<&Metadata>,
+    bytes: &[u8],
+) -> io::Result<()> {
+    let mut file = file;
+    fill(rt, &mut file, beside, old, bytes)?;
+    drop(file);
+    fs::rename(rt, beside, name)
+}
+
 // Makes these bytes the file of this name. They go to a new file beside it, which then takes the name: a reader finds
 // the old bytes or the new ones, whole.
 fn replace<R: SystemFiles>(
@@ -166,10 +181,8 @@ fn replace<R: SystemFiles>(
     old: Option<&Metadata>,
     bytes: &[u8],
 ) -> Result<(), FileFault> {
-    let (mut file, beside) = file_beside(alloc, rt, name, old.is_some())?;
-    let filled = fill(rt, &mut file, beside.as_str(), old, bytes);
-    drop(file);
-    match filled.and_then(|()| fs::rename(rt, beside.as_str(), name)) {
+    let (file, beside) = file_beside(alloc, rt, name, old.is_some())?;
+    match take_name(rt, file, beside.as_str(), name, old, bytes) {
         Ok(()) => {
             sync_folder(rt, name);
             Ok(())
@@ -191,9 +204,10 @@ fn write_into<R: SystemFiles>(
     let mut file = OpenOptions::new().write(true).open(rt, name)?;
     file.write_all(bytes)?;
     if there.file_type().is_block_device() {
-        file.sync_all()?;
+        file.sync_all()
+    } else {
+        Ok(())
     }
-    Ok(())
 }
 
 /// Whether nothing stands at this name, no symbolic link either.
