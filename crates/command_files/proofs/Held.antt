@@ -46,14 +46,3 @@ pub no_source : (files : Option Contents) (name items bytes : List ℕ) (r : Res
     → IfErr r (BytesLackProgram bytes) → IfErr r (FileLacksProgram files name)
 no_source files name items bytes (Ok scl) held same why = tt
 no_source files name items bytes (Err f) held same why = inr (bytes, subst (HasSource files name) (sym same) held, why)
-
--- and what was made of them was made of the file
-pub compiled_in : (files : Option Contents) (name items bytes : List ℕ) (r : Result Image LoadFault) → HasSource files name items → bytes ≡ items
-    → IfOk r (SpellsImage bytes) → IfOk r (IsCompiledFrom files name)
-compiled_in files name items bytes (Ok image) held same is = compiled files name bytes image (subst (HasSource files name) (sym same) held) is
-compiled_in files name items bytes (Err f) held same is = tt
-
-pub refused_in : (files : Option Contents) (name items bytes : List ℕ) (r : Result Image LoadFault) → HasSource files name items → bytes ≡ items
-    → IfErr r (BytesLackCompiled bytes) → IfErr r (FileLacksCompiled files name)
-refused_in files name items bytes (Ok image) held same why = tt
-refused_in files name items bytes (Err f) held same why = no_compiled files name bytes f (subst (HasSource files name) (sym same) held) why

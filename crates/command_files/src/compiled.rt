@@ -1,13 +1,10 @@
-//! The image of the program in a file.
+//! The image of the program that bytes spell.
 
-ghost use Rattle.std.specs.Prelude.{◌≡◌, ◌+◌, IfErr, IfOk, OnOk};
-ghost use Rattle.command_files.specs.Counting.{files_failed};
-ghost use Rattle.command_files.specs.Sources.{IsCompiledFrom, FileLacksCompiled, SpellsImage, BytesLackCompiled};
+ghost use Rattle.std.specs.Prelude.{◌≡◌, IfErr, IfOk};
+ghost use Rattle.command_files.specs.Sources.{BytesLackCompiled, SpellsImage};
 
 use crate::fault::LoadFault;
-use crate::files::Files;
 use crate::source::read_bytes;
-use crate::standing::source_of;
 use source_programs::{ReadSource, compile_source};
 use sqlite_items::Boxed;
 use std::alloc::Global;
@@ -70,33 +67,4 @@ pub fn compile_bytes(alloc: Global, bytes: &[u8]) -> Result<Verified, LoadFault>
         Ok(image) => Ok(image),
         Err(unmade) => Err(unmade.fault),
     }
-}
-
-// The image of the program of the source in the file of this name.
-fn compile_file<F: Files>(alloc: Global, files: &mut F, name: &str) -> Result<Verified, LoadFault>
-    ensures compiled { IfOk result (IsCompiledFrom (F.contents files.old) name.now) }
-    ensures fault { IfErr result (FileLacksCompiled (F.contents files.old) name.now) }
-    ensures same { F.contents files.new ≡ F.contents files.old }
-    ensures none_failed { OnOk result (F.failures files.new ≡ F.failures files.old) }
-    ensures failed { IfErr result (λ fault. F.failures files.new ≡ F.failures files.old + files_failed fault) }
-{
-    let bytes = source_of(alloc, files, name)?;
-    compile_bytes(alloc, &bytes)
-}
-
-/// The image of the program of the source in the file of this name, in a box. Err: there is no program in the file, or
-/// why it has no image.
-pub fn load_compiled<F: Files>(
-    alloc: Global,
-    files: &mut F,
-    name: &str,
-) -> Result<Boxed<Verified>, LoadFault>
-    ensures compiled { IfOk result (IsCompiledFrom (F.contents files.old) name.now) }
-    ensures fault { IfErr result (FileLacksCompiled (F.contents files.old) name.now) }
-    ensures same { F.contents files.new ≡ F.contents files.old }
-    ensures none_failed { OnOk result (F.failures files.new ≡ F.failures files.old) }
-    ensures failed { IfErr result (λ fault. F.failures files.new ≡ F.failures files.old + files_failed fault) }
-{
-    let image = compile_file(alloc, files, name)?;
-    Ok(Boxed::new(alloc, image)?)
 }

@@ -15,7 +15,7 @@ mod source;
 mod standing;
 mod storing;
 
-pub use compiled::{Unmade, compile_bytes, compile_read, load_compiled};
+pub use compiled::{Unmade, compile_bytes, compile_read};
 pub use fault::LoadFault;
 pub use fault_text::shown_name;
 pub use files::{FileFault, Files, HostFiles};
