@@ -10,4 +10,5 @@ mod targets;
 mod transitions;
 
 pub use lowering::{lower, lower_without_aborts};
+pub use regions::is_wanted;
 pub use targets::Targets;

@@ -132,8 +132,8 @@ fn text_of(
     superstate(alloc, at, transitions, number, inside.bodies, inside.next)
 }
 
-// Whether a state is one of those that are wanted: the initial ones, or the others.
-fn is_wanted(are_initial: bool, is_initial: bool) -> bool
+/// Whether a state is one of those that are wanted: the initial ones, or the others.
+pub fn is_wanted(are_initial: bool, is_initial: bool) -> bool
     ensures { result ≡ is_wanted are_initial is_initial }
 {
     if are_initial { is_initial } else { !is_initial }

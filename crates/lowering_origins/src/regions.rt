@@ -1,13 +1,13 @@
 //! The origins of the points of regions, and of states with what is inside them.
 
 ghost use Rattle.std.specs.Prelude.{◌≡◌, ◌++◌, IfOk, map};
-ghost use Rattle.chart_lowering.specs.Lowering.{is_wanted};
 ghost use Rattle.lowering_origins.specs.Origins.{behind_regions, behind_states, body_of, branches, piece_of_region};
 ghost use Rattle.lowering_origins.specs.Origins.{piece_of_state, point_origins, texts};
 
 use crate::behind::behind_state;
 use crate::states::{put_behind_fork, put_final, put_simple};
 use chart_elements::{Element, Numbers};
+use chart_lowering::is_wanted;
 use core_charts::{CoreChart, Region, State};
 use sqlite_items::Items;
 use std::alloc::{AllocError, Global};
@@ -109,11 +109,4 @@ fn put_state(state: &State, at: Numbers, origins: &mut Items<Element>) -> Result
     put_final(at, origins)?;
     put_regions(state.regions.as_slice(), at.within_state(own)?, origins)?;
     put_behind_fork(own, at, origins)
-}
-
-// Whether a state is one of those that are wanted: the initial ones, or the others.
-fn is_wanted(are_initial: bool, is_initial: bool) -> bool
-    ensures { result ≡ is_wanted are_initial is_initial }
-{
-    if are_initial { is_initial } else { !is_initial }
 }

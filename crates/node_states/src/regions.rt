@@ -1,12 +1,12 @@
 //! The nodes of regions, with all that is inside them.
 
 ghost use Rattle.std.specs.Prelude.{◌≡◌, ◌++◌, IfOk, map};
-ghost use Rattle.chart_lowering.specs.Lowering.{is_wanted};
 ghost use Rattle.node_states.specs.Nodes.{below_among, beside, forked, own_among, piece_of_region, piece_of_state};
 ghost use Rattle.node_states.specs.Nodes.{region_over, state_of_node, thread};
 
 use crate::counting::{past, region_states, state_states};
 use crate::states::lay_state;
+use chart_lowering::is_wanted;
 use core_charts::{CoreChart, Region, State};
 use sqlite_items::Items;
 use std::alloc::{AllocError, Global};
@@ -142,11 +142,4 @@ fn lay_inside(state: &State, number: u32, nodes: &mut Items<Option<u32>>) -> Res
         return Ok(());
     }
     lay_regions(state.regions.as_slice(), past(number, 1)?, nodes)
-}
-
-// Whether a state is one of those that are wanted: the initial ones, or the others.
-fn is_wanted(are_initial: bool, is_initial: bool) -> bool
-    ensures { result ≡ is_wanted are_initial is_initial }
-{
-    if are_initial { is_initial } else { !is_initial }
 }
