@@ -21,6 +21,8 @@ pub fn read_chart(alloc: Global, text: &str) -> Result<Chart, ReadFault>
     ensures exact { IsExact text.now result }
 {
     let draft = read_checked(alloc, text)?;
-    let chart = chart_of(alloc, &draft)?;
+    let made = chart_of(alloc, &draft);
+    drop(draft);
+    let chart = made?;
     Ok(chart)
 }
