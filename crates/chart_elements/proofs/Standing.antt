@@ -3,7 +3,7 @@ use Rattle.std.proofs.Common.{◌≡◌, ℕ, zero, suc, ◌+◌, ◌<◌, Some,
 use Rattle.std.proofs.Common.{◌∙◌, append_assoc}
 use Rattle.std.proofs.lemmas.List.{length-append}
 use Rattle.core_charts.specs.declared.region.Transition.{Transition}
-use Rattle.chart_elements.specs.declared.numbers.Numbers.{Numbers}
+use Rattle.chart_elements.specs.declared.numbers.ElementNumbers.{ElementNumbers}
 use Rattle.chart_elements.specs.Elements.{Contents, all_effects}
 use Rattle.chart_elements.specs.Numbers.{behind_transition}
 
@@ -43,7 +43,7 @@ effects_append (t ∷ a) b =
 -- ---- a piece of a chart
 
 -- its elements stand among all, from these numbers on
-pub record Placed (all : Contents) (at : Numbers) (own : Contents) : Type 0 where
+pub record Placed (all : Contents) (at : ElementNumbers) (own : Contents) : Type 0 where
   pub regions : At all.regions at.region own.regions
   pub states : At all.states at.state own.states
   pub transitions : At all.transitions at.transition own.transitions
@@ -52,7 +52,7 @@ pub record Placed (all : Contents) (at : Numbers) (own : Contents) : Type 0 wher
 abbrev pub both : Contents → Contents → Contents
 both a b = record { regions = a.regions ++ b.regions; states = a.states ++ b.states; transitions = a.transitions ++ b.transitions }
 
-pub placed_first : (all : Contents) (at : Numbers) (a b : Contents) → Placed all at (both a b) → Placed all at a
+pub placed_first : (all : Contents) (at : ElementNumbers) (a b : Contents) → Placed all at (both a b) → Placed all at a
 placed_first all at a b h = record {
   regions = at_first all.regions at.region a.regions b.regions h.regions;
   states = at_first all.states at.state a.states b.states h.states;
@@ -63,13 +63,13 @@ placed_first all at a b h = record {
 }
 
 -- the numbers behind a piece
-pub record Passes (own : Contents) (behind : Numbers → Numbers) : Type 0 where
-  pub region : (at : Numbers) → (behind at).region ≡ at.region + length own.regions
-  pub state : (at : Numbers) → (behind at).state ≡ at.state + length own.states
-  pub transition : (at : Numbers) → (behind at).transition ≡ at.transition + length own.transitions
-  pub effect : (at : Numbers) → (behind at).effect ≡ at.effect + length (all_effects own.transitions)
+pub record Passes (own : Contents) (behind : ElementNumbers → ElementNumbers) : Type 0 where
+  pub region : (at : ElementNumbers) → (behind at).region ≡ at.region + length own.regions
+  pub state : (at : ElementNumbers) → (behind at).state ≡ at.state + length own.states
+  pub transition : (at : ElementNumbers) → (behind at).transition ≡ at.transition + length own.transitions
+  pub effect : (at : ElementNumbers) → (behind at).effect ≡ at.effect + length (all_effects own.transitions)
 
-pub passes_both : (a b : Contents) (f g : Numbers → Numbers) → Passes a f → Passes b g → Passes (both a b) (λ at. g (f at))
+pub passes_both : (a b : Contents) (f g : ElementNumbers → ElementNumbers) → Passes a f → Passes b g → Passes (both a b) (λ at. g (f at))
 passes_both a b f g p q = record {
   region = λ at. omega (arith, p.region at, q.region (f at), length-append a.regions b.regions);
   state = λ at. omega (arith, p.state at, q.state (f at), length-append a.states b.states);
@@ -80,7 +80,7 @@ passes_both a b f g p q = record {
       omega (arith, p.effect at, q.effect (f at), many);
 }
 
-pub placed_behind : (all : Contents) (at : Numbers) (a b : Contents) (f : Numbers → Numbers) → Passes a f → Placed all at (both a b) →
+pub placed_behind : (all : Contents) (at : ElementNumbers) (a b : Contents) (f : ElementNumbers → ElementNumbers) → Passes a f → Placed all at (both a b) →
     Placed all (f at) b
 placed_behind all at a b f p h = record {
   regions = subst (λ n. At all.regions n b.regions) (sym (p.region at)) (at_behind all.regions at.region a.regions b.regions h.regions);
@@ -97,17 +97,17 @@ placed_behind all at a b f p h = record {
 -- ---- transitions of a state
 
 -- these stand from these numbers on
-pub record Owned (all : Contents) (at : Numbers) (own : List Transition) : Type 0 where
+pub record Owned (all : Contents) (at : ElementNumbers) (own : List Transition) : Type 0 where
   pub transitions : At all.transitions at.transition own
   pub effects : At (all_effects all.transitions) at.effect (all_effects own)
 
-pub owned_others : (all : Contents) (at : Numbers) (t : Transition) (own : List Transition) → Owned all at (t ∷ own) →
+pub owned_others : (all : Contents) (at : ElementNumbers) (t : Transition) (own : List Transition) → Owned all at (t ∷ own) →
     Owned all (behind_transition t at) own
 owned_others all at t own h = record {
   transitions = h.transitions.1;
   effects = at_behind (all_effects all.transitions) at.effect t.effects (all_effects own) h.effects;
 }
 
-pub owned_effects : (all : Contents) (at : Numbers) (t : Transition) (own : List Transition) → Owned all at (t ∷ own) →
+pub owned_effects : (all : Contents) (at : ElementNumbers) (t : Transition) (own : List Transition) → Owned all at (t ∷ own) →
     At (all_effects all.transitions) at.effect t.effects
 owned_effects all at t own h = at_first (all_effects all.transitions) at.effect t.effects (all_effects own) h.effects

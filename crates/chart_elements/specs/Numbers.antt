@@ -5,30 +5,30 @@ use Rattle.core_charts.specs.declared.region.Effect.{Effect}
 use Rattle.core_charts.specs.declared.region.Transition.{Transition}
 use Rattle.chart_elements.specs.declared.element.Element.{Element}
 use Rattle.chart_elements.specs.declared.element.Element.TheVariants as element
-use Rattle.chart_elements.specs.declared.numbers.Numbers.{Numbers}
+use Rattle.chart_elements.specs.declared.numbers.ElementNumbers.{ElementNumbers}
 
 -- the numbers that come next behind a transition, and behind transitions
-abbrev pub behind_transition : Transition → Numbers → Numbers
+abbrev pub behind_transition : Transition → ElementNumbers → ElementNumbers
 behind_transition t at = record at { transition = suc at.transition; effect = at.effect + length t.effects }
 
-abbrev pub behind_transitions : List Transition → Numbers → Numbers
+abbrev pub behind_transitions : List Transition → ElementNumbers → ElementNumbers
 behind_transitions [] at = at
 behind_transitions (t ∷ others) at = behind_transitions others (behind_transition t at)
 
 -- within a state with these transitions
-abbrev pub within_state : List Transition → Numbers → Numbers
+abbrev pub within_state : List Transition → ElementNumbers → ElementNumbers
 within_state own at = behind_transitions own (record at { state = suc at.state })
 
 -- within a region
-abbrev pub within_region : Numbers → Numbers
+abbrev pub within_region : ElementNumbers → ElementNumbers
 within_region at = record at { region = suc at.region }
 
 -- behind pieces side by side, of which each passes some numbers
-abbrev pub behind_all : List (Numbers → Numbers) → Numbers → Numbers
+abbrev pub behind_all : List (ElementNumbers → ElementNumbers) → ElementNumbers → ElementNumbers
 behind_all [] at = at
 behind_all (behind ∷ others) at = behind_all others (behind at)
 
-abbrev pub first : Numbers
+abbrev pub first : ElementNumbers
 first = record { region = 0; state = 0; transition = 0; effect = 0 }
 
 -- effects, of which the first one has this number

@@ -9,5 +9,5 @@ mod paths;
 
 pub use effects::put_effects;
 pub use element::Element;
-pub use numbers::{Numbers, next};
+pub use numbers::{ElementNumbers, next};
 pub use paths::{joined, paths_of};

@@ -9,7 +9,7 @@ use std::alloc::AllocError;
 
 /// The numbers that come next: of a region, of a state, of a transition, of an effect.
 #[derive(Clone, Copy)]
-pub struct Numbers {
+pub struct ElementNumbers {
     pub region: u32,
     pub state: u32,
     pub transition: u32,
@@ -26,12 +26,12 @@ pub fn next(number: u32) -> Result<u32, AllocError>
     }
 }
 
-impl Numbers {
+impl ElementNumbers {
     /// Those of the first ones.
-    pub fn first() -> Numbers
+    pub fn first() -> ElementNumbers
         ensures { result ≡ first }
     {
-        Numbers {
+        ElementNumbers {
             region: 0,
             state: 0,
             transition: 0,
@@ -40,7 +40,7 @@ impl Numbers {
     }
 
     /// Those behind a transition. Err: no memory holds a chart with so many.
-    pub fn behind_transition(self, transition: &Transition) -> Result<Numbers, AllocError>
+    pub fn behind_transition(self, transition: &Transition) -> Result<ElementNumbers, AllocError>
         ensures { IfOk result (λ behind. behind ≡ behind_transition transition.now self) }
     {
         let Ok(effects) = u32::try_from(transition.effects.len()) else {
@@ -49,7 +49,7 @@ impl Numbers {
         let Some(effect) = self.effect.checked_add(effects) else {
             return Err(AllocError);
         };
-        Ok(Numbers {
+        Ok(ElementNumbers {
             region: self.region,
             state: self.state,
             transition: next(self.transition)?,
@@ -58,7 +58,7 @@ impl Numbers {
     }
 
     // Those behind transitions.
-    fn behind_transitions(self, transitions: &[Transition]) -> Result<Numbers, AllocError>
+    fn behind_transitions(self, transitions: &[Transition]) -> Result<ElementNumbers, AllocError>
         ensures { IfOk result (λ behind. behind ≡ behind_transitions transitions.now self) }
     {
         let mut here = self;
@@ -69,10 +69,10 @@ impl Numbers {
     }
 
     /// Those within a state with these transitions. Err: no memory holds a chart with so many.
-    pub fn within_state(self, own: &[Transition]) -> Result<Numbers, AllocError>
+    pub fn within_state(self, own: &[Transition]) -> Result<ElementNumbers, AllocError>
         ensures { IfOk result (λ within. within ≡ within_state own.now self) }
     {
-        let inside = Numbers {
+        let inside = ElementNumbers {
             region: self.region,
             state: next(self.state)?,
             transition: self.transition,
@@ -82,10 +82,10 @@ impl Numbers {
     }
 
     /// Those within a region. Err: no memory holds a chart with so many.
-    pub fn within_region(self) -> Result<Numbers, AllocError>
+    pub fn within_region(self) -> Result<ElementNumbers, AllocError>
         ensures { IfOk result (λ within. within ≡ within_region self) }
     {
-        Ok(Numbers {
+        Ok(ElementNumbers {
             region: next(self.region)?,
             state: self.state,
             transition: self.transition,

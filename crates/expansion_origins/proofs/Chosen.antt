@@ -11,7 +11,7 @@ use Rattle.core_charts.specs.declared.region.Transition.{Transition}
 use Rattle.core_charts.specs.Tests.{at_once, is_strong, strong_aborts}
 use Rattle.chart_elements.specs.declared.element.Element.{Element}
 use Rattle.chart_elements.specs.declared.element.Element.TheVariants as element
-use Rattle.chart_elements.specs.declared.numbers.Numbers.{Numbers}
+use Rattle.chart_elements.specs.declared.numbers.ElementNumbers.{ElementNumbers}
 use Rattle.chart_elements.specs.Elements.{Contents, all_effects}
 use Rattle.chart_elements.specs.Numbers.{behind_transition, effects}
 use Rattle.abort_expansion.specs.declared.places.RegionPlaces.{RegionPlaces}
@@ -55,7 +55,7 @@ counting_come all own m n h small false counter true e =
 counting_come all own m n h small false counter false e =
     subst (λ os. Pairs (EffectFrom all) os own) (sym (append-nil (effects own m))) (effects_come all own m h)
 
-pub taken_comes : (all : Contents) (to : RegionPlaces) (ends : Ends) (x t : Transition) (at : Numbers) → EndAlike to ends →
+pub taken_comes : (all : Contents) (to : RegionPlaces) (ends : Ends) (x t : Transition) (at : ElementNumbers) → EndAlike to ends →
     x.effects ≡ counting to t.target t.effects → slice_get all.transitions at.transition ≡ Some t →
     At (all_effects all.transitions) at.effect t.effects → Comes all (moves (x ∷ [])) (taken ends t at)
 taken_comes all to ends x t at alike is there h =
@@ -76,7 +76,7 @@ taken_comes all to ends x t at alike is there h =
       stands = refl;
     }
 
-raised_comes : (all : Contents) (immediate : Bool) (trigger : Option Expr) (x i left : ℕ) (t : Transition) (at : Numbers) →
+raised_comes : (all : Contents) (immediate : Bool) (trigger : Option Expr) (x i left : ℕ) (t : Transition) (at : ElementNumbers) →
     slice_get all.transitions at.transition ≡ Some t → Comes all (moves (go immediate trigger (put x i ∷ []) left ∷ [])) (raised at)
 raised_comes all immediate trigger x i left t at there =
     let small : at.transition < length all.transitions = below all.transitions at.transition t there in
@@ -90,13 +90,13 @@ pub record OneByOne (g : ℕ → List Transition → List Transition) (f : ℕ �
   pub goes_on : (i : ℕ) (t : Transition) (own : List Transition) → g i (t ∷ own) ≡ f i t ∷ g (suc i) own
 
 -- each comes from its own
-abbrev pub EachComes : Contents → (ℕ → Transition → Transition) → (Transition → Numbers → Origins) → Type 0
+abbrev pub EachComes : Contents → (ℕ → Transition → Transition) → (Transition → ElementNumbers → Origins) → Type 0
 EachComes all f made =
-    (i : ℕ) (t : Transition) (at : Numbers) → slice_get all.transitions at.transition ≡ Some t →
+    (i : ℕ) (t : Transition) (at : ElementNumbers) → slice_get all.transitions at.transition ≡ Some t →
     At (all_effects all.transitions) at.effect t.effects → Comes all (moves (f i t ∷ [])) (made t at)
 
-chosen_come : (all : Contents) (c : Choice) (made : Transition → Numbers → Origins) (g : ℕ → List Transition → List Transition)
-    (f : ℕ → Transition → Transition) → OneByOne g f → EachComes all f made → (own : List Transition) (i : ℕ) (at : Numbers) → Owned all at own →
+chosen_come : (all : Contents) (c : Choice) (made : Transition → ElementNumbers → Origins) (g : ℕ → List Transition → List Transition)
+    (f : ℕ → Transition → Transition) → OneByOne g f → EachComes all f made → (own : List Transition) (i : ℕ) (at : ElementNumbers) → Owned all at own →
     Comes all (moves (g i (filter (is_chosen c) own))) (chosen c made own at)
 chosen_come all c made g f one each [] i at h = subst (λ ts. Comes all (moves ts) nothing) (sym (one.ended i)) (none_comes all)
 chosen_come all c made g f one each (t ∷ own) i at h =
@@ -117,7 +117,7 @@ chosen_come all c made g f one each (t ∷ own) i at h =
     by false later = both_come all none (moves (g i rest)) nothing behind (none_comes all) (later i)
 
 -- none of a choice that chooses nothing
-none_chosen : (all : Contents) (c : Choice) (made : Transition → Numbers → Origins) (own : List Transition) (at : Numbers) →
+none_chosen : (all : Contents) (c : Choice) (made : Transition → ElementNumbers → Origins) (own : List Transition) (at : ElementNumbers) →
     list_any (is_chosen c) own ≡ false → Comes all (moves []) (chosen c made own at)
 none_chosen all c made [] at h = none_comes all
 none_chosen all c made (t ∷ own) at h =
@@ -151,7 +151,7 @@ entry_chosen (t ∷ own) =
     by false immediate a b e = e
 
 -- transitions as they stand
-pub led_come : (all : Contents) (to : RegionPlaces) (ends : Ends) (own : List Transition) (at : Numbers) → EndAlike to ends → Owned all at own →
+pub led_come : (all : Contents) (to : RegionPlaces) (ends : Ends) (own : List Transition) (at : ElementNumbers) → EndAlike to ends → Owned all at own →
     Comes all (moves (map (led to) own)) (chosen choice.All (taken ends) own at)
 led_come all to ends own at alike h =
     subst (λ ts. Comes all (moves (map (led to) ts)) (chosen choice.All (taken ends) own at)) (all_chosen own)
@@ -160,7 +160,7 @@ led_come all to ends own at alike h =
     (λ i t here there k. taken_comes all to ends (led to t) t here alike refl there k) own 0 at h)
 
 -- those at entry
-pub entry_come : (all : Contents) (to : RegionPlaces) (ends : Ends) (own : List Transition) (at : Numbers) → EndAlike to ends → Owned all at own →
+pub entry_come : (all : Contents) (to : RegionPlaces) (ends : Ends) (own : List Transition) (at : ElementNumbers) → EndAlike to ends → Owned all at own →
     Comes all (moves (map (λ t. led_by to t.trigger t) (at_once (strong_aborts own)))) (chosen choice.AtEntry (taken ends) own at)
 entry_come all to ends own at alike h =
     subst (λ ts. Comes all (moves (map (λ t. led_by to t.trigger t) ts)) (chosen choice.AtEntry (taken ends) own at)) (entry_chosen own)
@@ -169,7 +169,7 @@ entry_come all to ends own at alike h =
     (λ i t here there k. taken_comes all to ends (led_by to t.trigger t) t here alike refl there k) own 0 at h)
 
 -- the answers to aborts of a sort
-pub answers_come : (all : Contents) (to : RegionPlaces) (ends : Ends) (s : Sort) (x i : ℕ) (own : List Transition) (at : Numbers) → EndAlike to ends →
+pub answers_come : (all : Contents) (to : RegionPlaces) (ends : Ends) (s : Sort) (x i : ℕ) (own : List Transition) (at : ElementNumbers) → EndAlike to ends →
     Owned all at own → Comes all (moves (answers to (given (list_any (λ t. is_of s t.kind) own) x) i (filter (λ t. is_of s t.kind) own)))
     (chosen (choice.Of s) (taken ends) own at)
 answers_come all to ends s x i own at alike h = by (list_any (λ t. is_of s t.kind) own) refl
@@ -183,7 +183,7 @@ answers_come all to ends s x i own at alike h = by (list_any (λ t. is_of s t.ki
     by false e = none_chosen all (choice.Of s) (taken ends) own at e
 
 -- what raises their flags
-pub raising_come : (all : Contents) (immediate : Transition → Bool) (left : ℕ) (s : Sort) (x i : ℕ) (own : List Transition) (at : Numbers) →
+pub raising_come : (all : Contents) (immediate : Transition → Bool) (left : ℕ) (s : Sort) (x i : ℕ) (own : List Transition) (at : ElementNumbers) →
     Owned all at own →
     Comes all (moves (raising immediate left (given (list_any (λ t. is_of s t.kind) own) x) i (filter (λ t. is_of s t.kind) own)))
     (chosen (choice.Of s) (λ t. raised) own at)

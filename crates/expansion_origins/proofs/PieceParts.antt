@@ -3,11 +3,11 @@ use Rattle.std.proofs.Common.{◌≡◌, Bool, List, map, ap}
 use Rattle.core_charts.specs.declared.region.Region.{Region}
 use Rattle.core_charts.specs.declared.region.Region.TheViews.{out-Region}
 use Rattle.core_charts.specs.declared.region.Region.TheFolds.{fold_out-Region}
-use Rattle.chart_elements.specs.declared.numbers.Numbers.{Numbers}
+use Rattle.chart_elements.specs.declared.numbers.ElementNumbers.{ElementNumbers}
 use Rattle.expansion_origins.specs.declared.around.Around.{Around}
 use Rattle.expansion_origins.specs.Origins.{RegionPiece, StatePiece, piece_of_region, piece_of_state, region_over, region_piece, state_piece}
 
-pub region_origins : (r : Region) (around : List Around) (counts : Bool) (at : Numbers) →
+pub region_origins : (r : Region) (around : List Around) (counts : Bool) (at : ElementNumbers) →
     (piece_of_region r).origins around counts at ≡ region_over (map piece_of_state (out-Region r).states) around counts at
 region_origins r around counts at =
     ap (λ p. p.origins around counts at) (fold_out-Region RegionPiece StatePiece region_piece state_piece r)

@@ -9,7 +9,7 @@ use Rattle.core_charts.specs.declared.region.State.{State}
 use Rattle.sc_text.proofs.EachItem.{Each}
 use Rattle.chart_elements.specs.declared.element.Element.{Element}
 use Rattle.chart_elements.specs.declared.element.Element.TheVariants as element
-use Rattle.chart_elements.specs.declared.numbers.Numbers.{Numbers}
+use Rattle.chart_elements.specs.declared.numbers.ElementNumbers.{ElementNumbers}
 use Rattle.chart_elements.specs.Elements.{Contents}
 use Rattle.chart_elements.specs.Numbers.{within_state}
 use Rattle.abort_expansion.specs.declared.flags.Flags.{Flags}
@@ -42,8 +42,8 @@ use Rattle.expansion_origins.proofs.SuperstateOrigins.{of_inside, of_those, supe
 
 pub record RegionTells (r : Region) : Type 0 where
   pub passes : Passes (of_one_region r) (piece_of_region r).behind
-  pub many : (at : Numbers) → ((piece_of_region r).behind at).state ≡ at.state + (exp.piece_of_region r).states
-  pub comes : (all : Contents) (fs : List Flags) (bs : List Around) (counter : Option ℕ) (counts : Bool) (at : Numbers) (before : old.NextNumbers) →
+  pub many : (at : ElementNumbers) → ((piece_of_region r).behind at).state ≡ at.state + (exp.piece_of_region r).states
+  pub comes : (all : Contents) (fs : List Flags) (bs : List Around) (counter : Option ℕ) (counts : Bool) (at : ElementNumbers) (before : old.NextNumbers) →
       before.state ≡ at.state → is_there counter ≡ counts → Encloses all fs bs → Placed all at (of_one_region r) →
       Comes all (of_inside ((exp.piece_of_region r).made fs counter before)) ((piece_of_region r).origins bs counts at)
 
@@ -51,9 +51,9 @@ pub record StateTells (s : State) : Type 0 where
   pub initial : (exp.piece_of_state s).is_initial ≡ (piece_of_state s).is_initial
   pub final : (exp.piece_of_state s).is_final ≡ (piece_of_state s).is_final
   pub passes : Passes (of_one_state s) (piece_of_state s).behind
-  pub many : (at : Numbers) → ((piece_of_state s).behind at).state ≡ at.state + (exp.piece_of_state s).states
-  pub here : (all : Contents) (at : Numbers) → Placed all at (of_one_state s) → at.state < length all.states
-  pub comes : (all : Contents) (fs : List Flags) (bs : List Around) (to : RegionPlaces) (ends : Ends) (place : ℕ) (begins : Bool) (at : Numbers)
+  pub many : (at : ElementNumbers) → ((piece_of_state s).behind at).state ≡ at.state + (exp.piece_of_state s).states
+  pub here : (all : Contents) (at : ElementNumbers) → Placed all at (of_one_state s) → at.state < length all.states
+  pub comes : (all : Contents) (fs : List Flags) (bs : List Around) (to : RegionPlaces) (ends : Ends) (place : ℕ) (begins : Bool) (at : ElementNumbers)
       (before : old.NextNumbers) → before.state ≡ at.state → Within all fs bs to ends → Placed all at (of_one_state s) →
       Comes all (of_those ((exp.piece_of_state s).made fs to place begins before)) ((piece_of_state s).origins bs ends at)
 
@@ -65,14 +65,14 @@ regions_pass (r ∷ regions) each =
     passes_both (of_one_region r) (in_regions regions) (piece_of_region r).behind (behind_regions (map piece_of_region regions)) each.0.passes
     (regions_pass regions each.1)
 
-pub regions_many : (regions : List Region) → Each RegionTells regions → (at : Numbers) →
+pub regions_many : (regions : List Region) → Each RegionTells regions → (at : ElementNumbers) →
     (behind_regions (map piece_of_region regions) at).state ≡ at.state + pieces.states_in (map exp.piece_of_region regions)
 regions_many [] each at = omega arith
 regions_many (r ∷ regions) each at =
     omega (arith, regions_many regions each.1 ((piece_of_region r).behind at), each.0.many at)
 
 pub regions_come : (all : Contents) (fs : List Flags) (bs : List Around) (counter : Option ℕ) (counts : Bool) (regions : List Region) →
-    Each RegionTells regions → (at : Numbers) (before : old.NextNumbers) → before.state ≡ at.state → is_there counter ≡ counts → Encloses all fs bs →
+    Each RegionTells regions → (at : ElementNumbers) (before : old.NextNumbers) → before.state ≡ at.state → is_there counter ≡ counts → Encloses all fs bs →
     Placed all at (in_regions regions) →
     Comes all (of_inside (pieces.expanded_regions (map exp.piece_of_region regions) fs counter before))
     (all_regions (map piece_of_region regions) bs counts at)
@@ -105,7 +105,7 @@ old_state is_initial is_final name regions own =
     (record { name = name; is_initial = is_initial; is_final = is_final; regions = map exp.piece_of_region regions; transitions = own })
 
 pub state_comes : (all : Contents) (fs : List Flags) (bs : List Around) (to : RegionPlaces) (ends : Ends) (is_initial is_final : Bool) (name : List ℕ)
-    (regions : List Region) (own : List Transition) (place : ℕ) (begins : Bool) (at : Numbers) (before : old.NextNumbers) →
+    (regions : List Region) (own : List Transition) (place : ℕ) (begins : Bool) (at : ElementNumbers) (before : old.NextNumbers) →
     Each RegionTells regions → before.state ≡ at.state → Within all fs bs to ends → Placed all at (both (state_alone name own) (in_regions regions)) →
     Comes all (of_those ((old_state is_initial is_final name regions own).made fs to place begins before))
     (state_origins is_final (map piece_of_region regions) own bs ends at)
@@ -150,13 +150,13 @@ states_pass (s ∷ states) each =
     passes_both (of_one_state s) (in_states states) (piece_of_state s).behind (behind_states (map piece_of_state states)) each.0.passes
     (states_pass states each.1)
 
-pub states_many : (states : List State) → Each StateTells states → (at : Numbers) →
+pub states_many : (states : List State) → Each StateTells states → (at : ElementNumbers) →
     (behind_states (map piece_of_state states) at).state ≡ at.state + exp.states_among (map exp.piece_of_state states)
 states_many [] each at = omega arith
 states_many (s ∷ states) each at = omega (arith, states_many states each.1 ((piece_of_state s).behind at), each.0.many at)
 
 states_come : (all : Contents) (fs : List Flags) (bs : List Around) (to : RegionPlaces) (ends : Ends) (anew : Bool) (states : List State) →
-    Each StateTells states → (place : ℕ) (at : Numbers) (before : old.NextNumbers) → before.state ≡ at.state → Within all fs bs to ends →
+    Each StateTells states → (place : ℕ) (at : ElementNumbers) (before : old.NextNumbers) → before.state ≡ at.state → Within all fs bs to ends →
     Placed all at (in_states states) →
     Comes all (of_those (exp.expanded_states anew (map exp.piece_of_state states) fs to place before))
     (all_states (map piece_of_state states) bs ends at)
@@ -202,7 +202,7 @@ anew_alike (Some x) false states each e = absurd cc
 anew_alike None true states each e = absurd cc
 anew_alike None false states each e = refl
 
-number_alike : (states : List State) → Each StateTells states → (n : ℕ) (at : Numbers) → n ≡ at.state →
+number_alike : (states : List State) → Each StateTells states → (n : ℕ) (at : ElementNumbers) → n ≡ at.state →
     exp.initial_number (map exp.piece_of_state states) n ≡ initial_number (map piece_of_state states) at
 number_alike [] each n at e = e
 number_alike (s ∷ states) each n at e =
@@ -219,7 +219,7 @@ or_other : (b c d : Bool) → b ≡ false → ((b && c) || d) ≡ true → d ≡
 or_other true c d e h = absurd cc
 or_other false c d e h = h
 
-initial_below : (all : Contents) (states : List State) → Each StateTells states → (at : Numbers) → Placed all at (in_states states) →
+initial_below : (all : Contents) (states : List State) → Each StateTells states → (at : ElementNumbers) → Placed all at (in_states states) →
     list_any (λ s. s.is_initial && s.is_final) (map piece_of_state states) ≡ true →
     initial_number (map piece_of_state states) at < length all.states
 initial_below all [] each at placed h = absurd cc
@@ -270,7 +270,7 @@ some_of_anew false states h = absurd cc
 -- ---- the states of a region
 
 pub inside_comes : (all : Contents) (fs : List Flags) (bs : List Around) (counter : Option ℕ) (counts : Bool) (states : List State) →
-    Each StateTells states → (region : ℕ) (at : Numbers) (before : old.NextNumbers) → before.state ≡ at.state → is_there counter ≡ counts →
+    Each StateTells states → (region : ℕ) (at : ElementNumbers) (before : old.NextNumbers) → before.state ≡ at.state → is_there counter ≡ counts →
     Encloses all fs bs → Placed all at (in_states states) → region < length all.regions →
     Comes all (of_those (exp.inside_region (map exp.piece_of_state states) fs counter before))
     (inside_region (map piece_of_state states) bs counts (element.Region region) at)

@@ -7,7 +7,7 @@ use Rattle.core_charts.specs.declared.region.Transition.{Transition}
 use Rattle.core_charts.specs.Tests.{at_once, strong_aborts}
 use Rattle.core_charts.specs.Aborts.{has_strong, has_weak}
 use Rattle.chart_elements.specs.declared.element.Element.TheVariants as element
-use Rattle.chart_elements.specs.declared.numbers.Numbers.{Numbers}
+use Rattle.chart_elements.specs.declared.numbers.ElementNumbers.{ElementNumbers}
 use Rattle.chart_elements.specs.Elements.{Contents}
 use Rattle.abort_expansion.specs.declared.flags.Flags.{Flags}
 use Rattle.abort_expansion.specs.declared.places.RegionPlaces.{RegionPlaces}
@@ -30,7 +30,7 @@ use Rattle.expansion_origins.proofs.Chosen.{EndAlike, entry_come, led_come}
 use Rattle.expansion_origins.proofs.Shapes.{of_states, simple_holds}
 
 -- a state of the chart, with its transitions
-pub record Stated (all : Contents) (name : List ℕ) (at : Numbers) (own : List Transition) : Type 0 where
+pub record Stated (all : Contents) (name : List ℕ) (at : ElementNumbers) (own : List Transition) : Type 0 where
   pub named : slice_get all.states at.state ≡ Some name
   pub owned : Owned all at own
 
@@ -77,7 +77,7 @@ move_comes all t n bare small = record {
 -- ---- simple states
 
 pub simple_comes : (all : Contents) (fs : List Flags) (bs : List Around) (to : RegionPlaces) (ends : Ends) (final : Bool) (name : List ℕ)
-    (own : List Transition) (begins : Bool) (at : Numbers) → Within all fs bs to ends → Stated all name at own →
+    (own : List Transition) (begins : Bool) (at : ElementNumbers) → Within all fs bs to ends → Stated all name at own →
     Comes all (of_states (made.simple final name own fs to begins ∷ []) (Some at.state ∷ [])) (origin.simple final own bs ends at)
 simple_comes all fs bs to ends true name own begins at h s =
     simple_holds all name begins true [] (Some at.state) (origin.state (element.State at.state)) (itself_comes all name at.state s.named)
@@ -135,7 +135,7 @@ effects_of_one all t n os small is h =
     })
 
 pub preparation_comes : (all : Contents) (fs : List Flags) (bs : List Around) (to : RegionPlaces) (ends : Ends) (name : List ℕ) (s x regions : ℕ)
-    (own : List Transition) (fork : ℕ) (begins : Bool) (at : Numbers) → Within all fs bs to ends → Stated all name at own →
+    (own : List Transition) (fork : ℕ) (begins : Bool) (at : ElementNumbers) → Within all fs bs to ends → Stated all name at own →
     Comes all
     (of_states (made.preparation s (flags_of (flags.weak_around fs) own x) regions own to fork begins ∷ []) (Some at.state ∷ []))
     (origin.preparation own bs ends at)

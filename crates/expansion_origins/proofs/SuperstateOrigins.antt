@@ -8,7 +8,7 @@ use Rattle.core_charts.specs.declared.region.State.{State}
 use Rattle.core_charts.specs.Tests.{is_join, strong_aborts, terminations, weak_aborts}
 use Rattle.core_charts.specs.Aborts.{has_aborts, has_strong, has_weak}
 use Rattle.chart_elements.specs.declared.element.Element.TheVariants as element
-use Rattle.chart_elements.specs.declared.numbers.Numbers.{Numbers}
+use Rattle.chart_elements.specs.declared.numbers.ElementNumbers.{ElementNumbers}
 use Rattle.chart_elements.specs.Numbers.{behind_transition}
 use Rattle.chart_elements.specs.Elements.{Contents}
 use Rattle.abort_expansion.specs.declared.flags.Flags.{Flags}
@@ -51,7 +51,7 @@ counts_joins true true weak h = refl
 counts_joins false true weak h = refl
 counts_joins join false weak h = absurd cc
 
-monitor_moves : (all : Contents) (fs : List Flags) (bs : List Around) (weak : Bool) (x : ℕ) (own : List Transition) (at : Numbers) →
+monitor_moves : (all : Contents) (fs : List Flags) (bs : List Around) (weak : Bool) (x : ℕ) (own : List Transition) (at : ElementNumbers) →
     has_aborts own ≡ true → Encloses all fs bs → Owned all at own →
     Comes all (moves (made.monitor_transitions fs (flags_of weak own x) own)) (origin.monitor_transitions own bs at)
 monitor_moves all fs bs weak x own at some h owned =
@@ -83,7 +83,7 @@ monitor_moves all fs bs weak x own at some h owned =
 abbrev pub monitor_stands : Bool → List (Option ℕ)
 monitor_stands b = if b then None ∷ None ∷ [] else []
 
-pub monitor_comes : (all : Contents) (fs : List Flags) (bs : List Around) (weak : Bool) (s x : ℕ) (own : List Transition) (at : Numbers) →
+pub monitor_comes : (all : Contents) (fs : List Flags) (bs : List Around) (weak : Bool) (s x : ℕ) (own : List Transition) (at : ElementNumbers) →
     Encloses all fs bs → Owned all at own →
     Comes all (of_regions (made.watched (has_aborts own) (made.monitor s fs (flags_of weak own x) own)) (monitor_stands (has_aborts own)))
     (origin.monitor (first_abort (around_of own at.transition)) own bs at)
@@ -122,7 +122,7 @@ monitor_comes all fs bs weak s x own at h owned =
 abbrev pub IsCounted : List Flags → Option ℕ → List Transition → Type 0
 IsCounted fs counter own = flags.weak_around fs ≡ true → has_join own ≡ true → is_there counter ≡ true
 
-joined_comes : (all : Contents) (to : RegionPlaces) (ends : Ends) (counter : Option ℕ) (t : Transition) (own : List Transition) (at : Numbers) →
+joined_comes : (all : Contents) (to : RegionPlaces) (ends : Ends) (counter : Option ℕ) (t : Transition) (own : List Transition) (at : ElementNumbers) →
     EndAlike to ends → Owned all at (t ∷ own) → at.state < length all.states → is_there counter ≡ true →
     Comes all (moves (made.joined_or_left to counter t)) (beside (taken ends t at) (origin.transition (element.State at.state) []))
 joined_comes all to ends None t own at alike owned small h = absurd cc
@@ -132,13 +132,14 @@ joined_comes all to ends (Some x) t own at alike owned small h =
     (taken_comes all to ends (led_by to (Some (is_number x 0)) t) t at alike refl owned.transitions.0 (owned_effects all at t own owned))
     (move_comes all (go true None [] to.left) at.state refl small)
 
-plain_comes : (all : Contents) (to : RegionPlaces) (ends : Ends) (t : Transition) (own : List Transition) (at : Numbers) → EndAlike to ends →
+plain_comes : (all : Contents) (to : RegionPlaces) (ends : Ends) (t : Transition) (own : List Transition) (at : ElementNumbers) → EndAlike to ends →
     Owned all at (t ∷ own) → Comes all (moves (led_by to None t ∷ [])) (beside (taken ends t at) nothing)
 plain_comes all to ends t own at alike owned =
     both_come all (moves (led_by to None t ∷ [])) none (taken ends t at) nothing
     (taken_comes all to ends (led_by to None t) t at alike refl owned.transitions.0 (owned_effects all at t own owned)) (none_comes all)
 
-closing_comes : (all : Contents) (fs : List Flags) (bs : List Around) (to : RegionPlaces) (ends : Ends) (f : Flags) (own : List Transition) (at : Numbers) →
+closing_comes : (all : Contents) (fs : List Flags) (bs : List Around) (to : RegionPlaces) (ends : Ends) (f : Flags) (own : List Transition)
+    (at : ElementNumbers) →
     Within all fs bs to ends → at.state < length all.states → Owned all at own → IsCounted fs f.counter own →
     Comes all (moves (made.closing fs f to (terminations own))) (origin.closing own bs ends at)
 closing_comes all fs bs to ends f [] at h small owned counted = weak_come all true to.left fs bs h.encloses
@@ -170,7 +171,7 @@ counter_given true false false z w j = absurd cc
 counter_given false aborts weak z w j = absurd cc
 
 pub continuation_comes : (all : Contents) (fs : List Flags) (bs : List Around) (to : RegionPlaces) (ends : Ends) (name : List ℕ) (s x : ℕ)
-    (own : List Transition) (at : Numbers) → Within all fs bs to ends → Stated all name at own →
+    (own : List Transition) (at : ElementNumbers) → Within all fs bs to ends → Stated all name at own →
     Comes all (of_states (made.continuation s fs (flags_of (flags.weak_around fs) own x) to own ∷ []) (Some at.state ∷ []))
     (origin.continuation own bs ends at)
 continuation_comes all fs bs to ends name s x own at h t =
@@ -206,7 +207,7 @@ abbrev pub of_inside : Regions → Made
 of_inside m = of_regions m.regions m.stands_for
 
 fork_comes : (all : Contents) (fs : List Flags) (bs : List Around) (weak : Bool) (name : List ℕ) (s x target : ℕ) (own : List Transition)
-    (begins : Bool) (inside : Regions) (within : Origins) (at : Numbers) → Encloses all fs bs → Stated all name at own →
+    (begins : Bool) (inside : Regions) (within : Origins) (at : ElementNumbers) → Encloses all fs bs → Stated all name at own →
     Comes all (of_inside inside) within →
     Comes all
     (of_states (made.fork name begins (inside.regions ++ made.watched (has_aborts own) (made.monitor s fs (flags_of weak own x) own)) target ∷ [])
@@ -228,7 +229,7 @@ fork_comes all fs bs weak name s x target own begins inside within at h t come =
     (monitor_comes all fs bs weak s x own at h t.owned)))))
 
 forked_comes : (all : Contents) (fs : List Flags) (bs : List Around) (to : RegionPlaces) (ends : Ends) (name : List ℕ) (x place : ℕ)
-    (own : List Transition) (begins : Bool) (inside : Regions) (within : Origins) (at : Numbers) (before : old.NextNumbers) →
+    (own : List Transition) (begins : Bool) (inside : Regions) (within : Origins) (at : ElementNumbers) (before : old.NextNumbers) →
     before.state ≡ at.state → Within all fs bs to ends → Stated all name at own → Comes all (of_inside inside) within →
     Comes all (of_those (made.forked name own fs (flags_of (flags.weak_around fs) own x) inside to place begins before))
     (origin.forked own bs ends within at)
@@ -251,7 +252,7 @@ forked_comes all fs bs to ends name x place own begins inside within at before s
     (continuation_comes all fs bs to ends name s x own at h t)))
 
 as_it_is_comes : (all : Contents) (to : RegionPlaces) (ends : Ends) (name : List ℕ) (own : List Transition) (begins : Bool) (inside : Regions)
-    (within : Origins) (at : Numbers) (before : old.NextNumbers) → before.state ≡ at.state → EndAlike to ends → Stated all name at own →
+    (within : Origins) (at : ElementNumbers) (before : old.NextNumbers) → before.state ≡ at.state → EndAlike to ends → Stated all name at own →
     Comes all (of_inside inside) within →
     Comes all (of_those (made.as_it_is name own inside to begins before)) (origin.as_it_is own ends within at)
 as_it_is_comes all to ends name own begins inside within at before same alike t come =
@@ -265,7 +266,7 @@ as_it_is_comes all to ends name own begins inside within at before same alike t 
     (both_come all (moves (map (led to) own)) (of_inside inside) mine within (led_come all to ends own at alike t.owned) come)))
 
 split_comes : (all : Contents) (fs : List Flags) (bs : List Around) (to : RegionPlaces) (ends : Ends) (name : List ℕ) (regions x place : ℕ)
-    (own : List Transition) (begins : Bool) (inside : Regions) (within : Origins) (at : Numbers) (before : old.NextNumbers) →
+    (own : List Transition) (begins : Bool) (inside : Regions) (within : Origins) (at : ElementNumbers) (before : old.NextNumbers) →
     before.state ≡ at.state → Within all fs bs to ends → Stated all name at own → Comes all (of_inside inside) within →
     Comes all (of_those (made.split name regions own fs (flags_of (flags.weak_around fs) own x) inside to place begins before))
     (origin.split own bs ends within at)
@@ -296,7 +297,7 @@ split_comes all fs bs to ends name regions x place own begins inside within at b
     over false true e = absurd cc
 
 pub superstate_comes : (all : Contents) (fs : List Flags) (bs : List Around) (to : RegionPlaces) (ends : Ends) (name : List ℕ) (regions x place : ℕ)
-    (own : List Transition) (begins : Bool) (inside : Regions) (within : Origins) (at : Numbers) (before : old.NextNumbers) →
+    (own : List Transition) (begins : Bool) (inside : Regions) (within : Origins) (at : ElementNumbers) (before : old.NextNumbers) →
     before.state ≡ at.state → Within all fs bs to ends → Stated all name at own → Comes all (of_inside inside) within →
     Comes all (of_those (made.superstate_over name regions own fs (flags_of (flags.weak_around fs) own x) inside to place begins before))
     (origin.superstate_over own bs ends within at)

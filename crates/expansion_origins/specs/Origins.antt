@@ -15,7 +15,7 @@ use Rattle.core_charts.specs.Tests.{is_strong, is_weak, is_join}
 use Rattle.core_charts.specs.Aborts.{has_strong, has_weak, has_aborts}
 use Rattle.chart_elements.specs.declared.element.Element.{Element}
 use Rattle.chart_elements.specs.declared.element.Element.TheVariants as element
-use Rattle.chart_elements.specs.declared.numbers.Numbers.{Numbers}
+use Rattle.chart_elements.specs.declared.numbers.ElementNumbers.{ElementNumbers}
 use Rattle.chart_elements.specs.Numbers.{behind_all, behind_transition, effects, first, within_region, within_state}
 use Rattle.abort_expansion.specs.Flags.{counts, is_there}
 use Rattle.expansion_origins.specs.declared.origins.Origins.{Origins}
@@ -91,13 +91,13 @@ abbrev pub counted : Ends → (target : ℕ) → Element → List Element
 counted to target from = if to.counts && unwrap_or (slice_get to.finals target) false then from ∷ [] else []
 
 -- what does as a transition of the text does
-abbrev pub taken : Ends → Transition → Numbers → Origins
+abbrev pub taken : Ends → Transition → ElementNumbers → Origins
 taken to t at =
     transition (element.Transition at.transition)
     (effects t.effects at.effect ++ counted to t.target (element.Transition at.transition))
 
 -- what raises the flag of an abort
-abbrev pub raised : Numbers → Origins
+abbrev pub raised : ElementNumbers → Origins
 raised at = transition (element.Transition at.transition) (element.Transition at.transition ∷ [])
 
 abbrev pub is_chosen : Choice → Transition → Bool
@@ -106,18 +106,18 @@ is_chosen choice.AtEntry t = is_strong t.kind && t.immediate
 is_chosen (choice.Of s) t = is_of s t.kind
 
 -- what is made of the chosen ones
-abbrev pub chosen : Choice → (Transition → Numbers → Origins) → List Transition → Numbers → Origins
+abbrev pub chosen : Choice → (Transition → ElementNumbers → Origins) → List Transition → ElementNumbers → Origins
 chosen c made [] at = nothing
 chosen c made (t ∷ own) at =
     beside (if is_chosen c t then made t at else nothing) (chosen c made own (behind_transition t at))
 
 -- ---- simple states
 
-abbrev pub simple_transitions : List Transition → List Around → Ends → Numbers → Origins
+abbrev pub simple_transitions : List Transition → List Around → Ends → ElementNumbers → Origins
 simple_transitions own around to at =
     beside (strong_checks around) (beside (chosen choice.All (taken to) own at) (weak_checks around))
 
-abbrev pub simple : Bool → List Transition → List Around → Ends → Numbers → Origins
+abbrev pub simple : Bool → List Transition → List Around → Ends → ElementNumbers → Origins
 simple true own around to at = state (element.State at.state)
 simple false own around to at = beside (state (element.State at.state)) (simple_transitions own around to at)
 
@@ -134,7 +134,7 @@ resets own around from =
     once (has_strong own) from ++ once (has_weak own) from ++ once (counts (weak_around around) own) from
 
 -- the preparation state: the aborts at entry, and the transition that sets the flags and the counter
-abbrev pub preparation : List Transition → List Around → Ends → Numbers → Origins
+abbrev pub preparation : List Transition → List Around → Ends → ElementNumbers → Origins
 preparation own around to at =
     beside (state (element.State at.state))
     (beside (chosen choice.AtEntry (taken to) own at)
@@ -145,7 +145,7 @@ abbrev pub first_abort : Around → Option ℕ
 first_abort a = if is_there a.strong then a.strong else a.weak
 
 -- in the monitor, of which all transitions lead to its end
-abbrev pub monitor_transitions : List Transition → List Around → Numbers → Origins
+abbrev pub monitor_transitions : List Transition → List Around → ElementNumbers → Origins
 monitor_transitions own around at =
     beside (strong_checks around)
     (beside (chosen (choice.Of sort.Strong) (λ t. raised) own at)
@@ -153,7 +153,7 @@ monitor_transitions own around at =
     (beside (check (first_of sort.Join own at.transition)) (weak_checks around))))
 
 -- the monitor, where there is an abort: a region of two states
-abbrev pub monitor : Option ℕ → List Transition → List Around → Numbers → Origins
+abbrev pub monitor : Option ℕ → List Transition → List Around → ElementNumbers → Origins
 monitor None own around at = nothing
 monitor (Some n) own around at =
     beside (region (element.Transition n))
@@ -162,14 +162,14 @@ monitor (Some n) own around at =
 
 -- what the continuation state does where no flag is raised: by the termination, and where weak aborts enclose the
 -- superstate it is left
-abbrev pub closing : List Transition → List Around → Ends → Numbers → Origins
+abbrev pub closing : List Transition → List Around → Ends → ElementNumbers → Origins
 closing [] around to at = weak_checks around
 closing (t ∷ own) around to at =
     if is_join t.kind
     then beside (taken to t at) (if weak_around around then transition (element.State at.state) [] else nothing)
     else closing own around to (behind_transition t at)
 
-abbrev pub continuation : List Transition → List Around → Ends → Numbers → Origins
+abbrev pub continuation : List Transition → List Around → Ends → ElementNumbers → Origins
 continuation own around to at =
     beside (state (element.State at.state))
     (beside (strong_checks around)
@@ -178,26 +178,26 @@ continuation own around to at =
     (closing own around to at))))
 
 -- the fork, with what is inside it and the monitor
-abbrev pub fork : List Transition → List Around → Origins → Numbers → Origins
+abbrev pub fork : List Transition → List Around → Origins → ElementNumbers → Origins
 fork own around inside at =
     beside (state (element.State at.state))
     (beside (transition (element.State at.state) [])
     (beside inside (monitor (first_abort (around_of own at.transition)) own around at)))
 
-abbrev pub forked : List Transition → List Around → Ends → Origins → Numbers → Origins
+abbrev pub forked : List Transition → List Around → Ends → Origins → ElementNumbers → Origins
 forked own around to inside at = beside (fork own around inside at) (continuation own around to at)
 
-abbrev pub as_it_is : List Transition → Ends → Origins → Numbers → Origins
+abbrev pub as_it_is : List Transition → Ends → Origins → ElementNumbers → Origins
 as_it_is own to inside at =
     beside (state (element.State at.state)) (beside (chosen choice.All (taken to) own at) inside)
 
-abbrev pub split : List Transition → List Around → Ends → Origins → Numbers → Origins
+abbrev pub split : List Transition → List Around → Ends → Origins → ElementNumbers → Origins
 split own around to inside at =
     beside (if has_aborts own || counts (weak_around around) own then preparation own around to at else nothing)
     (forked own around to inside at)
 
 -- a superstate with these transitions, over what is inside it
-abbrev pub superstate_over : List Transition → List Around → Ends → Origins → Numbers → Origins
+abbrev pub superstate_over : List Transition → List Around → Ends → Origins → ElementNumbers → Origins
 superstate_over own around to inside at =
     if has_aborts own || aborts_around around then split own around to inside at else as_it_is own to inside at
 
@@ -205,30 +205,30 @@ superstate_over own around to inside at =
 
 -- the numbers that come next behind it, and what becomes of it: of a region by what encloses it and whether it is counted
 pub record RegionPiece : Type 0 where
-  pub behind : Numbers → Numbers
-  pub origins : (around : List Around) → (counts : Bool) → Numbers → Origins
+  pub behind : ElementNumbers → ElementNumbers
+  pub origins : (around : List Around) → (counts : Bool) → ElementNumbers → Origins
 
 pub record StatePiece : Type 0 where
   pub is_initial : Bool
   pub is_final : Bool
-  pub behind : Numbers → Numbers
-  pub origins : (around : List Around) → Ends → Numbers → Origins
+  pub behind : ElementNumbers → ElementNumbers
+  pub origins : (around : List Around) → Ends → ElementNumbers → Origins
 
-abbrev pub behind_regions : List RegionPiece → Numbers → Numbers
+abbrev pub behind_regions : List RegionPiece → ElementNumbers → ElementNumbers
 behind_regions regions at = behind_all (map (λ r. r.behind) regions) at
 
-abbrev pub all_regions : List RegionPiece → List Around → Bool → Numbers → Origins
+abbrev pub all_regions : List RegionPiece → List Around → Bool → ElementNumbers → Origins
 all_regions [] around counted at = nothing
 all_regions (r ∷ regions) around counted at =
     beside (r.origins around counted at) (all_regions regions around counted (r.behind at))
 
-abbrev pub superstate : List RegionPiece → List Transition → List Around → Ends → Numbers → Origins
+abbrev pub superstate : List RegionPiece → List Transition → List Around → Ends → ElementNumbers → Origins
 superstate regions own around to at =
     superstate_over own around to
     (all_regions regions (around ++ around_of own at.transition ∷ []) (counts (weak_around around) own)
     (within_state own at)) at
 
-abbrev pub state_origins : Bool → List RegionPiece → List Transition → List Around → Ends → Numbers → Origins
+abbrev pub state_origins : Bool → List RegionPiece → List Transition → List Around → Ends → ElementNumbers → Origins
 state_origins is_final [] own = simple is_final own
 state_origins is_final (r ∷ regions) own = superstate (r ∷ regions) own
 
@@ -241,10 +241,10 @@ state_piece s =
       origins = state_origins s.is_final s.regions s.transitions;
     }
 
-abbrev pub behind_states : List StatePiece → Numbers → Numbers
+abbrev pub behind_states : List StatePiece → ElementNumbers → ElementNumbers
 behind_states states at = behind_all (map (λ s. s.behind) states) at
 
-abbrev pub all_states : List StatePiece → List Around → Ends → Numbers → Origins
+abbrev pub all_states : List StatePiece → List Around → Ends → ElementNumbers → Origins
 all_states [] around to at = nothing
 all_states (s ∷ states) around to at = beside (s.origins around to at) (all_states states around to (s.behind at))
 
@@ -252,7 +252,7 @@ all_states (s ∷ states) around to at = beside (s.origins around to at) (all_st
 abbrev pub begins_anew : Bool → List StatePiece → Bool
 begins_anew counts states = counts && list_any (λ s. s.is_initial && s.is_final) states
 
-abbrev pub initial_number : List StatePiece → Numbers → ℕ
+abbrev pub initial_number : List StatePiece → ElementNumbers → ℕ
 initial_number [] at = at.state
 initial_number (s ∷ states) at = if s.is_initial then at.state else initial_number states (s.behind at)
 
@@ -270,14 +270,14 @@ abbrev pub ends_of : List StatePiece → Bool → Ends
 ends_of states counts = record { finals = map (λ s. s.is_final) states; counts = counts }
 
 -- all states of a region, which is this element
-abbrev pub inside_region : List StatePiece → List Around → Bool → (region : Element) → Numbers → Origins
+abbrev pub inside_region : List StatePiece → List Around → Bool → (region : Element) → ElementNumbers → Origins
 inside_region states around counts region at =
     beside (new_initial (begins_anew counts states) (element.State (initial_number states at)))
     (beside (all_states states around (ends_of states counts) at)
     (left_behind (aborts_around around) region))
 
 -- a region of these states
-abbrev pub region_over : List StatePiece → List Around → Bool → Numbers → Origins
+abbrev pub region_over : List StatePiece → List Around → Bool → ElementNumbers → Origins
 region_over states around counts at =
     beside (region (element.Region at.region))
     (inside_region states around counts (element.Region at.region) (within_region at))

@@ -3,12 +3,12 @@
 ghost use Rattle.std.specs.Prelude.{◌≡◌, IfOk, map};
 ghost use Rattle.expansion_origins.specs.Origins.{initial_number, piece_of_region, piece_of_state};
 
-use chart_elements::Numbers;
+use chart_elements::ElementNumbers;
 use core_charts::{Region, State};
 use std::alloc::AllocError;
 
 #[cycle(numbering)]
-fn behind_region(region: &Region, at: Numbers) -> Result<Numbers, AllocError>
+fn behind_region(region: &Region, at: ElementNumbers) -> Result<ElementNumbers, AllocError>
     ensures { IfOk result (λ behind. behind ≡ (piece_of_region region.now).behind at) }
 {
     let mut here = at.within_region()?;
@@ -19,7 +19,7 @@ fn behind_region(region: &Region, at: Numbers) -> Result<Numbers, AllocError>
 }
 
 #[cycle(numbering)]
-fn behind_state(state: &State, at: Numbers) -> Result<Numbers, AllocError>
+fn behind_state(state: &State, at: ElementNumbers) -> Result<ElementNumbers, AllocError>
     ensures { IfOk result (λ behind. behind ≡ (piece_of_state state.now).behind at) }
 {
     let mut here = at.within_state(state.transitions.as_slice())?;
@@ -31,7 +31,7 @@ fn behind_state(state: &State, at: Numbers) -> Result<Numbers, AllocError>
 
 /// The number of the initial state, where the first state is at these numbers. Err: no memory holds a chart with so
 /// many.
-pub(crate) fn initial_number(states: &[State], at: Numbers) -> Result<u32, AllocError>
+pub(crate) fn initial_number(states: &[State], at: ElementNumbers) -> Result<u32, AllocError>
     ensures { IfOk result (λ number. number ≡ initial_number (map piece_of_state states.now) at) }
 {
     let mut here = at;

@@ -15,7 +15,7 @@ use crate::origins::Origins;
 use crate::states::put_simple;
 use crate::superstates::{put_ending, put_opening};
 use crate::transitions::{Choice, Ends, put_chosen};
-use chart_elements::{Element, Numbers};
+use chart_elements::{Element, ElementNumbers};
 use core_charts::{Chart, Region, State, Transition, has_aborts};
 use sqlite_items::Items;
 use std::alloc::{AllocError, Global};
@@ -30,7 +30,7 @@ pub fn expansion_origins(alloc: Global, chart: &Chart) -> Result<Origins, AllocE
         chart.regions(),
         &[],
         false,
-        Numbers::first(),
+        ElementNumbers::first(),
         &mut origins,
     )?;
     Ok(origins)
@@ -44,9 +44,9 @@ fn put_regions(
     regions: &[Region],
     around: &[Around],
     counted: bool,
-    at: Numbers,
+    at: ElementNumbers,
     origins: &mut Origins,
-) -> Result<Numbers, AllocError>
+) -> Result<ElementNumbers, AllocError>
     ensures origins { IfOk result (λ _. origins.new
         ≡ beside origins.old (all_regions (map piece_of_region regions.now) around.now counted at)) }
     ensures behind { IfOk result (λ behind. behind ≡ behind_regions (map piece_of_region regions.now) at) }
@@ -65,9 +65,9 @@ fn put_region(
     region: &Region,
     around: &[Around],
     counted: bool,
-    at: Numbers,
+    at: ElementNumbers,
     origins: &mut Origins,
-) -> Result<Numbers, AllocError>
+) -> Result<ElementNumbers, AllocError>
     ensures origins { IfOk result (λ _. origins.new
         ≡ beside origins.old ((piece_of_region region.now).origins around.now counted at)) }
     ensures behind { IfOk result (λ behind. behind ≡ (piece_of_region region.now).behind at) }
@@ -89,9 +89,9 @@ fn put_region_over(
     states: &[State],
     around: &[Around],
     counted: bool,
-    at: Numbers,
+    at: ElementNumbers,
     origins: &mut Origins,
-) -> Result<Numbers, AllocError>
+) -> Result<ElementNumbers, AllocError>
     ensures origins { IfOk result (λ _. origins.new ≡ beside origins.old
         (region_over (map piece_of_state states.now) around.now counted at)) }
     ensures behind { IfOk result (λ behind. behind
@@ -119,9 +119,9 @@ fn put_inside_region(
     around: &[Around],
     counted: bool,
     region: Element,
-    at: Numbers,
+    at: ElementNumbers,
     origins: &mut Origins,
-) -> Result<Numbers, AllocError>
+) -> Result<ElementNumbers, AllocError>
     ensures origins { IfOk result (λ _. origins.new ≡ beside origins.old
         (inside_region (map piece_of_state states.now) around.now counted region at)) }
     ensures behind { IfOk result (λ behind. behind ≡ behind_states (map piece_of_state states.now) at) }
@@ -140,9 +140,9 @@ fn put_states(
     states: &[State],
     around: &[Around],
     to: &Ends,
-    at: Numbers,
+    at: ElementNumbers,
     origins: &mut Origins,
-) -> Result<Numbers, AllocError>
+) -> Result<ElementNumbers, AllocError>
     ensures origins { IfOk result (λ _. origins.new
         ≡ beside origins.old (all_states (map piece_of_state states.now) around.now to.now at)) }
     ensures behind { IfOk result (λ behind. behind ≡ behind_states (map piece_of_state states.now) at) }
@@ -160,9 +160,9 @@ fn put_state(
     state: &State,
     around: &[Around],
     to: &Ends,
-    at: Numbers,
+    at: ElementNumbers,
     origins: &mut Origins,
-) -> Result<Numbers, AllocError>
+) -> Result<ElementNumbers, AllocError>
     ensures origins { IfOk result (λ _. origins.new
         ≡ beside origins.old ((piece_of_state state.now).origins around.now to.now at)) }
     ensures behind { IfOk result (λ behind. behind ≡ (piece_of_state state.now).behind at) }
@@ -191,9 +191,9 @@ fn put_superstate(
     own: &[Transition],
     around: &[Around],
     to: &Ends,
-    at: Numbers,
+    at: ElementNumbers,
     origins: &mut Origins,
-) -> Result<Numbers, AllocError>
+) -> Result<ElementNumbers, AllocError>
     ensures origins { IfOk result (λ _. origins.new ≡ beside origins.old
         (superstate (map piece_of_region regions.now) own.now around.now to.now at)) }
     ensures behind { IfOk result (λ behind. behind
@@ -217,9 +217,9 @@ fn put_inside(
     regions: &[Region],
     own: &[Transition],
     around: &[Around],
-    at: Numbers,
+    at: ElementNumbers,
     origins: &mut Origins,
-) -> Result<Numbers, AllocError>
+) -> Result<ElementNumbers, AllocError>
     ensures origins { IfOk result (λ _. origins.new ≡ beside origins.old
         (all_regions (map piece_of_region regions.now) (around.now ++ around_of own.now at.transition ∷ [])
         (counts (weak_around around.now) own.now) (within_state own.now at))) }
@@ -270,7 +270,7 @@ fn begins_anew(counts: bool, states: &[State]) -> bool
 fn put_new_initial(
     counted: bool,
     states: &[State],
-    at: Numbers,
+    at: ElementNumbers,
     origins: &mut Origins,
 ) -> Result<(), AllocError>
     ensures { IfOk result (λ _. origins.new ≡ beside origins.old

@@ -10,7 +10,7 @@ use crate::transitions::{
     Choice, Ends, put_all_raised, put_check, put_chosen, put_strong_checks, put_taken,
     put_weak_checks,
 };
-use chart_elements::{Element, Numbers};
+use chart_elements::{Element, ElementNumbers};
 use core_charts::{Transition, has_strong, has_weak};
 use sqlite_items::Items;
 use std::alloc::AllocError;
@@ -22,7 +22,7 @@ pub(crate) fn put_simple(
     own: &[Transition],
     around: &[Around],
     to: &Ends,
-    at: Numbers,
+    at: ElementNumbers,
     origins: &mut Origins,
 ) -> Result<(), AllocError>
     ensures { IfOk result (λ _. origins.new ≡ beside origins.old (simple is_final own.now around.now to.now at)) }
@@ -65,7 +65,7 @@ pub(crate) fn put_preparation(
     own: &[Transition],
     around: &[Around],
     to: &Ends,
-    at: Numbers,
+    at: ElementNumbers,
     origins: &mut Origins,
 ) -> Result<(), AllocError>
     ensures { IfOk result (λ _. origins.new ≡ beside origins.old (preparation own.now around.now to.now at)) }
@@ -81,7 +81,7 @@ pub(crate) fn put_preparation(
 fn put_monitor_transitions(
     own: &[Transition],
     around: &[Around],
-    at: Numbers,
+    at: ElementNumbers,
     origins: &mut Origins,
 ) -> Result<(), AllocError>
     ensures { IfOk result (λ _. origins.new ≡ beside origins.old (monitor_transitions own.now around.now at)) }
@@ -98,7 +98,7 @@ pub(crate) fn put_monitor(
     first: Option<u32>,
     own: &[Transition],
     around: &[Around],
-    at: Numbers,
+    at: ElementNumbers,
     origins: &mut Origins,
 ) -> Result<(), AllocError>
     ensures { IfOk result (λ _. origins.new ≡ beside origins.old (monitor first own.now around.now at)) }
@@ -118,7 +118,7 @@ fn put_closing(
     own: &[Transition],
     around: &[Around],
     to: &Ends,
-    at: Numbers,
+    at: ElementNumbers,
     origins: &mut Origins,
 ) -> Result<(), AllocError>
     ensures { IfOk result (λ _. origins.new ≡ beside origins.old (closing own.now around.now to.now at)) }
@@ -142,7 +142,7 @@ pub(crate) fn put_continuation(
     own: &[Transition],
     around: &[Around],
     to: &Ends,
-    at: Numbers,
+    at: ElementNumbers,
     origins: &mut Origins,
 ) -> Result<(), AllocError>
     ensures { IfOk result (λ _. origins.new ≡ beside origins.old (continuation own.now around.now to.now at)) }

@@ -11,7 +11,7 @@ use crate::around::{Around, counts, weak_around};
 use crate::origins::Origins;
 use crate::states::{put_continuation, put_monitor, put_preparation};
 use crate::transitions::Ends;
-use chart_elements::{Element, Numbers};
+use chart_elements::{Element, ElementNumbers};
 use core_charts::{Transition, has_aborts};
 use std::alloc::AllocError;
 
@@ -20,7 +20,7 @@ pub(crate) fn put_opening(
     own: &[Transition],
     around: &[Around],
     to: &Ends,
-    at: Numbers,
+    at: ElementNumbers,
     origins: &mut Origins,
 ) -> Result<(), AllocError>
     ensures { IfOk result (λ _. origins.new ≡ beside origins.old
@@ -40,7 +40,7 @@ pub(crate) fn put_ending(
     own: &[Transition],
     around: &[Around],
     to: &Ends,
-    at: Numbers,
+    at: ElementNumbers,
     origins: &mut Origins,
 ) -> Result<(), AllocError>
     ensures { IfOk result (λ _. origins.new ≡ beside origins.old

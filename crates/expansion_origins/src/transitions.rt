@@ -7,7 +7,7 @@ ghost use Rattle.expansion_origins.specs.declared.transitions.Choice.TheVariants
 
 use crate::around::{Around, Sort};
 use crate::origins::Origins;
-use chart_elements::{Element, Numbers, put_effects};
+use chart_elements::{Element, ElementNumbers, put_effects};
 use core_charts::Transition;
 use sqlite_items::Items;
 use std::alloc::AllocError;
@@ -85,7 +85,7 @@ pub(crate) fn put_weak_checks(around: &[Around], origins: &mut Origins) -> Resul
 pub(crate) fn put_taken(
     to: &Ends,
     transition: &Transition,
-    at: Numbers,
+    at: ElementNumbers,
     origins: &mut Origins,
 ) -> Result<(), AllocError>
     ensures { IfOk result (λ _. origins.new ≡ beside origins.old (taken to.now transition.now at)) }
@@ -107,7 +107,7 @@ pub(crate) fn put_chosen(
     choice: Choice,
     to: &Ends,
     own: &[Transition],
-    at: Numbers,
+    at: ElementNumbers,
     origins: &mut Origins,
 ) -> Result<(), AllocError>
     ensures { IfOk result (λ _. origins.new ≡ beside origins.old (chosen choice (taken to.now) own.now at)) }
@@ -123,7 +123,7 @@ pub(crate) fn put_chosen(
 }
 
 // Puts those of what raises the flag of an abort behind the others.
-fn put_raised(at: Numbers, origins: &mut Origins) -> Result<(), AllocError>
+fn put_raised(at: ElementNumbers, origins: &mut Origins) -> Result<(), AllocError>
     ensures { IfOk result (λ _. origins.new ≡ beside origins.old (raised at)) }
 {
     origins.put_transition(Element::Transition(at.transition))?;
@@ -134,7 +134,7 @@ fn put_raised(at: Numbers, origins: &mut Origins) -> Result<(), AllocError>
 pub(crate) fn put_all_raised(
     sort: Sort,
     own: &[Transition],
-    at: Numbers,
+    at: ElementNumbers,
     origins: &mut Origins,
 ) -> Result<(), AllocError>
     ensures { IfOk result (λ _. origins.new ≡ beside origins.old (chosen (choice.Of sort) (λ t. raised) own.now at)) }

@@ -14,7 +14,7 @@ use Rattle.chart_lowering.specs.Lowering as low
 use Rattle.graph_origins.specs.Points.{Assigns, Jumps, Marks, Pauses}
 use Rattle.chart_elements.specs.declared.element.Element.{Element}
 use Rattle.chart_elements.specs.declared.element.Element.TheVariants as element
-use Rattle.chart_elements.specs.declared.numbers.Numbers.{Numbers}
+use Rattle.chart_elements.specs.declared.numbers.ElementNumbers.{ElementNumbers}
 use Rattle.chart_elements.specs.Numbers.{behind_transition, effects}
 use Rattle.chart_elements.specs.Elements.{Contents, all_effects}
 use Rattle.lowering_origins.specs.Origins.{Origins, behind_fork, depth, final, simple, taken, tested, transitions}
@@ -33,11 +33,11 @@ effects_from all t k there name (e ∷ own) m h =
     (map assignment own ++ statement.Goto name ∷ [])
     (assign_points e.variable e.value) h.0 (effects_from all t k there name own (suc m) h.1)
 
-pub taken_from : (all : Contents) (to : Targets) (t : Transition) (at : Numbers) → slice_get all.transitions at.transition ≡ Some t →
+pub taken_from : (all : Contents) (to : Targets) (t : Transition) (at : ElementNumbers) → slice_get all.transitions at.transition ≡ Some t →
     At (all_effects all.transitions) at.effect t.effects → AllFrom all (taken t at) (points_in (low.taken to t))
 taken_from all to t at there h = effects_from all t at.transition there (label_at to t.target) t.effects at.effect h
 
-tested_from : (all : Contents) (to : Targets) (t : Transition) (at : Numbers) → slice_get all.transitions at.transition ≡ Some t →
+tested_from : (all : Contents) (to : Targets) (t : Transition) (at : ElementNumbers) → slice_get all.transitions at.transition ≡ Some t →
     At (all_effects all.transitions) at.effect t.effects → (o : Option Expr) → t.trigger ≡ o → (rest : Origins) (others : List Statement) →
     AllFrom all rest (points_in others) →
     AllFrom all (tested o at.transition (taken t at) rest) (points_in (low.tested o (low.taken to t) others))
@@ -51,7 +51,7 @@ tested_from all to t at there h (Some e) is rest others later =
     )
 
 -- all transitions of a state
-pub transitions_from : (all : Contents) (to : Targets) (own : List Transition) (at : Numbers) →
+pub transitions_from : (all : Contents) (to : Targets) (own : List Transition) (at : ElementNumbers) →
     Owned all at own → (rest : Origins) (others : List Statement) → AllFrom all rest (points_in others) →
     AllFrom all (transitions false own at rest) (points_in (low.transitions to own others))
 transitions_from all to [] at h rest others later = later
@@ -61,7 +61,7 @@ transitions_from all to (t ∷ own) at h rest others later =
     (transitions_from all to own (behind_transition t at) (owned_others all at t own h) rest others later)
 
 -- the immediate ones
-pub surface_from : (all : Contents) (to : Targets) (own : List Transition) (at : Numbers) →
+pub surface_from : (all : Contents) (to : Targets) (own : List Transition) (at : ElementNumbers) →
     Owned all at own → (rest : Origins) (others : List Statement) → AllFrom all rest (points_in others) →
     AllFrom all (transitions true own at rest) (points_in (low.transitions to (at_once own) others))
 surface_from all to [] at h rest others later = later
@@ -78,7 +78,7 @@ surface_from all to (t ∷ own) at h rest others later =
         (low.transitions to (at_once own) others) further
     by false further = further
 
-pub depth_from : (all : Contents) (to : Targets) (own : List Transition) (at : Numbers) → at.state < length all.states → Owned all at own → (n : ℕ) →
+pub depth_from : (all : Contents) (to : Targets) (own : List Transition) (at : ElementNumbers) → at.state < length all.states → Owned all at own → (n : ℕ) →
     AllFrom all (depth own at) (points_in (low.depth to own n))
 depth_from all to own at small h n =
     let s : Element = element.State at.state in
@@ -89,20 +89,21 @@ depth_from all to own at small h n =
     (transitions_from all to own at h (s ∷ []) (goto n ∷ [])
     (from_first all s (goto n) (Jumps (label_name n)) [] [] (goto_points (label_name n)) small tt)))
 
-pub simple_from : (all : Contents) (to : Targets) (own : List Transition) (at : Numbers) → at.state < length all.states → Owned all at own → (n : ℕ) →
+pub simple_from : (all : Contents) (to : Targets) (own : List Transition) (at : ElementNumbers) → at.state < length all.states → Owned all at own → (n : ℕ) →
     AllFrom all (simple own at) (points_in (low.simple to own n))
 simple_from all to own at small h n =
     from_first all (element.State at.state) (label n) (Marks (label_name n)) (transitions true own at (depth own at))
     (low.transitions to (at_once own) (low.depth to own (suc n))) (label_points (label_name n)) small
     (surface_from all to own at h (depth own at) (low.depth to own (suc n)) (depth_from all to own at small h (suc n)))
 
-pub final_from : (all : Contents) (to : Targets) (at : Numbers) → at.state < length all.states → (n : ℕ) → AllFrom all (final at) (points_in (low.final to n))
+pub final_from : (all : Contents) (to : Targets) (at : ElementNumbers) → at.state < length all.states → (n : ℕ)
+    → AllFrom all (final at) (points_in (low.final to n))
 final_from all to at small n =
     let s : Element = element.State at.state in
     from_first all s (label n) (Marks (label_name n)) (s ∷ []) (statement.Goto to.end ∷ []) (label_points (label_name n)) small
     (from_first all s (statement.Goto to.end) (Jumps to.end) [] [] (goto_points to.end) small tt)
 
-pub behind_from : (all : Contents) (to : Targets) (own : List Transition) (at : Numbers) → at.state < length all.states → Owned all at own → (n : ℕ) →
+pub behind_from : (all : Contents) (to : Targets) (own : List Transition) (at : ElementNumbers) → at.state < length all.states → Owned all at own → (n : ℕ) →
     AllFrom all (behind_fork own at) (points_in (low.behind to (terminations own) n))
 behind_from all to [] at small h n = depth_from all to [] at small h n
 behind_from all to (t ∷ own) at small h n = by (is_join t.kind) (behind_from all to own (behind_transition t at) small (owned_others all at t own h) n)

@@ -22,7 +22,7 @@ use Rattle.chart_lowering.specs.Lowering as low
 use Rattle.graph_origins.specs.Points.{Point, Ends, Marks, in_branches, points_of, text_points}
 use Rattle.chart_elements.specs.declared.element.Element.{Element}
 use Rattle.chart_elements.specs.declared.element.Element.TheVariants as element
-use Rattle.chart_elements.specs.declared.numbers.Numbers.{Numbers}
+use Rattle.chart_elements.specs.declared.numbers.ElementNumbers.{ElementNumbers}
 use Rattle.chart_elements.specs.Numbers.{first, within_region, within_state}
 use Rattle.lowering_origins.specs.Origins.{RegionPiece, StatePiece, behind_fork, behind_regions, behind_states, body_of, branches, piece_of_region}
 use Rattle.lowering_origins.specs.Origins.{piece_of_state, point_origins, region_piece, state_piece, text_of, texts}
@@ -37,13 +37,13 @@ use Rattle.lowering_origins.proofs.Moving.{behind_from, final_from, simple_from}
 
 pub record TellsRegion (r : Region) : Type 0 where
   pub passes : Passes (of_one_region r) (piece_of_region r).behind
-  pub body : (all : Contents) (at : Numbers) → Placed all at (of_one_region r) → (n : ℕ) →
+  pub body : (all : Contents) (at : ElementNumbers) → Placed all at (of_one_region r) → (n : ℕ) →
       AllFrom all ((piece_of_region r).body at) (points_in ((low.piece_of_region r).body n) ++ Ends ∷ [])
 
 pub record TellsState (s : State) : Type 0 where
   pub passes : Passes (of_one_state s) (piece_of_state s).behind
   pub initial : (piece_of_state s).is_initial ≡ (low.piece_of_state s).is_initial
-  pub text : (all : Contents) (at : Numbers) → Placed all at (of_one_state s) → (to : Targets) (n : ℕ) →
+  pub text : (all : Contents) (at : ElementNumbers) → Placed all at (of_one_state s) → (to : Targets) (n : ℕ) →
       AllFrom all ((piece_of_state s).text at) (points_in ((low.piece_of_state s).text to n))
 
 -- ---- states, over the regions inside them
@@ -54,7 +54,7 @@ regions_pass (r ∷ regions) each =
     passes_both (of_one_region r) (in_regions regions) (piece_of_region r).behind (behind_regions (map piece_of_region regions)) each.0.passes
     (regions_pass regions each.1)
 
-branches_tell : (all : Contents) (regions : List Region) → Each TellsRegion regions → (at : Numbers) →
+branches_tell : (all : Contents) (regions : List Region) → Each TellsRegion regions → (at : ElementNumbers) →
     Placed all at (in_regions regions) → (n : ℕ) →
     AllFrom all (branches (map piece_of_region regions) at)
     (in_branches (map (map points_of) (low.branches (map low.piece_of_region regions) n)))
@@ -68,14 +68,14 @@ branches_tell all (r ∷ regions) each at h n =
     (each.0.body all at (placed_first all at (of_one_region r) (in_regions regions) h) n)
     (branches_tell all regions each.1 (p.behind at) (placed_behind all at (of_one_region r) (in_regions regions) p.behind each.0.passes h) (n + q.labels)))
 
-owned_of : (all : Contents) (at : Numbers) (name : List ℕ) (own : List Transition) (rest : Contents) →
+owned_of : (all : Contents) (at : ElementNumbers) (name : List ℕ) (own : List Transition) (rest : Contents) →
     Placed all at (both (state_alone name own) rest) → Owned all at own
 owned_of all at name own rest h =
     let mine : Placed all at (state_alone name own) = placed_first all at (state_alone name own) rest h in
     record { transitions = mine.transitions; effects = mine.effects }
 
 text_tells : (all : Contents) (is_final : Bool) (name : List ℕ) (regions : List Region) (own : List Transition) → Each TellsRegion regions →
-    (at : Numbers) → Placed all at (both (state_alone name own) (in_regions regions)) → (to : Targets) (n : ℕ) →
+    (at : ElementNumbers) → Placed all at (both (state_alone name own) (in_regions regions)) → (to : Targets) (n : ℕ) →
     AllFrom all (text_of is_final (map piece_of_region regions) own at) (points_in (low.text_of is_final (map low.piece_of_region regions) own to n))
 text_tells all true name regions own each at h to n = final_from all to at (below all.states at.state name h.states.0) n
 text_tells all false name [] own each at h to n =
@@ -159,7 +159,7 @@ texts_step : (wanted b : Bool) (labels : ℕ) (text : Targets → ℕ → List S
 texts_step wanted true labels text states to here next = refl
 texts_step wanted false labels text states to here next = refl
 
-texts_tell : (all : Contents) (wanted : Bool) (states : List State) → Each TellsState states → (at : Numbers) →
+texts_tell : (all : Contents) (wanted : Bool) (states : List State) → Each TellsState states → (at : ElementNumbers) →
     Placed all at (in_states states) → (to : Targets) (here next : ℕ) →
     AllFrom all (texts wanted (map piece_of_state states) at)
     (points_in (low.texts wanted to (map low.piece_of_state states) (numbers (map low.piece_of_state states) here next)))
@@ -182,7 +182,7 @@ texts_tell all wanted (s ∷ states) each at h to here next =
     (texts_tell all wanted states each.1 (p.behind at) (placed_behind all at (of_one_state s) (in_states states) p.behind each.0.passes h) to here after)))
 
 -- the body of a region of these states, and its end
-body_tells : (all : Contents) (states : List State) → Each TellsState states → (region : ℕ) (at : Numbers) → region < length all.regions →
+body_tells : (all : Contents) (states : List State) → Each TellsState states → (region : ℕ) (at : ElementNumbers) → region < length all.regions →
     Placed all at (in_states states) → (to : Targets) (here next end : ℕ) →
     AllFrom all (body_of (map piece_of_state states) region at)
     (points_in (low.body to (map low.piece_of_state states) (numbers (map low.piece_of_state states) here next) end) ++ Ends ∷ [])

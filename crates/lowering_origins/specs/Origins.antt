@@ -13,7 +13,7 @@ use Rattle.core_charts.specs.Tests.{is_join}
 use Rattle.chart_lowering.specs.Lowering.{is_wanted}
 use Rattle.chart_elements.specs.declared.element.Element.{Element}
 use Rattle.chart_elements.specs.declared.element.Element.TheVariants as element
-use Rattle.chart_elements.specs.declared.numbers.Numbers.{Numbers}
+use Rattle.chart_elements.specs.declared.numbers.ElementNumbers.{ElementNumbers}
 use Rattle.chart_elements.specs.Numbers.{behind_all, behind_transition, effects, first, within_region, within_state}
 
 abbrev pub Origins : Type 0
@@ -22,7 +22,7 @@ Origins = List Element
 -- ---- transitions
 
 -- its effects, and the goto to its target
-abbrev pub taken : Transition → Numbers → Origins
+abbrev pub taken : Transition → ElementNumbers → Origins
 taken t at = effects t.effects at.effect ++ element.Transition at.transition ∷ []
 
 -- a test, what is done where it holds, and what follows: without a trigger nothing does
@@ -34,7 +34,7 @@ tested None n does rest = does
 abbrev pub is_tested : Bool → Transition → Bool
 is_tested surface t = not surface || t.immediate
 
-abbrev pub transitions : Bool → List Transition → Numbers → Origins → Origins
+abbrev pub transitions : Bool → List Transition → ElementNumbers → Origins → Origins
 transitions surface [] at rest = rest
 transitions surface (t ∷ others) at rest =
     if is_tested surface t
@@ -44,43 +44,43 @@ transitions surface (t ∷ others) at rest =
 -- ---- states
 
 -- the second label, the pause, all transitions, and the goto back
-abbrev pub depth : List Transition → Numbers → Origins
+abbrev pub depth : List Transition → ElementNumbers → Origins
 depth own at = element.State at.state ∷ element.State at.state ∷ transitions false own at (element.State at.state ∷ [])
 
-abbrev pub simple : List Transition → Numbers → Origins
+abbrev pub simple : List Transition → ElementNumbers → Origins
 simple own at = element.State at.state ∷ transitions true own at (depth own at)
 
-abbrev pub final : Numbers → Origins
+abbrev pub final : ElementNumbers → Origins
 final at = element.State at.state ∷ element.State at.state ∷ []
 
 -- behind the fork: the termination; without one the superstate is never left
-abbrev pub behind_fork : List Transition → Numbers → Origins
+abbrev pub behind_fork : List Transition → ElementNumbers → Origins
 behind_fork [] at = depth [] at
 behind_fork (t ∷ others) at = if is_join t.kind then taken t at else behind_fork others (behind_transition t at)
 
 -- a region and a state with all that is in it: the numbers that come next behind it, and its points
 pub record RegionPiece : Type 0 where
-  pub behind : Numbers → Numbers
-  pub body : Numbers → Origins
+  pub behind : ElementNumbers → ElementNumbers
+  pub body : ElementNumbers → Origins
 
 pub record StatePiece : Type 0 where
   pub is_initial : Bool
-  pub behind : Numbers → Numbers
-  pub text : Numbers → Origins
+  pub behind : ElementNumbers → ElementNumbers
+  pub text : ElementNumbers → Origins
 
 -- regions side by side
-abbrev pub behind_regions : List RegionPiece → Numbers → Numbers
+abbrev pub behind_regions : List RegionPiece → ElementNumbers → ElementNumbers
 behind_regions regions at = behind_all (map (λ r. r.behind) regions) at
 
-abbrev pub branches : List RegionPiece → Numbers → Origins
+abbrev pub branches : List RegionPiece → ElementNumbers → Origins
 branches [] at = []
 branches (r ∷ regions) at = r.body at ++ branches regions (r.behind at)
 
-abbrev pub superstate : List RegionPiece → List Transition → Numbers → Origins
+abbrev pub superstate : List RegionPiece → List Transition → ElementNumbers → Origins
 superstate regions own at =
     element.State at.state ∷ element.State at.state ∷ branches regions (within_state own at) ++ behind_fork own at
 
-abbrev pub text_of : Bool → List RegionPiece → List Transition → Numbers → Origins
+abbrev pub text_of : Bool → List RegionPiece → List Transition → ElementNumbers → Origins
 text_of true regions own at = final at
 text_of false [] own at = simple own at
 text_of false (r ∷ regions) own at = superstate (r ∷ regions) own at
@@ -95,17 +95,17 @@ state_piece s =
 
 -- ---- regions
 
-abbrev pub behind_states : List StatePiece → Numbers → Numbers
+abbrev pub behind_states : List StatePiece → ElementNumbers → ElementNumbers
 behind_states states at = behind_all (map (λ s. s.behind) states) at
 
 -- those of the states that are wanted: the initial ones, or the others
-abbrev pub texts : Bool → List StatePiece → Numbers → Origins
+abbrev pub texts : Bool → List StatePiece → ElementNumbers → Origins
 texts are_initial [] at = []
 texts are_initial (s ∷ states) at =
     (if is_wanted are_initial s.is_initial then s.text at else []) ++ texts are_initial states (s.behind at)
 
 -- the initial state, the others in order, and the label and the end of the region of this number
-abbrev pub body_of : List StatePiece → ℕ → Numbers → Origins
+abbrev pub body_of : List StatePiece → ℕ → ElementNumbers → Origins
 body_of states region at =
     texts true states at ++ texts false states at ++ element.Region region ∷ element.Region region ∷ []
 

@@ -4,16 +4,16 @@ ghost use Rattle.std.specs.Prelude.{◌≡◌, IfOk, map};
 ghost use Rattle.chart_elements.specs.Numbers.{first};
 ghost use Rattle.lowering_origins.specs.Origins.{behind_regions, piece_of_region, piece_of_state};
 
-use chart_elements::Numbers;
+use chart_elements::ElementNumbers;
 use core_charts::{Region, State};
 use std::alloc::AllocError;
 
 /// How many elements of each sort these regions have, with all that is in them. Err: no memory holds a chart with so
 /// many.
-pub fn counted(regions: &[Region]) -> Result<Numbers, AllocError>
+pub fn counted(regions: &[Region]) -> Result<ElementNumbers, AllocError>
     ensures { IfOk result (λ numbers. numbers ≡ behind_regions (map piece_of_region regions.now) first) }
 {
-    let mut here = Numbers::first();
+    let mut here = ElementNumbers::first();
     for region in regions {
         here = behind_region(region, here)?;
     }
@@ -21,7 +21,7 @@ pub fn counted(regions: &[Region]) -> Result<Numbers, AllocError>
 }
 
 #[cycle(numbering)]
-fn behind_region(region: &Region, at: Numbers) -> Result<Numbers, AllocError>
+fn behind_region(region: &Region, at: ElementNumbers) -> Result<ElementNumbers, AllocError>
     ensures { IfOk result (λ behind. behind ≡ (piece_of_region region.now).behind at) }
 {
     let mut here = at.within_region()?;
@@ -33,7 +33,7 @@ fn behind_region(region: &Region, at: Numbers) -> Result<Numbers, AllocError>
 
 /// The numbers behind a state with all that is in it. Err: no memory holds a chart with so many.
 #[cycle(numbering)]
-pub(crate) fn behind_state(state: &State, at: Numbers) -> Result<Numbers, AllocError>
+pub(crate) fn behind_state(state: &State, at: ElementNumbers) -> Result<ElementNumbers, AllocError>
     ensures { IfOk result (λ behind. behind ≡ (piece_of_state state.now).behind at) }
 {
     let mut here = at.within_state(state.transitions.as_slice())?;

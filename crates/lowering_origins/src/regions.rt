@@ -6,7 +6,7 @@ ghost use Rattle.lowering_origins.specs.Origins.{piece_of_state, point_origins, 
 
 use crate::behind::behind_state;
 use crate::states::{put_behind_fork, put_final, put_simple};
-use chart_elements::{Element, Numbers};
+use chart_elements::{Element, ElementNumbers};
 use chart_lowering::is_wanted;
 use core_charts::{CoreChart, Region, State};
 use sqlite_items::Items;
@@ -19,7 +19,7 @@ pub fn point_origins(alloc: Global, chart: &CoreChart) -> Result<Items<Element>,
 {
     let mut origins = Items::new(alloc);
     origins.push(Element::Chart)?;
-    put_regions(chart.regions(), Numbers::first(), &mut origins)?;
+    put_regions(chart.regions(), ElementNumbers::first(), &mut origins)?;
     origins.push(Element::Chart)?;
     Ok(origins)
 }
@@ -28,9 +28,9 @@ pub fn point_origins(alloc: Global, chart: &CoreChart) -> Result<Items<Element>,
 #[cycle(text)]
 fn put_regions(
     regions: &[Region],
-    at: Numbers,
+    at: ElementNumbers,
     origins: &mut Items<Element>,
-) -> Result<Numbers, AllocError>
+) -> Result<ElementNumbers, AllocError>
     ensures origins { IfOk result (λ _. origins.new ≡ origins.old ++ branches (map piece_of_region regions.now) at) }
     ensures behind { IfOk result (λ behind. behind ≡ behind_regions (map piece_of_region regions.now) at) }
 {
@@ -44,9 +44,9 @@ fn put_regions(
 #[cycle(text)]
 fn put_region(
     region: &Region,
-    at: Numbers,
+    at: ElementNumbers,
     origins: &mut Items<Element>,
-) -> Result<Numbers, AllocError>
+) -> Result<ElementNumbers, AllocError>
     ensures origins { IfOk result (λ _. origins.new ≡ origins.old ++ (piece_of_region region.now).body at) }
     ensures behind { IfOk result (λ behind. behind ≡ (piece_of_region region.now).behind at) }
 {
@@ -59,9 +59,9 @@ fn put_region(
 fn put_body(
     states: &[State],
     region: u32,
-    at: Numbers,
+    at: ElementNumbers,
     origins: &mut Items<Element>,
-) -> Result<Numbers, AllocError>
+) -> Result<ElementNumbers, AllocError>
     ensures origins { IfOk result (λ _. origins.new
         ≡ origins.old ++ body_of (map piece_of_state states.now) region at) }
     ensures behind { IfOk result (λ behind. behind ≡ behind_states (map piece_of_state states.now) at) }
@@ -78,9 +78,9 @@ fn put_body(
 fn put_texts(
     are_initial: bool,
     states: &[State],
-    at: Numbers,
+    at: ElementNumbers,
     origins: &mut Items<Element>,
-) -> Result<Numbers, AllocError>
+) -> Result<ElementNumbers, AllocError>
     ensures origins { IfOk result (λ _. origins.new
         ≡ origins.old ++ texts are_initial (map piece_of_state states.now) at) }
     ensures behind { IfOk result (λ behind. behind ≡ behind_states (map piece_of_state states.now) at) }
@@ -96,7 +96,11 @@ fn put_texts(
 }
 
 #[cycle(text)]
-fn put_state(state: &State, at: Numbers, origins: &mut Items<Element>) -> Result<(), AllocError>
+fn put_state(
+    state: &State,
+    at: ElementNumbers,
+    origins: &mut Items<Element>,
+) -> Result<(), AllocError>
     ensures { IfOk result (λ _. origins.new ≡ origins.old ++ (piece_of_state state.now).text at) }
 {
     let own = state.transitions.as_slice();

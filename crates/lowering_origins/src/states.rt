@@ -4,13 +4,13 @@ ghost use Rattle.std.specs.Prelude.{◌≡◌, ◌++◌, IfOk};
 ghost use Rattle.lowering_origins.specs.Origins.{behind_fork, depth, final, simple};
 
 use crate::transitions::{put_taken, put_transitions};
-use chart_elements::{Element, Numbers};
+use chart_elements::{Element, ElementNumbers};
 use core_charts::Transition;
 use sqlite_items::Items;
 use std::alloc::AllocError;
 
 /// Puts two points of a state behind the others.
-pub(crate) fn put_final(at: Numbers, origins: &mut Items<Element>) -> Result<(), AllocError>
+pub(crate) fn put_final(at: ElementNumbers, origins: &mut Items<Element>) -> Result<(), AllocError>
     ensures { IfOk result (λ _. origins.new ≡ origins.old ++ final at) }
 {
     origins.push(Element::State(at.state))?;
@@ -20,7 +20,7 @@ pub(crate) fn put_final(at: Numbers, origins: &mut Items<Element>) -> Result<(),
 /// Puts those of a simple state behind the others: its label, its immediate transitions, and its depth.
 pub(crate) fn put_simple(
     own: &[Transition],
-    at: Numbers,
+    at: ElementNumbers,
     origins: &mut Items<Element>,
 ) -> Result<(), AllocError>
     ensures { IfOk result (λ _. origins.new ≡ origins.old ++ simple own.now at) }
@@ -36,7 +36,7 @@ pub(crate) fn put_simple(
 // The second label, the pause, all transitions, and the goto back.
 fn put_depth(
     own: &[Transition],
-    at: Numbers,
+    at: ElementNumbers,
     origins: &mut Items<Element>,
 ) -> Result<(), AllocError>
     ensures { IfOk result (λ _. origins.new ≡ origins.old ++ depth own.now at) }
@@ -53,7 +53,7 @@ fn put_depth(
 /// Puts those behind the fork of a superstate behind the others.
 pub(crate) fn put_behind_fork(
     own: &[Transition],
-    at: Numbers,
+    at: ElementNumbers,
     origins: &mut Items<Element>,
 ) -> Result<(), AllocError>
     ensures { IfOk result (λ _. origins.new ≡ origins.old ++ behind_fork own.now at) }

@@ -3,7 +3,7 @@
 ghost use Rattle.std.specs.Prelude.{◌≡◌, ◌++◌, [], IfOk, if◌then◌else◌};
 ghost use Rattle.lowering_origins.specs.Origins.{Origins, is_tested, taken, tested, transitions};
 
-use chart_elements::{Element, Numbers, put_effects};
+use chart_elements::{Element, ElementNumbers, put_effects};
 use core_charts::Transition;
 use sqlite_items::Items;
 use std::alloc::AllocError;
@@ -11,7 +11,7 @@ use std::alloc::AllocError;
 /// Puts those of what a transition does where it is taken behind the others: its effects, and the goto to its target.
 pub(crate) fn put_taken(
     transition: &Transition,
-    at: Numbers,
+    at: ElementNumbers,
     origins: &mut Items<Element>,
 ) -> Result<(), AllocError>
     ensures { IfOk result (λ _. origins.new ≡ origins.old ++ taken transition.now at) }
@@ -23,7 +23,7 @@ pub(crate) fn put_taken(
 // Puts those of a transition behind the others: the answer is whether anything follows it.
 fn put_tested(
     transition: &Transition,
-    at: Numbers,
+    at: ElementNumbers,
     origins: &mut Items<Element>,
 ) -> Result<bool, AllocError>
     ensures { IfOk result (λ goes_on. (rest : Origins) → origins.old
@@ -50,7 +50,7 @@ fn is_tested(surface: bool, transition: &Transition) -> bool
 pub(crate) fn put_transitions(
     surface: bool,
     own: &[Transition],
-    at: Numbers,
+    at: ElementNumbers,
     origins: &mut Items<Element>,
 ) -> Result<bool, AllocError>
     ensures { IfOk result (λ goes_on. (rest : Origins) → origins.old ++ transitions surface own.now at rest
