@@ -64,9 +64,16 @@ fn region(
 {
     let named = title(ahead, end, Word::Region)?;
     let mut states = Items::new(alloc);
-    braced_states(alloc, depth, ahead, end, &mut states, rows)?;
-    found.push(DraftRegion { named, states })?;
-    Ok(())
+    match braced_states(alloc, depth, ahead, end, &mut states, rows) {
+        Ok(()) => {
+            found.push(DraftRegion { named, states })?;
+            Ok(())
+        }
+        Err(fault) => {
+            drop(states);
+            Err(fault)
+        }
+    }
 }
 
 #[cycle(regions)]
@@ -136,7 +143,7 @@ fn state(
     let named = title(ahead, end, Word::State)?;
     let mut regions = Items::new(alloc);
     let mut transitions = Items::new(alloc);
-    body(
+    match body(
         alloc,
         depth,
         is_final,
@@ -145,15 +152,23 @@ fn state(
         &mut regions,
         &mut transitions,
         rows,
-    )?;
-    found.push(DraftState {
-        is_initial,
-        is_final,
-        named,
-        regions,
-        transitions,
-    })?;
-    Ok(())
+    ) {
+        Ok(()) => {
+            found.push(DraftState {
+                is_initial,
+                is_final,
+                named,
+                regions,
+                transitions,
+            })?;
+            Ok(())
+        }
+        Err(fault) => {
+            drop(regions);
+            drop(transitions);
+            Err(fault)
+        }
+    }
 }
 
 // What is in a state, or the semicolon where nothing is.

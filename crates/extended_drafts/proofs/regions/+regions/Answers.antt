@@ -92,13 +92,14 @@ states-loop-used-preserved t c =
     putting_on put_part (state (expression 0) (within (expression 0) c.args.depth)) state_first _ _ _ _ _ _ _ _ c.loop-used-test.true
     c.loop-used.invariant more c.in_ok-state-2.ensures
 
-pub region-returns : goal.region-returns
-region-returns t c = region_puts _ _ _ _ _ _ _ _ _ _ _ c.in_ok-named.ensures c.in_ok-braced_states.ensures c.new-states.ensures c.in_ok-push.ensures.ok
+pub region-returns-in_ok-push-in-Ok : goal.region-returns-in_ok-push-in-Ok
+region-returns-in_ok-push-in-Ok t c =
+    region_puts _ _ _ _ _ _ _ _ _ _ _ c.in_ok-named.ensures c.in-Ok.ensures c.new-states.ensures c.in_ok-push-in-Ok.ensures.ok
 
-pub state-returns : goal.state-returns
-state-returns t c =
-    state_puts _ _ _ _ _ _ _ _ _ _ _ _ _ _ _ _ _ c.flag-is_initial.ensures c.flag-is_final.ensures c.in_ok-named.ensures c.in_ok-body.ensures
-    c.new-regions.ensures c.new-transitions.ensures c.in_ok-push.ensures.ok
+pub state-returns-in_ok-push-in-Ok : goal.state-returns-in_ok-push-in-Ok
+state-returns-in_ok-push-in-Ok t c =
+    state_puts _ _ _ _ _ _ _ _ _ _ _ _ _ _ _ _ _ c.flag-is_initial.ensures c.flag-is_final.ensures c.in_ok-named.ensures c.in-Ok.ensures
+    c.new-regions.ensures c.new-transitions.ensures c.in_ok-push-in-Ok.ensures.ok
 
 pub braced_states-returns : goal.braced_states-returns
 braced_states-returns t c =
