@@ -1,1 +1,2 @@
+pub mod Popped
 pub mod Statuses

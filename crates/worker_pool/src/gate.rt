@@ -20,7 +20,7 @@ pub trait Gate {
 }
 
 /// It does nothing.
-#[derive(Clone, Copy, Debug)]
+#[derive(Clone, Copy)]
 pub struct NoGate;
 
 impl Gate for NoGate {

@@ -5,13 +5,19 @@ use crate::shared_tick::SharedTick;
 use crate::weighing::SHARE;
 use crate::worker::{Claimed, Next};
 
-/// What lies under the lock: the tick that the workers share, and who waits. Whenever the lock is taken, the
-/// tick is one of the shared image, its history is a priority run from its start to its present configuration, and each
-/// open claim could be committed.
+/// What lies under the lock: the tick that the workers share, and what is counted of them. Whenever the lock is taken,
+/// the tick is one of the shared image, its history is a priority run from its start to its present configuration, and
+/// each open claim could be committed.
 #[derive(Drop)]
 pub(crate) struct Locked<'x, J: OfImage> {
     // none while no tick is shared
     pub shared_tick: Option<SharedTick<'x, J>>,
+    pub counts: Counts,
+}
+
+/// What is counted of the workers that share a tick, and who of them waits.
+#[derive(Clone, Copy)]
+pub(crate) struct Counts {
     // how many claims were made and not committed
     pub standing: u64,
     // in how many turns claims were put
@@ -32,11 +38,20 @@ pub(crate) struct Calls {
     pub others: u64,
 }
 
-impl<'x, J: OfImage> Locked<'x, J> {
-    /// With no tick.
-    pub(crate) fn new() -> Locked<'x, J> {
-        Locked {
-            shared_tick: None,
+impl Calls {
+    /// Nobody.
+    pub(crate) fn none() -> Calls {
+        Calls {
+            first: false,
+            others: 0,
+        }
+    }
+}
+
+impl Counts {
+    /// Where no tick is shared.
+    pub(crate) fn new() -> Counts {
+        Counts {
             standing: 0,
             puts: 0,
             resting: 0,
@@ -64,6 +79,27 @@ impl<'x, J: OfImage> Locked<'x, J> {
         }
     }
 
+    /// Another worker waits for claims from now on.
+    pub(crate) fn rest(&mut self) {
+        self.resting = self.resting.saturating_add(1);
+    }
+
+    /// What another worker knows that waits no longer. None: no tick will be shared any more.
+    pub(crate) fn rise(&mut self) -> Option<Next> {
+        self.resting = self.resting.saturating_sub(1);
+        if self.closed {
+            None
+        } else {
+            Some(self.next(false))
+        }
+    }
+
+    /// What the first worker knows, who waits no longer.
+    pub(crate) fn rise_first(&mut self) -> Next {
+        self.first_rests = false;
+        self.next(self.over)
+    }
+
     // Who is to be woken after a turn, in which there was work for so many others or the tick came to its end.
     fn calls(&mut self, wanted: u64, over: bool) -> Calls {
         if over {
@@ -74,10 +110,7 @@ impl<'x, J: OfImage> Locked<'x, J> {
             };
         }
         if wanted == 0 {
-            return Calls {
-                first: false,
-                others: 0,
-            };
+            return Calls::none();
         }
         self.call(wanted)
     }

@@ -87,13 +87,36 @@ where
     requires workers { workers ≤ 8 }
     ensures { IfOk result (EndsTick state.entry) }
 {
-    let Ok((shared, passes)) = Shared::<'x, J, G>::open(alloc, verified, gate) else {
-        return Ok(alone(state, gate));
-    };
-    let Some(team) = Team::of(&shared, passes, workers) else {
-        return Ok(alone(state, gate));
-    };
-    meet(rt, alloc, team, SharedTick::of(state))
+    match Shared::<'x, J, G>::open(alloc, verified, gate) {
+        Ok((shared, passes)) => {
+            let team = Team::of(&shared, passes, workers);
+            let ended = share_by(rt, alloc, team, state, gate);
+            drop(shared);
+            ended
+        }
+        Err(_) => Ok(alone(state, gate)),
+    }
+}
+
+// The same with a team, if there is one.
+fn share_by<'r, 'x, J, R, G>(
+    rt: &R,
+    alloc: Global,
+    team: Option<Team<'r, 'x, J, G>>,
+    state: TickState<'x>,
+    gate: &G,
+) -> Result<TickState<'x>, AllocError>
+where
+    J: OfImage + Send + Sync,
+    R: Threads + Wait + Sync,
+    G: Gate + Sync,
+    requires { state.image ≡ J.image }
+    ensures { IfOk result (EndsTick state.entry) }
+{
+    match team {
+        Some(team) => meet(rt, alloc, team, SharedTick::of(state)),
+        None => Ok(alone(state, gate)),
+    }
 }
 
 // Shares the tick with a team, and waits for all workers.
@@ -132,7 +155,8 @@ where
     ensures { IfOk result (EndsTick shared_tick.entry) }
 {
     let mut team = team;
-    let ended = team.complete_wide(rt, scope, alloc, shared_tick.into_state());
+    let ended = team.complete_owned(rt, scope, alloc, shared_tick.into_state());
     team.close(rt);
+    drop(team);
     ended
 }

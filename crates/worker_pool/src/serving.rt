@@ -1,15 +1,14 @@
 //! The steps that the first worker takes alone.
 
-ghost use Rattle.std.specs.Prelude.{◌≡◌, false};
+ghost use Rattle.std.specs.Prelude.{◌≡◌, false, IsSome};
 ghost use Rattle.sc_values.specs.Runs.{IsOver};
 ghost use Rattle.sc_graph.specs.Machine.{machine};
-ghost use Rattle.tick_core.specs.Taking.{IsNextStep};
-ghost use Rattle.worker_pool.specs.Inside.Stretches.{SameTick, EndsTick};
+ghost use Rattle.worker_pool.specs.Inside.Stretches.{Completed, SameTick, EndsTick};
 
 use crate::gate::Gate;
 use crate::weighing::{is_worth, may_share};
 use sc_graph::{Status, ThreadId};
-use tick_core::{NextStep, StepHook, TickState};
+use tick_core::{StepHook, TickState};
 
 /// The steps of a tick that the first worker takes before it shares the tick with others: all of them where there are
 /// no others or nothing is worth sharing, else as long as there is no round to share. Whether it is to be shared; if
@@ -36,23 +35,20 @@ fn lead<G: Gate>(state: &mut TickState<'_>, gate: &G) -> bool
         if is_to_share(state, next.thread, gate) {
             return true;
         }
-        take(state, next, gate);
+        gate.passing(1, next.thread);
+        state.take(1, next);
     }
     false
 }
 
-// Whether the round in which this thread leads is worth sharing.
+// Whether the round in which this thread leads, of all that can step at its priority, is worth sharing.
 fn is_to_share<G: Gate>(state: &TickState<'_>, thread: ThreadId, gate: &G) -> bool {
-    is_worth(round_of(state, thread).len(), gate)
-}
-
-// The threads that can step at the priority of this one.
-fn round_of<'s>(state: &'s TickState<'_>, thread: ThreadId) -> &'s [ThreadId] {
     match state.present().status(thread) {
         Status::At(node) | Status::Waiting(node) => {
-            state.ready(state.image().tables().priority(node))
+            let priority = state.image().tables().priority(node);
+            is_worth(state.ready(priority).len(), gate)
         }
-        Status::Absent | Status::Paused(_) | Status::Ended => &[],
+        Status::Absent | Status::Paused(_) | Status::Ended => false,
     }
 }
 
@@ -75,6 +71,15 @@ impl<G: Gate> StepHook for Passing<'_, G> {
     }
 }
 
+/// Takes all steps that are left of the tick that is there.
+pub(crate) fn go_alone<G: Gate>(last: &mut Option<TickState<'_>>, gate: &G)
+    requires { IsSome last.old }
+    ensures { Completed last.old last.new }
+{
+    let Some(state) = last else { unreachable!() };
+    serve(state, gate);
+}
+
 /// The first worker takes all steps that are left of a tick.
 pub(crate) fn alone<'x, G: Gate>(state: TickState<'x>, gate: &G) -> TickState<'x>
     ensures { EndsTick state.entry result }
@@ -82,13 +87,4 @@ pub(crate) fn alone<'x, G: Gate>(state: TickState<'x>, gate: &G) -> TickState<'x
     let mut state = state;
     serve(&mut state, gate);
     state
-}
-
-// Lets an evaluated step pass the gate, and takes it.
-fn take<G: Gate>(state: &mut TickState<'_>, next: NextStep, gate: &G)
-    requires { IsNextStep state.old next }
-    ensures { SameTick state.old state.new }
-{
-    gate.passing(1, next.thread);
-    state.take(1, next);
 }

@@ -28,11 +28,33 @@ pub(crate) fn settle<'x, J: OfImage>(
     ensures over { IfOk result (λ s. IsOver (machine s.image.program) s.present) }
 {
     let mut state = match returned(back, &begun) {
-        Some(state) => state,
-        None => TickSpace::of(alloc, verified)?.begin_again(begun),
+        Some(state) => {
+            drop(begun);
+            state
+        }
+        None => begin_again(alloc, verified, begun)?,
     };
     state.run_alone();
     Ok(state)
+}
+
+// A tick that begins so, begun again. Err: memory was refused.
+fn begin_again<'x>(
+    alloc: Global,
+    verified: &'x Verified,
+    begun: Control,
+) -> Result<TickState<'x>, AllocError>
+    requires begins { BeginsTick verified.now.program begun }
+    ensures image { IfOk result (λ s. s.image ≡ verified.entry.now) }
+    ensures begun { IfOk result (λ s. s.begun ≡ begun) }
+{
+    match TickSpace::of(alloc, verified) {
+        Ok(space) => Ok(space.begin_again(begun)),
+        Err(error) => {
+            drop(begun);
+            Err(error)
+        }
+    }
 }
 
 // What came back of a tick that began so. None: nothing came back, or another tick.

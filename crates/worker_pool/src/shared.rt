@@ -3,7 +3,7 @@
 ghost use Rattle.std.specs.Prelude.{◌≡◌};
 
 use crate::gate::Gate;
-use crate::locked::{Calls, Locked};
+use crate::locked::{Calls, Counts, Locked};
 use crate::of_image::OfImage;
 use crate::shared_tick::SharedTick;
 use crate::worker::Next;
@@ -32,7 +32,7 @@ pub struct Shared<'x, J: OfImage, G: Gate> {
 }
 
 impl<'x, J: OfImage, G: Gate> Shared<'x, J, G> {
-    ghost use Rattle.std.specs.Prelude.{◌≡◌, All, IfOk};
+    ghost use Rattle.std.specs.Prelude.{◌≡◌, All, IfOk, IfSome};
     ghost use Rattle.worker_pool.specs.Passes.{IsPassTo};
 
     /// What workers share for ticks of an image, and a pass for each of them. Err: memory was refused.
@@ -45,15 +45,35 @@ impl<'x, J: OfImage, G: Gate> Shared<'x, J, G> {
         ensures { IfOk result (λ r. All (λ p. IsPassTo r.0 p) r.1.items) }
     {
         let (queue, passes) = ReadyQueue::open(alloc, verified)?;
-        let shared = Shared {
+        Ok((Shared::of(verified, gate, queue), passes))
+    }
+
+    // What they share by this queue, with no tick.
+    fn of(verified: &'x Verified, gate: &'x G, queue: ReadyQueue<'x>) -> Shared<'x, J, G>
+        requires { verified.now ≡ J.image }
+        ensures { result.queue ≡ queue.entry }
+    {
+        Shared {
             verified,
-            locked: Mutex::new(Locked::new()),
+            locked: Mutex::new(Locked {
+                shared_tick: None,
+                counts: Counts::new(),
+            }),
             others: Condvar::new(),
             first: Condvar::new(),
             queue,
             gate,
-        };
-        Ok((shared, passes))
+        }
+    }
+
+    /// One of the passes to this. None: there is none left.
+    #[tactic(auto, using(crate::proofs::Popped::all_left, crate::proofs::Popped::last_of_all))]
+    pub(crate) fn next_pass(&self, passes: &mut Vec<Pass<'x>>) -> Option<Pass<'x>>
+        requires { All (λ p. IsPassTo self.now p) passes.old.items }
+        ensures left { All (λ p. IsPassTo self.now p) passes.new.items }
+        ensures own { IfSome result (λ p. IsPassTo self.now p) }
+    {
+        passes.pop()
     }
 
     /// Takes the lock, which others hold for a short while.
@@ -80,43 +100,38 @@ impl<'x, J: OfImage, G: Gate> Shared<'x, J, G> {
     /// Another worker waits for claims that are put later. None: this is closed.
     pub(crate) fn rest<R: Wait>(&self, rt: &R, seen: u64) -> Option<Next> {
         let mut guard = self.locked(rt);
-        let before = guard.resting;
-        guard.resting = before.saturating_add(1);
-        let mut guard = self
-            .others
-            .wait_while(rt, guard, |locked| locked.puts == seen && !locked.closed);
-        let after = guard.resting;
-        guard.resting = after.saturating_sub(1);
-        if guard.closed {
-            None
-        } else {
-            Some(guard.next(false))
-        }
+        guard.counts.rest();
+        let mut guard = self.others.wait_while(
+            rt,
+            guard,
+            |locked| locked.counts.puts == seen && !locked.counts.closed,
+        );
+        guard.counts.rise()
     }
 
     /// The first worker waits for claims that are put later, or for the end of the tick.
     pub(crate) fn rest_first<R: Wait>(&self, rt: &R, seen: u64) -> Next {
         let mut guard = self.locked(rt);
-        guard.first_rests = true;
-        let mut guard = self
-            .first
-            .wait_while(rt, guard, |locked| locked.puts == seen && !locked.over);
-        guard.first_rests = false;
-        let over = guard.over;
-        guard.next(over)
+        guard.counts.first_rests = true;
+        let mut guard = self.first.wait_while(
+            rt,
+            guard,
+            |locked| locked.counts.puts == seen && !locked.counts.over,
+        );
+        guard.counts.rise_first()
     }
 
     /// Takes the tick away, which is over.
     pub(crate) fn clear<R: Wait>(&self, rt: &R) -> Option<SharedTick<'x, J>> {
         let mut guard = self.locked.lock(rt);
-        guard.over = false;
+        guard.counts.over = false;
         guard.shared_tick.take()
     }
 
     /// No tick will be shared any more: the other workers leave.
     pub fn close<R: Wait>(&self, rt: &R) {
         let mut guard = self.locked.lock(rt);
-        guard.closed = true;
+        guard.counts.closed = true;
         drop(guard);
         self.others.notify_all();
     }

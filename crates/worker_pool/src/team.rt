@@ -38,14 +38,19 @@ impl<'r, 'x, J: OfImage, G: Gate> Team<'r, 'x, J, G> {
         requires workers { workers ≤ 8 }
     {
         let mut passes = passes;
-        let pass = passes.pop()?;
-        Some(Team {
-            shared,
-            worker: Worker::of(shared, pass, 1, workers),
-            passes,
-            started: 1,
-            workers,
-        })
+        match shared.next_pass(&mut passes) {
+            Some(pass) => Some(Team {
+                shared,
+                worker: Worker::of(shared, pass, 1, workers),
+                passes,
+                started: 1,
+                workers,
+            }),
+            None => {
+                drop(passes);
+                None
+            }
+        }
     }
 
     /// Shares a tick until nobody is enabled. None: it was lost.
@@ -92,9 +97,13 @@ impl<'r, 'x, J: OfImage, G: Gate> Team<'r, 'x, J, G> {
         if self.started >= self.workers {
             return None;
         }
-        let pass = self.passes.pop()?;
-        self.started += 1;
-        Some(Worker::of(self.shared, pass, self.started, self.workers))
+        match self.shared.next_pass(&mut self.passes) {
+            Some(pass) => {
+                self.started += 1;
+                Some(Worker::of(self.shared, pass, self.started, self.workers))
+            }
+            None => None,
+        }
     }
 
     /// No tick will be shared any more: the other workers leave.

@@ -1,16 +1,17 @@
 //! A tick after the other, by workers that are kept.
 
-ghost use Rattle.std.specs.Prelude.{◌≡◌, ◌≢◌, ◌↔◌, false, Ok, Err, None, IfOk, OnErr, OnOk, MatchOption};
+ghost use Rattle.std.specs.Prelude.{◌≡◌, ◌≢◌, ◌↔◌, false, Ok, Err, None, IfOk, IsSome, OnErr, OnOk, MatchOption};
 ghost use Rattle.std.specs.Result.{IsErrOf};
 ghost use Rattle.sc_values.specs.Runs.{IsOver};
 ghost use Rattle.sc_graph.specs.Machine.{machine};
 ghost use Rattle.sc_graph.specs.Tick.{Rests, AreAccepted};
+ghost use Rattle.tick_core.specs.State.{BeginsTick};
 ghost use Rattle.worker_pool.specs.Ticks.{Ended, HasEnded, NextEnded};
 ghost use Rattle.worker_pool.specs.Inside.Stretches.{Began, Completed, EndsTick};
 
 use crate::gate::Gate;
 use crate::of_image::OfImage;
-use crate::serving::{alone, stretch};
+use crate::serving::{go_alone, stretch};
 use crate::settling::settle;
 use crate::shared_tick::SharedTick;
 use crate::team::Team;
@@ -94,31 +95,6 @@ impl<'r, 'x, J: OfImage, G: Gate> Team<'r, 'x, J, G> {
         Ok(stretch(state, self.workers, self.shared.gate))
     }
 
-    // Runs a tick to where nobody is enabled, with the others. Err: it was lost, and is not there.
-    fn complete_last<'s, R, E>(
-        &mut self,
-        rt: &'s R,
-        scope: &'s Scope<'s, E>,
-        alloc: Global,
-        last: &mut Option<TickState<'x>>,
-    ) -> Result<(), AllocError>
-    where
-        R: Wait + Sync,
-        J: Send + Sync + 's,
-        G: Sync + 's,
-        E: 's,
-        'r: 's,
-        'x: 's,
-        requires { MatchOption last.old ⊥ (λ s. s.image ≡ J.image) }
-        ensures ended { OnOk result (Completed last.old last.new) }
-        ensures lost { OnErr result (last.new ≡ None) }
-    {
-        let state = last.take().unwrap();
-        let state = self.complete_wide(rt, scope, alloc, state)?;
-        drop(last.replace(state));
-        Ok(())
-    }
-
     // Runs a tick to where nobody is enabled. Err: it was lost, and memory was refused to begin it again.
     fn complete<'s, R, E>(
         &mut self,
@@ -139,14 +115,15 @@ impl<'r, 'x, J: OfImage, G: Gate> Team<'r, 'x, J, G> {
     {
         let mut state = state;
         if stretch(&mut state, self.workers, self.shared.gate) {
-            self.complete_wide(rt, scope, alloc, state)
+            self.complete_owned(rt, scope, alloc, state)
         } else {
             Ok(state)
         }
     }
 
-    /// The same where there is a round to share. Where memory is refused the first worker goes on alone.
-    pub(crate) fn complete_wide<'s, R, E>(
+    /// Runs a tick to where nobody is enabled, with the others. Err: it was lost, and memory was refused to begin it
+    /// again.
+    pub(crate) fn complete_owned<'s, R, E>(
         &mut self,
         rt: &'s R,
         scope: &'s Scope<'s, E>,
@@ -163,10 +140,80 @@ impl<'r, 'x, J: OfImage, G: Gate> Team<'r, 'x, J, G> {
         requires { state.image ≡ J.image }
         ensures { IfOk result (EndsTick state.entry) }
     {
-        let Ok(begun) = copied(alloc, state.begun()) else {
-            return Ok(alone(state, self.shared.gate));
-        };
-        let back = self.share(rt, scope, SharedTick::of(state));
-        settle(alloc, self.shared.verified, back, begun)
+        let mut last = Some(state);
+        match self.complete_last(rt, scope, alloc, &mut last) {
+            Ok(()) => Ok(last.unwrap()),
+            Err(error) => {
+                drop(last);
+                Err(error)
+            }
+        }
     }
+
+    /// The same of the tick that is there. Where memory is refused for sharing it the first worker goes on alone. Err:
+    /// it was lost, and is not there.
+    pub(crate) fn complete_last<'s, R, E>(
+        &mut self,
+        rt: &'s R,
+        scope: &'s Scope<'s, E>,
+        alloc: Global,
+        last: &mut Option<TickState<'x>>,
+    ) -> Result<(), AllocError>
+    where
+        R: Wait + Sync,
+        J: Send + Sync + 's,
+        G: Sync + 's,
+        E: 's,
+        'r: 's,
+        'x: 's,
+        requires { MatchOption last.old ⊥ (λ s. s.image ≡ J.image) }
+        ensures ended { OnOk result (Completed last.old last.new) }
+        ensures lost { OnErr result (last.new ≡ None) }
+    {
+        match begun_by(alloc, last) {
+            Ok(begun) => self.complete_from(rt, scope, alloc, last, begun),
+            Err(_) => {
+                go_alone(last, self.shared.gate);
+                Ok(())
+            }
+        }
+    }
+
+    // The same of the tick that began so.
+    fn complete_from<'s, R, E>(
+        &mut self,
+        rt: &'s R,
+        scope: &'s Scope<'s, E>,
+        alloc: Global,
+        last: &mut Option<TickState<'x>>,
+        begun: Control,
+    ) -> Result<(), AllocError>
+    where
+        R: Wait + Sync,
+        J: Send + Sync + 's,
+        G: Sync + 's,
+        E: 's,
+        'r: 's,
+        'x: 's,
+        requires there { MatchOption last.old ⊥ (λ s. (s.image ≡ J.image) × (s.begun ≡ begun)) }
+        requires begins { BeginsTick J.image.program begun }
+        ensures ended { OnOk result (Completed last.old last.new) }
+        ensures lost { OnErr result (last.new ≡ None) }
+    {
+        let state = last.take().unwrap();
+        let back = self.share(rt, scope, SharedTick::of(state));
+        let state = settle(alloc, self.shared.verified, back, begun)?;
+        drop(last.replace(state));
+        Ok(())
+    }
+}
+
+// Where the tick that is there began.
+fn begun_by(alloc: Global, last: &Option<TickState<'_>>) -> Result<Control, AllocError>
+    requires { IsSome last.now }
+    ensures { IfOk result (λ begun. MatchOption last.now ⊥ (λ s. (s.begun ≡ begun)
+        × BeginsTick s.image.program begun)) }
+{
+    let Some(state) = last else { unreachable!() };
+    copied(alloc, state.begun())
 }

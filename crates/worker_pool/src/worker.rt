@@ -4,13 +4,14 @@ ghost use Rattle.std.specs.Prelude.{◌≤◌};
 ghost use Rattle.worker_pool.specs.Passes.{IsPassTo};
 
 use crate::gate::Gate;
+use crate::locked::{Calls, Locked};
 use crate::of_image::OfImage;
 use crate::shared::Shared;
 use crate::shared_tick::SharedTick;
 use crate::weighing::work_of;
 use arrayvec::ArrayVec;
 use ready_queue::Pass;
-use std::sync::Wait;
+use std::sync::{MutexGuard, Wait};
 use tick_core::{Claim, Done, Turn, evaluate};
 
 // How many steps a worker takes in one turn at most, and how many claims it keeps.
@@ -97,9 +98,9 @@ impl<'r, 'x, J: OfImage, G: Gate> Worker<'r, 'x, J, G> {
 
     /// A claim that it has kept, or one out of the queue.
     pub(crate) fn find<R: Wait>(&mut self, rt: &R) -> Option<Claim<'x>> {
-        match self.kept.pop() {
-            Some(Some(claim)) => Some(claim),
-            _ => self.shared.queue.take(rt, &mut self.pass),
+        match self.kept.pop().flatten() {
+            Some(claim) => Some(claim),
+            None => self.shared.queue.take(rt, &mut self.pass),
         }
     }
 
@@ -152,35 +153,47 @@ impl<'r, 'x, J: OfImage, G: Gate> Worker<'r, 'x, J, G> {
     /// Puts a tick under the lock, and claims all that can be claimed.
     pub(crate) fn lay<R: Wait>(&mut self, rt: &R, shared_tick: SharedTick<'x, J>) -> Next {
         let shared = self.shared;
-        let mut shared_tick = shared_tick;
         let mut guard = shared.locked.lock(rt);
-        let locked = &mut *guard;
-        let most = self.keeps(0);
-        let claimed = self.claim_all(rt, &mut shared_tick, most);
-        drop(locked.shared_tick.replace(shared_tick));
-        locked.standing = 0;
-        let (next, calls) = locked.note(claimed, shared.gate.waits());
-        drop(guard);
-        shared.wake(calls);
-        next
+        drop(guard.shared_tick.replace(shared_tick));
+        guard.counts.standing = 0;
+        self.turn(rt, guard, &[])
     }
 
     // In one turn of the lock: commits, and claims all that can be claimed.
-    fn bring<R: Wait>(&mut self, rt: &R, passed: &[Option<Done<'x>>]) -> Next {
+    fn bring<R: Wait>(&mut self, rt: &R, passed: &[Option<Done<'_>>]) -> Next {
         let shared = self.shared;
-        let mut guard = shared.locked(rt);
-        let locked = &mut *guard;
+        self.turn(rt, shared.locked(rt), passed)
+    }
+
+    // The same where it has the lock, which it gives back.
+    fn turn<R: Wait>(
+        &mut self,
+        rt: &R,
+        guard: MutexGuard<'_, Locked<'x, J>>,
+        passed: &[Option<Done<'_>>],
+    ) -> Next {
+        let mut guard = guard;
+        let (next, calls) = self.turn_in(rt, &mut guard, passed);
+        drop(guard);
+        self.shared.wake(calls);
+        next
+    }
+
+    // What it knows behind a turn, and who is to be woken.
+    fn turn_in<R: Wait>(
+        &mut self,
+        rt: &R,
+        locked: &mut Locked<'x, J>,
+        passed: &[Option<Done<'_>>],
+    ) -> (Next, Calls) {
         let Some(shared_tick) = &mut locked.shared_tick else {
-            return locked.next(true);
+            return (locked.counts.next(true), Calls::none());
         };
         commit_all(shared_tick, passed);
-        let most = self.keeps(locked.standing);
-        locked.standing = locked.standing.saturating_sub(passed.len() as u64);
+        let most = self.keeps(locked.counts.standing);
+        locked.counts.standing = locked.counts.standing.saturating_sub(passed.len() as u64);
         let claimed = self.claim_all(rt, shared_tick, most);
-        let (next, calls) = locked.note(claimed, shared.gate.waits());
-        drop(guard);
-        shared.wake(calls);
-        next
+        locked.counts.note(claimed, self.shared.gate.waits())
     }
 
     // Claims all that can be claimed. One claim alone it keeps; of several it keeps so many at most, and puts the
@@ -274,7 +287,9 @@ impl<'r, 'x, J: OfImage, G: Gate> Worker<'r, 'x, J, G> {
 }
 
 fn commit_all<J: OfImage>(shared_tick: &mut SharedTick<'_, J>, passed: &[Option<Done<'_>>]) {
-    for done in passed.iter().flatten() {
-        shared_tick.commit(done);
+    for done in passed {
+        if let Some(done) = done {
+            shared_tick.commit(done);
+        }
     }
 }
