@@ -12,11 +12,11 @@ use Rattle.played_lines.proofs.Coming.{none_came}
 use Rattle.played_lines.proofs.Failures.{none_failed, failed}
 use Rattle.ruled_traces.specs.Trace.{Goes, Makes, Plays, PlaysFirst, PlaysUpTo, Leaves}
 use Rattle.ruled_traces.specs.Inside.Playing.{CameTo}
-use Rattle.ruled_traces.specs.Inside.Standing.{Standing, Leads, Ends}
+use Rattle.ruled_traces.specs.Inside.Ruled.{RuledSeen, Leads, Ends}
 use Rattle.ruled_traces.specs.declared.place.RunPlace.{RunPlace}
 use Rattle.ruled_traces.specs.declared.rules.Rules.{Rules}
 
-module _ {A : Type 0} (stands : A → Standing) (rules : Rules) (image : Image) where
+module _ {A : Type 0} (stands : A → RuledSeen) (rules : Rules) (image : Image) where
   abbrev makes : played.Making A
   makes p line q shown = Leads (stands p) line (stands q) shown
 
@@ -113,7 +113,7 @@ module _ {A : Type 0} (stands : A → Standing) (rules : Rules) (image : Image) 
         }
 
 -- the image stays
-image_kept : {A : Type 0} (stands : A → Standing) (rules : Rules) (image : Image) (p q : A) (lines out : List (List ℕ)) (end : End)
+image_kept : {A : Type 0} (stands : A → RuledSeen) (rules : Rules) (image : Image) (p q : A) (lines out : List (List ℕ)) (end : End)
     → played.Goes (makes stands rules image) (ends stands rules image) p lines out end q → (stands q).image ≡ (stands p).image
 image_kept stands rules image p q [] [] end goes = ap (λ at. (stands at).image) goes.1
 image_kept stands rules image p q [] (shown ∷ out) end goes = absurd goes
@@ -122,7 +122,7 @@ image_kept stands rules image p q (line ∷ lines) (shown ∷ out) end goes =
     let leads : Leads (stands p) line (stands goes.0) shown = goes.1 in
     image_kept stands rules image goes.0 q lines out end goes.2 ∙ leads.image
 
-pub rests_there : {A : Type 0} (first : A) (stands : A → Standing) (rules : Rules) (image : Image) → (stands first).image ≡ image
+pub rests_there : {A : Type 0} (first : A) (stands : A → RuledSeen) (rules : Rules) (image : Image) → (stands first).image ≡ image
     → (before after : Seen) (last : A) → played_came.CameTo (makes stands rules image) (ends stands rules image) first before after (Ok last)
     → Rests (stands last).image.program (stands last).place.control → Rests image.program (stands last).place.control
 rests_there first stands rules image here before after last came rests =
@@ -132,14 +132,14 @@ rests_there first stands rules image here before after last came rests =
     (image_kept stands rules image first last plays.lines whole.0 Good plays.trace ∙ here) rests
 
 -- what was told of the last player is told of its place
-pub came_to : {A : Type 0} (first : A) (stands : A → Standing) (rules : Rules) (image : Image) (from : RunPlace) → (stands first).rules ≡ rules
+pub came_to : {A : Type 0} (first : A) (stands : A → RuledSeen) (rules : Rules) (image : Image) (from : RunPlace) → (stands first).rules ≡ rules
     → (stands first).image ≡ image → (stands first).place ≡ from → (before after : Seen) (last : A)
     → played_came.CameTo (makes stands rules image) (ends stands rules image) first before after (Ok last)
     → CameTo rules image from before after (Ok (stands last).place)
 came_to first stands rules image from same here there before after last came =
     subst (λ at. CameTo rules image at before after (Ok (stands last).place)) there (came_well stands rules image first same here before after last came)
 
-pub came_from : {A : Type 0} (first : A) (stands : A → Standing) (rules : Rules) (image : Image) (from : RunPlace) → (stands first).rules ≡ rules
+pub came_from : {A : Type 0} (first : A) (stands : A → RuledSeen) (rules : Rules) (image : Image) (from : RunPlace) → (stands first).rules ≡ rules
     → (stands first).image ≡ image → (stands first).place ≡ from → (before after : Seen) (f : PlayFault)
     → played_came.CameTo (makes stands rules image) (ends stands rules image) first before after (Err f)
     → CameTo rules image from before after (Err f)
@@ -150,7 +150,7 @@ came_from first stands rules image from same here there before after f came =
 pub came_never : (rules : Rules) (image : Image) (from : RunPlace) (at : Seen) (f : PlayFault) (result : Result RunPlace PlayFault) → result ≡ Err f
     → f ≡ play_fault.Memory → CameTo rules image from at at result
 came_never rules image from at f result is memory =
-    let here : Standing = record { rules = rules; image = image; place = from } in
+    let here : RuledSeen = record { rules = rules; image = image; place = from } in
     rw (is, memory)
-    (came_off (λ (s : Standing). s) rules image here refl refl at at play_fault.Memory
-    (none_came (λ (p : Standing) line q shown. Leads p line q shown) (λ (p : Standing) line end. Ends p line end) here at))
+    (came_off (λ (s : RuledSeen). s) rules image here refl refl at at play_fault.Memory
+    (none_came (λ (p : RuledSeen) line q shown. Leads p line q shown) (λ (p : RuledSeen) line end. Ends p line end) here at))

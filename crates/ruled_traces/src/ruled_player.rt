@@ -32,7 +32,7 @@ impl<'a, 'x> LinePlayer for Ruled<'a, 'x> {
     ghost use Rattle.std.proofs.Common.{inl};
     ghost use Rattle.sc_graph.specs.Tick.{Rests};
     ghost use Rattle.trace_player.specs.Trace.{next_number};
-    ghost use Rattle.ruled_traces.specs.Inside.Standing.{Ends, Leads};
+    ghost use Rattle.ruled_traces.specs.Inside.Ruled.{Ends, Leads};
 
     ghost number = { λ p. next_number p.place.lines };
 

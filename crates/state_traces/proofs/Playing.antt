@@ -12,16 +12,16 @@ use Rattle.played_lines.proofs.Coming.{none_came}
 use Rattle.played_lines.proofs.Failures.{none_failed, failed}
 use Rattle.state_traces.specs.Trace.{Words, Goes, Trace, Plays, PlaysFirst, Leaves}
 use Rattle.state_traces.specs.Inside.Playing.{PlaysWhole, CameTo}
-use Rattle.state_traces.specs.Inside.Standing.{Standing, Tells, Ends}
+use Rattle.state_traces.specs.Inside.Telling.{TellingSeen, Tells, Ends}
 
 -- with these words a player of this image stands before the first line
-pub record IsFirst (words : Words) (image : Image) (at : Standing) : Type 0 where
+pub record IsFirst (words : Words) (image : Image) (at : TellingSeen) : Type 0 where
   pub words_are : at.words ≡ words
   pub image_is : at.image ≡ image
   pub ticks : at.ticks ≡ 0
   pub control : at.control ≡ initial image.program
 
-module _ {A : Type 0} (stands : A → Standing) where
+module _ {A : Type 0} (stands : A → TellingSeen) where
   abbrev makes : played.Making A
   makes p line q shown = Tells (stands p) line (stands q) shown
 
@@ -29,10 +29,10 @@ module _ {A : Type 0} (stands : A → Standing) where
   ends p line end = Ends (stands p) line end
 
   -- from a player on
-  abbrev GoesFrom : Standing → List (List ℕ) → List (List ℕ) → End → Type 0
+  abbrev GoesFrom : TellingSeen → List (List ℕ) → List (List ℕ) → End → Type 0
   GoesFrom at lines out end = Goes at.words at.image (next_number at.ticks) at.control lines out end
 
-  goes_by : (words : Words) (image : Image) (k : ℕ) (at : Standing) (lines out : List (List ℕ)) (end : End) → at.words ≡ words → at.image ≡ image
+  goes_by : (words : Words) (image : Image) (k : ℕ) (at : TellingSeen) (lines out : List (List ℕ)) (end : End) → at.words ≡ words → at.image ≡ image
       → at.ticks ≡ k → GoesFrom at lines out end → Goes words image (next_number k) at.control lines out end
   goes_by words image k at lines out end same here counts goes =
       subst (λ w. Goes w image (next_number k) at.control lines out end) same
@@ -140,12 +140,12 @@ module _ {A : Type 0} (stands : A → Standing) where
           failures = failed before after f came.failures;
         }
 
-pub came_well : {A : Type 0} (first : A) (stands : A → Standing) (words : Words) (image : Image) → IsFirst words image (stands first)
+pub came_well : {A : Type 0} (first : A) (stands : A → TellingSeen) (words : Words) (image : Image) → IsFirst words image (stands first)
     → (before after : Seen) (last : A) → played_came.CameTo (makes stands) (ends stands) first before after (Ok last)
     → CameTo words image before after (Ok (stands last).ticks)
 came_well first stands words image begun before after last came = came_to stands words image first begun before after last came
 
-pub came_from : {A : Type 0} (first : A) (stands : A → Standing) (words : Words) (image : Image) → IsFirst words image (stands first)
+pub came_from : {A : Type 0} (first : A) (stands : A → TellingSeen) (words : Words) (image : Image) → IsFirst words image (stands first)
     → (before after : Seen) (f : PlayFault) → played_came.CameTo (makes stands) (ends stands) first before after (Err f)
     → CameTo words image before after (Err f)
 came_from first stands words image begun before after f came = came_off stands words image first begun before after f came
@@ -154,8 +154,8 @@ came_from first stands words image begun before after f came = came_off stands w
 pub came_never : (words : Words) (image : Image) (at : Seen) (f : PlayFault) (result : Result ℕ PlayFault) → result ≡ Err f → f ≡ play_fault.Memory
     → CameTo words image at at result
 came_never words image at f result is memory =
-    let here : Standing = record { words = words; image = image; ticks = 0; control = initial image.program } in
+    let here : TellingSeen = record { words = words; image = image; ticks = 0; control = initial image.program } in
     let begun : IsFirst words image here = record { words_are = refl; image_is = refl; ticks = refl; control = refl } in
     rw (is, memory)
-    (came_off (λ (s : Standing). s) words image here begun at at play_fault.Memory
-    (none_came (λ (p : Standing) line q shown. Tells p line q shown) (λ (p : Standing) line end. Ends p line end) here at))
+    (came_off (λ (s : TellingSeen). s) words image here begun at at play_fault.Memory
+    (none_came (λ (p : TellingSeen) line q shown. Tells p line q shown) (λ (p : TellingSeen) line end. Ends p line end) here at))

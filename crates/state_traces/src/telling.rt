@@ -30,7 +30,7 @@ impl<'a, 'x, W: Words> LinePlayer for Telling<'a, 'x, W> {
     ghost use Rattle.std.proofs.Common.{inl};
     ghost use Rattle.sc_graph.specs.Tick.{Rests};
     ghost use Rattle.trace_player.specs.Trace.{next_number};
-    ghost use Rattle.state_traces.specs.Inside.Standing.{Ends, Tells};
+    ghost use Rattle.state_traces.specs.Inside.Telling.{Ends, Tells};
 
     ghost number = { λ p. next_number p.ticks };
 

@@ -6,18 +6,18 @@ use Rattle.ruled_traces.specs.Trace.{EndsAt, Makes}
 use Rattle.ruled_traces.specs.declared.place.RunPlace.{RunPlace}
 use Rattle.ruled_traces.specs.declared.rules.Rules.{Rules}
 
--- between two lines: the rules, the image and the place
-pub record Standing : Type 0 where
+-- what is seen of such a player between two lines: the rules, the image and the place
+pub record RuledSeen : Type 0 where
   pub rules : Rules
   pub image : Image
   pub place : RunPlace
 
 -- the next line leads to another place, and this is shown of it
-pub record Leads (at : Standing) (line : List ℕ) (to : Standing) (shown : List ℕ) : Type 0 where
+pub record Leads (at : RuledSeen) (line : List ℕ) (to : RuledSeen) (shown : List ℕ) : Type 0 where
   pub makes : Makes at.rules at.image at.place line to.place shown
   pub rules : to.rules ≡ at.rules
   pub image : to.image ≡ at.image
 
 -- the next line ends a trace
-abbrev pub Ends : Standing → List ℕ → End → Type 0
+abbrev pub Ends : RuledSeen → List ℕ → End → Type 0
 Ends at line end = EndsAt at.rules at.image.program (next_number at.place.lines) line end
