@@ -6,7 +6,7 @@ use Rattle.command_files.specs.declared.fault.LoadFault.TheVariants as load
 use Rattle.command_files.specs.Files.{Contents}
 use Rattle.command_words.specs.Request.{Request}
 use Rattle.sct_command.specs.declared.fault.Fault.TheVariants as fault
-use Rattle.sct_command.specs.Answer.{CountsFiles, IsRefused, Refuses, SaysBeside, SaysOfRefusal, TellsBeside, TellsFault}
+use Rattle.sct_command.specs.Answer.{CountsFiles, IsRefused, Refuses, SaysBeside, SaysOfRefusal, Seen, TellsBeside, TellsFault}
 use Rattle.sct_command.specs.Beside.{GoesOut, IsSaid}
 use Rattle.sct_command.specs.Failing.{reads_failed, writes_failed}
 use Rattle.sct_command.specs.Writing.{WritesPart}
@@ -36,47 +36,52 @@ pub told_more : (f : Fault) (a b : Bool) (report : List ℕ) (old new : Option (
     → TellsFault f a report old new failures failures' → TellsFault f (a || b) report old new failures failures'
 told_more f a b report old new failures failures' told = told_if f a (a || b) report old new failures failures' (more a b) told
 
-pub is_refused : (files files' : Option Contents) (request asked : Option Request) (input old new : Option (List ℕ)) (wanted given : Bool)
-    (missed missed' reads reads' writes writes' : ℕ) (report : List ℕ) (told told' : Option (List ℕ)) (failures failures' : ℕ) (f : Fault)
-    → request ≡ asked → given ≡ wanted → Refuses files files' asked input old new f → CountsFiles asked f missed missed'
-    → reads' ≡ reads + reads_failed f → writes' ≡ writes + writes_failed f → SaysOfRefusal files asked given f report
-    → TellsFault f given report told told' failures failures'
-    → IsRefused files files' request input old new wanted missed missed' reads reads' writes writes' told told' failures failures'
-is_refused files files' request asked input old new wanted given missed missed' reads reads' writes writes' report told told' failures failures' f same is why
-    counts read write says tells =
+pub is_refused : (before after : Seen) (request asked : Option Request) (wanted given : Bool) (report : List ℕ) (f : Fault)
+    → request ≡ asked → given ≡ wanted
+    → Refuses before.files.contents after.files.contents asked before.input.to_come before.output.taken after.output.taken f
+    → CountsFiles asked f before.files.failures after.files.failures → after.input.failures ≡ before.input.failures + reads_failed f
+    → after.output.failures ≡ before.output.failures + writes_failed f → SaysOfRefusal before.files.contents asked given f report
+    → TellsFault f given report before.errors.taken after.errors.taken before.errors.failures after.errors.failures
+    → IsRefused before after request wanted
+is_refused before after request asked wanted given report f same is why counts read write says tells =
     record {
       fault = f;
-      why = subst (λ r. Refuses files files' r input old new f) (sym same) why;
-      counts = subst (λ r. CountsFiles r f missed missed') (sym same) counts;
+      why =
+          subst (λ r. Refuses before.files.contents after.files.contents r before.input.to_come before.output.taken after.output.taken f) (sym same)
+          why;
+      counts = subst (λ r. CountsFiles r f before.files.failures after.files.failures) (sym same) counts;
       read = read;
       write = write;
       report = report;
-      reported = subst (λ w. SaysOfRefusal files request w f report) is (subst (λ r. SaysOfRefusal files r given f report) (sym same) says);
-      tells = subst (λ w. TellsFault f w report told told' failures failures') is tells;
+      reported =
+          subst (λ w. SaysOfRefusal before.files.contents request w f report) is
+          (subst (λ r. SaysOfRefusal before.files.contents r given f report) (sym same) says);
+      tells =
+          subst (λ w. TellsFault f w report before.errors.taken after.errors.taken before.errors.failures after.errors.failures) is tells;
     }
 
-plus_none : (n : ℕ) → n ≡ n + 0
-plus_none n = omega arith
+none_more : (n m : ℕ) → m ≡ n → m ≡ n + 0
+none_more n m same = omega (arith, same)
 
 -- memory was refused for words that ask for nothing
-pub memory_refused : (files : Option Contents) (request : Option Request) (input old : Option (List ℕ)) (people other : Bool)
-    (missed reads writes : ℕ) (told told' : Option (List ℕ)) (failures failures' : ℕ) → request ≡ None
-    → TellsFault (fault.Files load.Memory) people [] told told' failures failures'
-    → IsRefused files files request input old old (people || other) missed missed reads reads writes writes told told' failures failures'
-memory_refused files request input old people other missed reads writes told told' failures failures' none tells =
-    is_refused files files request None input old old (people || other) (people || other) missed missed reads reads writes writes [] told told' failures
-    failures' (fault.Files load.Memory) none refl refl (plus_none missed) (plus_none reads) (plus_none writes) refl
-    (told_more (fault.Files load.Memory) people other [] told told' failures failures' tells)
+pub memory_refused : (before after : Seen) (request : Option Request) (people other : Bool) → request ≡ None
+    → after.files.failures ≡ before.files.failures → after.input.failures ≡ before.input.failures
+    → after.output.taken ≡ before.output.taken → after.output.failures ≡ before.output.failures
+    → TellsFault (fault.Files load.Memory) people [] before.errors.taken after.errors.taken before.errors.failures after.errors.failures
+    → IsRefused before after request (people || other)
+memory_refused before after request people other none missed read taken write tells =
+    is_refused before after request None (people || other) (people || other) [] (fault.Files load.Memory) none refl taken
+    (none_more _ _ missed) (none_more _ _ read) (none_more _ _ write) refl (told_more (fault.Files load.Memory) people other [] _ _ _ _ tells)
 
 -- the help could not be shown
-pub help_refused : (files : Option Contents) (request : Option Request) (input old new : Option (List ℕ)) (people other : Bool)
-    (missed reads writes writes' : ℕ) (told told' : Option (List ℕ)) (failures failures' : ℕ) → request ≡ None → WritesPart old new
-    → writes' ≡ writes + 1 → TellsFault fault.Write people [] told told' failures failures'
-    → IsRefused files files request input old new (people || other) missed missed reads reads writes writes' told told' failures failures'
-help_refused files request input old new people other missed reads writes writes' told told' failures failures' none part once tells =
-    is_refused files files request None input old new (people || other) (people || other) missed missed reads reads writes writes' [] told told' failures
-    failures' fault.Write none refl part (plus_none missed) (plus_none reads) once refl
-    (told_more fault.Write people other [] told told' failures failures' tells)
+pub help_refused : (before after : Seen) (request : Option Request) (people other : Bool) → request ≡ None
+    → after.files.failures ≡ before.files.failures → after.input.failures ≡ before.input.failures
+    → WritesPart before.output.taken after.output.taken → after.output.failures ≡ before.output.failures + 1
+    → TellsFault fault.Write people [] before.errors.taken after.errors.taken before.errors.failures after.errors.failures
+    → IsRefused before after request (people || other)
+help_refused before after request people other none missed read part once tells =
+    is_refused before after request None (people || other) (people || other) [] fault.Write none refl part
+    (none_more _ _ missed) (none_more _ _ read) once refl (told_more fault.Write people other [] _ _ _ _ tells)
 
 -- ---- what is said beside what was done
 

@@ -25,6 +25,7 @@ use Rattle.sct_command.specs.Testing.{RefusesTests, TestsPass}
 use Rattle.sct_command.specs.Writing.{RefusesToWrite, Writes, WritesPart, WritesText}
 use Rattle.ruled_runs.specs.Met.{IsMet}
 use Rattle.sct_command.specs.Words.{TellsLines, fault_line}
+use Rattle.trace_player.specs.Channels.{SinkSeen, SourceSeen}
 use Rattle.trace_player.specs.Trace.{Plays, Good, Leaves}
 use Rattle.sct_command.specs.declared.fault.Fault.{Fault}
 use Rattle.sct_command.specs.declared.fault.Fault.TheVariants as fault
@@ -164,16 +165,26 @@ CountsFiles (Some (Explain name)) f old new = old + files_failed f ≤ new
 CountsFiles (Some (Test writes words)) f old new = old + files_failed f ≤ new
 CountsFiles request f old new = new ≡ old + files_failed f
 
+-- of files: what they hold, and how often they failed
+pub record FilesSeen : Type 0 where
+  pub contents : Option Contents
+  pub failures : ℕ
+
+-- of all that a command is given
+pub record Seen : Type 0 where
+  pub files : FilesSeen
+  pub input : SourceSeen
+  pub output : SinkSeen
+  pub errors : SinkSeen
+
 -- a request was refused for one fault, of which all that is left tells: the output, how often files, the input and the
 -- output failed, and the line of the fault
-pub record IsRefused (files files' : Option Contents) (request : Option Request) (input old new : Option (List ℕ))
-    (wanted : Bool) (missed missed' reads reads' writes writes' : ℕ)
-    (told told' : Option (List ℕ)) (failures failures' : ℕ) : Type 0 where
+pub record IsRefused (before after : Seen) (request : Option Request) (wanted : Bool) : Type 0 where
   pub fault : Fault
-  pub why : Refuses files files' request input old new fault
-  pub counts : CountsFiles request fault missed missed'
-  pub read : reads' ≡ reads + reads_failed fault
-  pub write : writes' ≡ writes + writes_failed fault
+  pub why : Refuses before.files.contents after.files.contents request before.input.to_come before.output.taken after.output.taken fault
+  pub counts : CountsFiles request fault before.files.failures after.files.failures
+  pub read : after.input.failures ≡ before.input.failures + reads_failed fault
+  pub write : after.output.failures ≡ before.output.failures + writes_failed fault
   pub report : List ℕ
-  pub reported : SaysOfRefusal files request wanted fault report
-  pub tells : TellsFault fault wanted report told told' failures failures'
+  pub reported : SaysOfRefusal before.files.contents request wanted fault report
+  pub tells : TellsFault fault wanted report before.errors.taken after.errors.taken before.errors.failures after.errors.failures

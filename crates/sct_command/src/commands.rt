@@ -266,12 +266,28 @@ pub fn command<T: Threads + Wait + Sync, F: Files, R: Source, W: Sink, X: Sink>(
     ensures none_missed { result ≡ DONE → F.failures files.new ≡ F.failures files.old }
 
     ensures refused { result ≡ REFUSED
-        → IsRefused (F.contents files.old) (F.contents files.new) (request_of (map string_bytes words.now))
-        (R.to_come input.old) (W.taken output.old) (W.taken output.new)
-        (are_people || explains (map string_bytes words.now))
-        (F.failures files.old) (F.failures files.new)
-        (R.failures input.old) (R.failures input.new) (W.failures output.old) (W.failures output.new)
-        (X.taken errors.old) (X.taken errors.new) (X.failures errors.old) (X.failures errors.new) }
+        → IsRefused
+        (record {
+          files = record { contents = F.contents files.old; failures = F.failures files.old };
+          input = record {
+            to_come = R.to_come input.old;
+            progress = R.progress input.old;
+            failures = R.failures input.old;
+          };
+          output = record { taken = W.taken output.old; failures = W.failures output.old };
+          errors = record { taken = X.taken errors.old; failures = X.failures errors.old };
+        })
+        (record {
+          files = record { contents = F.contents files.new; failures = F.failures files.new };
+          input = record {
+            to_come = R.to_come input.new;
+            progress = R.progress input.new;
+            failures = R.failures input.new;
+          };
+          output = record { taken = W.taken output.new; failures = W.failures output.new };
+          errors = record { taken = X.taken errors.new; failures = X.failures errors.new };
+        })
+        (request_of (map string_bytes words.now)) (are_people || explains (map string_bytes words.now)) }
 
     ensures misused { result ≡ MISUSED → request_of (map string_bytes words.now) ≡ None }
     ensures nothing { result ≡ MISUSED → W.taken output.new ≡ W.taken output.old }
