@@ -14,10 +14,11 @@ ghost use Rattle.sct_command.specs.Failing.{files_failed, reads_failed, writes_f
 use crate::fault::Fault;
 use crate::report::report_of;
 use crate::warnings::warnings_in;
+use crate::writing::write_bytes;
 use bytecode::Image;
 use command_files::{Files, Unmade, bytes_of, compile_read, reduced_source};
 use command_texts::summary_of;
-use sc_values::{Sink, write_all};
+use sc_values::Sink;
 use sqlite_items::Boxed;
 use std::alloc::{AllocError, Global};
 
@@ -39,10 +40,7 @@ fn tell<W: Sink>(
     ensures unread { IfErr result (λ fault. reads_failed fault ≡ 0) }
 {
     let text = report_of(alloc, name, bytes, written, &unmade.fault, unmade.source())?;
-    match write_all(output, text.as_bytes()) {
-        Ok(()) => Ok(()),
-        Err(_) => Err(Fault::Write),
-    }
+    write_bytes(output, text.as_bytes())
 }
 
 // Tells of a fault. Gives it, or why it could not be told.
@@ -94,10 +92,7 @@ fn tell_found<W: Sink>(
     ensures missed { IfErr result (λ fault. files_failed fault ≡ 0) }
 {
     let text = found_said(alloc, name, bytes, image)?;
-    match write_all(output, text.as_bytes()) {
-        Ok(()) => Ok(()),
-        Err(_) => Err(Fault::Write),
-    }
+    write_bytes(output, text.as_bytes())
 }
 
 // Compiles the source that these bytes are, and tells of its image, or of why it has none: in the text of its author,

@@ -5,10 +5,11 @@ ghost use Rattle.sct_command.specs.Failing.{files_failed, reads_failed, writes_f
 ghost use Rattle.sct_command.specs.Inside.StoredImage.{KeepsImage, RefusesKeeping};
 
 use crate::fault::Fault;
+use crate::writing::write_bytes;
 use bytecode::encode;
 use command_files::{Files, store};
 use command_texts::summary_of;
-use sc_values::{Sink, write_all};
+use sc_values::Sink;
 use std::alloc::Global;
 use verifier::Verified;
 
@@ -34,8 +35,5 @@ pub(crate) fn keep_image<F: Files, W: Sink>(
     let line = summary_of(alloc, image.image())?;
     let bytes = encode(alloc, image.image())?;
     store(alloc, files, to, &bytes)?;
-    match write_all(output, line.as_bytes()) {
-        Ok(()) => Ok(()),
-        Err(_) => Err(Fault::Write),
-    }
+    write_bytes(output, line.as_bytes())
 }

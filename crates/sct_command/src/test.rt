@@ -5,9 +5,10 @@ ghost use Rattle.sct_command.specs.Failing.{files_failed, reads_failed, writes_f
 ghost use Rattle.sct_command.specs.Testing.{RefusesTests, TestsPass};
 
 use crate::fault::Fault;
+use crate::writing::write_bytes;
 use command_files::Files;
 use command_tests::try_tests;
-use sc_values::{Sink, write_all};
+use sc_values::Sink;
 use std::alloc::Global;
 
 /// Tries the tests that words name, which are files or folders of them: compiles each text, plays the ticks beside it,
@@ -33,9 +34,10 @@ pub(crate) fn test_files<F: Files, W: Sink>(
     ensures missed { IfErr result (λ fault. F.failures files.old + files_failed fault ≤ F.failures files.new) }
 {
     let (told, failed) = try_tests(alloc, writes, words, files)?;
-    match write_all(output, told.as_bytes()) {
-        Ok(()) if failed == 0 => Ok(()),
-        Ok(()) => Err(Fault::Tests),
-        Err(_) => Err(Fault::Write),
+    write_bytes(output, told.as_bytes())?;
+    if failed == 0 {
+        Ok(())
+    } else {
+        Err(Fault::Tests)
     }
 }

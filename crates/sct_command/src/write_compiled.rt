@@ -14,9 +14,10 @@ ghost use Rattle.sct_command.specs.Writing.{RefusesToWrite, Writes};
 use crate::fault::Fault;
 use crate::source_image::{image_told, source_told};
 use crate::warnings::warnings_wanted;
+use crate::writing::write_bytes;
 use bytecode::{Image, encode};
 use command_files::Files;
-use sc_values::{Sink, write_all};
+use sc_values::Sink;
 use std::alloc::Global;
 
 // Writes the bytes of an image.
@@ -30,10 +31,7 @@ fn write_image<W: Sink>(alloc: Global, image: &Image, output: &mut W) -> Result<
     ensures missed { IfErr result (λ fault. files_failed fault ≡ 0) }
 {
     let bytes = encode(alloc, image)?;
-    match write_all(output, &bytes) {
-        Ok(()) => Ok(()),
-        Err(_) => Err(Fault::Write),
-    }
+    write_bytes(output, &bytes)
 }
 
 // Writes an image of the program in the file of this name, in which these bytes are, and says the warnings of them

@@ -2,7 +2,10 @@
 
 ghost use Rattle.command_texts.specs.Wanted.{IsMadeFor, LacksWanted};
 ghost use Rattle.command_words.specs.Request.{wanted_seen};
+ghost use Rattle.sc_values.specs.Streams.{GrowsInto};
+ghost use Rattle.std.specs.Io.KnownBytes.{Appends};
 ghost use Rattle.std.specs.Prelude.{◌≡◌, ◌+◌, IfErr, OnOk};
+ghost use Rattle.sct_command.specs.declared.fault.Fault.TheVariants as told;
 ghost use Rattle.sct_command.specs.Failing.{files_failed, reads_failed, writes_failed};
 ghost use Rattle.sct_command.specs.Writing.{RefusesMade, RefusesToWrite, Writes, WritesMade};
 
@@ -12,6 +15,22 @@ use command_texts::made_for;
 use command_words::Wanted;
 use sc_values::{Sink, write_all};
 use std::alloc::Global;
+
+/// Writes these bytes to the output. Err: the output failed, which took a beginning of them.
+pub(crate) fn write_bytes<W: Sink>(output: &mut W, bytes: &[u8]) -> Result<(), Fault>
+    ensures done { OnOk result (Appends (W.taken output.old) (W.taken output.new) bytes.now) }
+    ensures part { GrowsInto (W.taken output.old) (W.taken output.new) bytes.now }
+    ensures fault { IfErr result (λ fault. fault ≡ told.Write) }
+    ensures none_failed { OnOk result (W.failures output.new ≡ W.failures output.old) }
+    ensures failed { IfErr result (λ fault. W.failures output.new ≡ W.failures output.old + writes_failed fault) }
+    ensures unread { IfErr result (λ fault. reads_failed fault ≡ 0) }
+    ensures missed { IfErr result (λ fault. files_failed fault ≡ 0) }
+{
+    match write_all(output, bytes) {
+        Ok(()) => Ok(()),
+        Err(_) => Err(Fault::Write),
+    }
+}
 
 // Writes what was made to the output. Err: why it was not made, and then nothing is written; or the output failed.
 fn write_made<W: Sink>(made: Result<Vec<u8>, LoadFault>, output: &mut W) -> Result<(), Fault>
@@ -23,10 +42,7 @@ fn write_made<W: Sink>(made: Result<Vec<u8>, LoadFault>, output: &mut W) -> Resu
     ensures unread { IfErr result (λ fault. reads_failed fault ≡ 0) }
 {
     match made {
-        Ok(bytes) => match write_all(output, &bytes) {
-            Ok(()) => Ok(()),
-            Err(_) => Err(Fault::Write),
-        },
+        Ok(bytes) => write_bytes(output, &bytes),
         Err(fault) => Err(Fault::Files(fault)),
     }
 }
