@@ -1,17 +1,15 @@
 -- From what was made of the bytes of a file to what compiling leaves.
-use Rattle.std.proofs.Common.{◌≡◌, ◌∙◌, ℕ, Bool, List, [], Option, Result, Ok, Err, OnOk, OnErr, IfErr, inl, inr, refl, subst, sym}
+use Rattle.std.proofs.Common.{◌≡◌, ◌∙◌, ℕ, Bool, List, [], Option, Result, Ok, Err, OnOk, OnErr, IfErr, inl, inr, subst, sym}
 use Rattle.std.specs.Prelude.{◌⊎◌}
 use Rattle.bytecode.specs.Image.{Image}
 use Rattle.bytecode.specs.Spells.{Spells}
 use Rattle.command_files.proofs.Held.{compiled, no_compiled}
 use Rattle.command_files.specs.declared.fault.LoadFault.{LoadFault}
 use Rattle.command_files.specs.declared.fault.LoadFault.TheVariants as load
-use Rattle.command_files.specs.Counting.{files_failed}
 use Rattle.command_files.specs.Files.{Contents, HasBytes, Stores}
 use Rattle.command_files.specs.Sources.{BytesLackImage, FileLacksCompiled, SpellsImage}
 use Rattle.command_files.specs.Standing.{BytesLackSource, HasSource}
 use Rattle.command_files.specs.Storing.{IsNotStored}
-use Rattle.image_charts.proofs.TextImages.{quiet}
 use Rattle.sct_command.specs.declared.fault.Fault.{Fault}
 use Rattle.sct_command.specs.declared.fault.Fault.TheVariants as fault
 use Rattle.sct_command.specs.Beside.{AreWarnings, AreWarningsOf, IsReported, SaysOfFault}
@@ -22,16 +20,6 @@ use Rattle.sct_command.specs.Sources.{AreOfProgram, Compiles, RefusesCompile, Re
 use Rattle.sct_command.specs.Writing.{RefusesToWrite, Writes}
 
 -- ---- bytes that spell no image
-
--- no file failed because of them
-pub quiet_image : (bytes : List ℕ) (f : LoadFault) → BytesLackImage bytes f → files_failed f ≡ 0
-quiet_image bytes load.Memory none = refl
-quiet_image bytes (load.Image g) none = refl
-quiet_image bytes (load.Rule g) none = refl
-quiet_image bytes (load.Text g) none = refl
-quiet_image bytes (load.Program g) none = refl
-quiet_image bytes (load.File g) none = quiet bytes (load.File g) none
-quiet_image bytes (load.Source g) none = refl
 
 file_lacks : (files : Option Contents) (name bytes : List ℕ) (f : LoadFault) → HasSource files name bytes → BytesLackImage bytes f
     → FileLacksCompiled files name f
