@@ -1,6 +1,6 @@
 //! Lines and columns.
 
-use diagnostics::line_column_of;
+use node_sources::line_column_of;
 use std::test::Fail;
 
 #[test]

@@ -1,7 +1,7 @@
 //! What is known where a warning is told.
 
 use crate::places::ChartPlaces;
-use node_sources::name_at;
+use node_sources::name_in;
 use sc_graph::Variable;
 use sc_values::Kind;
 use sqlite_items::at;
@@ -19,12 +19,12 @@ pub(crate) struct WarnedText<'a> {
 impl<'a> WarnedText<'a> {
     /// The name of a variable. Err: memory was refused.
     pub(crate) fn variable(self, alloc: Global, number: usize) -> Result<String, AllocError> {
-        name_at(alloc, self.text, self.places.variable(number))
+        String::from_str(alloc, name_in(self.text, self.places.variable(number)))
     }
 
     /// The name of a state. Err: memory was refused.
     pub(crate) fn state(self, alloc: Global, number: usize) -> Result<String, AllocError> {
-        name_at(alloc, self.text, self.places.state(number))
+        String::from_str(alloc, name_in(self.text, self.places.state(number)))
     }
 
     /// The name of a region of a state. Err: memory was refused.
@@ -34,7 +34,7 @@ impl<'a> WarnedText<'a> {
         state: usize,
         number: usize,
     ) -> Result<String, AllocError> {
-        name_at(alloc, self.text, self.places.region(state, number))
+        String::from_str(alloc, name_in(self.text, self.places.region(state, number)))
     }
 
     /// The value at which a variable rests: `false` or 0.
