@@ -43,7 +43,7 @@ def seen(line):
 def answers_of(program, chart, ticks, source):
     """What the program tells of the chart's ticks, and of those of its core chart."""
     own, core = rows_of(ticks, runs_of(chart, ticks, source)), rows_of(ticks, runs_of(expand(chart), ticks, source))
-    asked = "\n".join(["", " ".join(text_of_chart(chart).split()), *own, "core", *core, ""])
+    asked = "\n".join(["", "=== machine", "", " ".join(text_of_chart(chart).split()), *own, "core", *core, ""])
     done = subprocess.run([program], input=asked.encode(), capture_output=True, timeout=120)
     lines = done.stdout.decode().splitlines()
     if done.returncode or len(lines) != 2 * len(ticks) + 2:

@@ -2,9 +2,10 @@
 
 ghost use Rattle.std.specs.Prelude.{◌≤◌, IfOk};
 
+use crate::answers::Answers;
 use crate::reading::{inputs, number, place};
 use crate::telling::{tell_any, tell_control};
-use row_answers::{Answers, Unanswered, halves, known};
+use crate::words::{Unanswered, halves, known};
 use sc_graph::ThreadId;
 use std::alloc::Global;
 use tick_core::{Claim, Done, TickState, Turn, evaluate};

@@ -3,10 +3,11 @@
 ghost use Rattle.std.specs.Prelude.{◌≡◌, IfOk, map};
 ghost use Rattle.sc_values.specs.Operator.{kind_of};
 
+use crate::answers::Answers;
 use crate::operations::{operations, tell_operations, word_of_combination};
 use crate::reading::{kinds, values};
 use crate::telling::word_of_kind;
-use row_answers::{Answers, Unanswered, halves, known};
+use crate::words::{Unanswered, halves, known};
 use sc_values::{
     CheckedCode, Code, CodedAssignment, Expr, Kind, Operands, Operation, Value, eval, grow_trees,
     only_tree,

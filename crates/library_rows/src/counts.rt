@@ -1,7 +1,8 @@
 //! Programs of so many rows, whatever rule they break: the counts that the layout of an image has room for.
 
+use crate::answers::Answers;
 use crate::reading::number;
-use row_answers::{Answers, Unanswered, halves, known};
+use crate::words::{Unanswered, halves, known};
 use sc_graph::{Node, Program, ProgramFault, Role, Step, Thread, ThreadId, Variable};
 use sc_values::{Kind, Name};
 use sqlite_items::Items;

@@ -1,7 +1,7 @@
 //! Images, spelled by their bytes.
 
+use crate::words::{Unanswered, known};
 use bytecode::{Image, decode};
-use row_answers::{Unanswered, known};
 use sqlite_items::Boxed;
 use std::alloc::Global;
 use verifier::{Verified, verify};

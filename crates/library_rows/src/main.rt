@@ -1,9 +1,11 @@
 //! Rows about what no command of `sct` reaches, each answered by a line: ticks by the claims of several workers, judged
-//! runs, the queue of claims, programs of nodes, names, operators and codes. The rows stand in tests/cases/library, and
-//! tests/cases/README.md tells how they are written.
+//! runs, the queue of claims, programs of nodes, names, operators and codes, and charts. The rows stand in
+//! tests/cases/library, and those about charts beside them; tests/cases/README.md tells how they are written.
 #![tactic(auto)]
 
 mod acts;
+mod answers;
+mod charts;
 mod codes;
 mod counts;
 mod images;
@@ -16,8 +18,9 @@ mod reading;
 mod rows;
 mod telling;
 mod ticks;
+mod words;
 
-use row_answers::Answers;
+use crate::answers::Answers;
 use std::io;
 
 fn main(rt: HostRuntime) -> io::Result<()> {

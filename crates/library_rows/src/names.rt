@@ -1,6 +1,7 @@
 //! Names: their bytes, their order, and how they print; and the texts of faults.
 
-use row_answers::{Answers, Unanswered, halves, known};
+use crate::answers::Answers;
+use crate::words::{Unanswered, halves, known};
 use sc_graph::ProgramFault;
 use sc_values::{CodeFault, Name};
 use std::alloc::Global;

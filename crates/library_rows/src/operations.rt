@@ -1,7 +1,8 @@
 //! The words of operations.
 
+use crate::answers::Answers;
 use crate::reading::{place, value};
-use row_answers::{Answers, Unanswered};
+use crate::words::Unanswered;
 use sc_values::{BinaryOperator, Combination, Divisor, Operation, UnaryOperator};
 use std::alloc::Global;
 

@@ -1,9 +1,10 @@
 //! What operators make of values and of kinds.
 
+use crate::answers::Answers;
 use crate::operations::{binary, combination, unary};
 use crate::reading::{kind, value};
 use crate::telling::{tell_any, word_of_kind};
-use row_answers::{Answers, Unanswered, halves, known};
+use crate::words::{Unanswered, halves, known};
 use sc_values::{Divisor, Kind, Value};
 
 // `OPERATOR VALUE`, or `OPERATOR VALUE VALUE`.

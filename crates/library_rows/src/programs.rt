@@ -2,9 +2,10 @@
 
 ghost use Rattle.sc_graph.specs.Valid.{IsFormed};
 
+use crate::answers::Answers;
 use crate::reading::{place, values};
 use crate::telling::{tell_control, tell_place};
-use row_answers::{Answers, Unanswered, halves, known};
+use crate::words::{Unanswered, halves, known};
 use sc_graph::{ConcurrentThreads, Control, Program, Status, Step, concurrent, lca};
 use sqlite_items::Items;
 use std::alloc::Global;

@@ -3,9 +3,10 @@
 ghost use Rattle.std.specs.Prelude.{All};
 ghost use Rattle.ready_queue.specs.Rule.{IsPassOf};
 
+use crate::answers::Answers;
 use crate::reading::number;
+use crate::words::{Unanswered, halves, known};
 use ready_queue::{Pass, ReadyQueue};
-use row_answers::{Answers, Unanswered, halves, known};
 use sc_graph::ThreadId;
 use sqlite_items::Items;
 use std::alloc::{AllocError, Global};

@@ -1,6 +1,6 @@
 //! What the words of a row stand for.
 
-use row_answers::{Unanswered, halves, known};
+use crate::words::{Unanswered, halves, known};
 use sc_values::{Kind, Name, Value};
 use sqlite_items::Items;
 use std::alloc::Global;

@@ -1,5 +1,7 @@
 //! Rows, each answered by a line.
 
+use crate::answers::Answers;
+use crate::charts::answer_part;
 use crate::codes::tell_code;
 use crate::counts::tell_counts;
 use crate::images::{decoded, verified};
@@ -9,11 +11,12 @@ use crate::programs::{control, tell_program};
 use crate::queues::tell_queue;
 use crate::telling::tell_control;
 use crate::ticks::{tell_judgement, tick};
+use crate::words::{Unanswered, halves};
 use bytecode::Image;
-use row_answers::{Answers, Unanswered, halves};
 use sc_graph::Control;
 use std::alloc::Global;
 use std::sync::Wait;
+use std::thread::Threads;
 use verifier::Verified;
 
 // Acts on a queue with as many places as this image has threads, given as `IMAGE: ACTS`.
@@ -134,8 +137,8 @@ fn answer_behind<R: Wait>(
     }
 }
 
-/// Answers all rows: those behind each row `image`. Err: a row means nothing, or memory was refused.
-pub(crate) fn answer<R: Wait>(
+// Answers the rows behind each row `image`.
+fn answer_of_images<R: Wait>(
     rt: &R,
     alloc: Global,
     text: &str,
@@ -145,6 +148,24 @@ pub(crate) fn answer<R: Wait>(
         if !part.is_empty() {
             answer_behind(rt, alloc, part, answers)?;
         }
+    }
+    Ok(())
+}
+
+/// Answers all rows: those behind each row `image`, and then those about charts, behind each line `=== SORT`. Err: a
+/// row means nothing, or memory was refused.
+pub(crate) fn answer<R: Threads + Wait + Sync>(
+    rt: &R,
+    alloc: Global,
+    text: &str,
+    answers: &mut Answers,
+) -> Result<(), Unanswered> {
+    let mut parts = text.split("\n=== ");
+    if let Some(first) = parts.next() {
+        answer_of_images(rt, alloc, first, answers)?;
+    }
+    for part in parts {
+        answer_part(rt, alloc, part, answers)?;
     }
     Ok(())
 }

@@ -1,6 +1,6 @@
 //! What is told of values, kinds, places and configurations.
 
-use row_answers::Answers;
+use crate::answers::Answers;
 use sc_graph::{Control, Place, Status};
 use sc_values::{Kind, Value};
 

@@ -3,9 +3,10 @@
 ghost use Rattle.sc_graph.specs.Tick.{Rests};
 
 use crate::acts::act_all;
+use crate::answers::Answers;
 use crate::reading::{inputs, places};
 use crate::telling::tell_control;
-use row_answers::{Answers, Unanswered, halves};
+use crate::words::{Unanswered, halves};
 use std::alloc::Global;
 use tick_core::{BeginFault, Control, Inputs, Judged, Report, TickState, begin, judge};
 use verifier::Verified;

@@ -1,4 +1,0 @@
-use Rattle.sc_values_tests.proofs.streams.keeps.Given as goal
-
-abbrev pub ghosts-keeps_so : goal.ghosts-keeps_so
-ghosts-keeps_so a = record { name = a.blank.name; parts = a.blank.parts }

@@ -1,4 +1,0 @@
-use Rattle.sc_values_tests.proofs.streams.writes_so.Given as goal
-
-abbrev pub ghosts-two_writes : goal.ghosts-two_writes
-ghosts-two_writes a = record { name = a.blank.name; parts = a.blank.parts }

@@ -1,5 +1,0 @@
-//! Tests of sources and sinks of bytes.
-#![tactic(auto)]
-
-#[cfg(test)]
-mod streams;

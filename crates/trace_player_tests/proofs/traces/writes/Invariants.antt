@@ -1,5 +1,0 @@
--- The sink counts its failures in a ledger of its own.
-use Rattle.trace_player_tests.proofs.traces.writes.Given as goal
-
-abbrev pub ghosts-plays : goal.ghosts-plays
-ghosts-plays g a = record { name = a.written.name; parts = a.written.parts }
