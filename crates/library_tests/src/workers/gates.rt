@@ -1,65 +1,11 @@
 //! Ticks whose steps pass a gate that watches them.
+use crate::gates::Meeting;
 use crate::samples::{MANY_BRANCHES, WRAPPING_SUM, WRITE_AND_READ};
 use crate::workers::ticks::first_report;
 use sc_graph::ThreadId;
 use std::sync::atomic::{AtomicU64, Ordering};
-use std::thread;
 use tick_core::{Entry, Report};
 use worker_pool::Gate;
-
-const TURNS: u64 = 10_000_000;
-
-// It holds the first step of thread 1 or 2 until the other's has come, for so many turns at most.
-#[derive(Drop)]
-struct Meeting {
-    one: AtomicU64,
-    two: AtomicU64,
-    // steps that bore worker 0, and first steps to which nobody came
-    missed: AtomicU64,
-}
-
-impl Meeting {
-    fn new() -> Meeting {
-        Meeting {
-            one: AtomicU64::new(0),
-            two: AtomicU64::new(0),
-            missed: AtomicU64::new(0),
-        }
-    }
-
-    fn meets(&self, mine: &AtomicU64, other: &AtomicU64) {
-        if mine.fetch_add(1, Ordering::SeqCst) > 0 {
-            return;
-        }
-        for _ in 0..TURNS {
-            if other.load(Ordering::SeqCst) > 0 {
-                return;
-            }
-            thread::yield_now();
-        }
-        self.missed.fetch_add(1, Ordering::SeqCst);
-    }
-
-    // Whether both came, and met.
-    fn met(&self) -> bool {
-        self.one.load(Ordering::SeqCst) > 0
-            && self.two.load(Ordering::SeqCst) > 0
-            && self.missed.load(Ordering::SeqCst) == 0
-    }
-}
-
-impl Gate for Meeting {
-    fn passing(&self, worker: u8, thread: ThreadId) {
-        if worker == 0 {
-            self.missed.fetch_add(1, Ordering::SeqCst);
-        }
-        match thread {
-            1 => self.meets(&self.one, &self.two),
-            2 => self.meets(&self.two, &self.one),
-            _ => {}
-        }
-    }
-}
 
 /// It counts passings, by worker.
 #[derive(Drop)]
@@ -124,7 +70,7 @@ fn are_at_once(gate: &Meeting, report: Option<Report>) -> bool {
 
 #[test]
 fn two_pieces_at_once(rt: HostRuntime) {
-    let gate = Meeting::new();
+    let gate = Meeting::of(1);
     assert!(rt;
         are_at_once(
             &gate,
@@ -144,7 +90,7 @@ fn are_handed_over(gate: &Meeting, report: Option<Report>) -> bool {
 
 #[test]
 fn handed_over(rt: HostRuntime) {
-    let gate = Meeting::new();
+    let gate = Meeting::of(1);
     assert!(rt;
         are_handed_over(
             &gate,

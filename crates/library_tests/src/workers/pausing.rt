@@ -1,4 +1,5 @@
 //! Ticks whose branches pause and go on, and aborts in aborts: their rounds are shared in every tick.
+use crate::gates::TURNS;
 use crate::samples::{ABRO, valid};
 use crate::workers::gates::Counting;
 use crate::workers::ticks::{tick, ticks_so};
@@ -12,8 +13,6 @@ use std::thread::Threads;
 use tick_core::Control;
 use verifier::Verified;
 use worker_pool::Gate;
-
-const TURNS: u64 = 10_000_000;
 
 // Four branches, each a loop of two steps and a pause.
 const PAUSING: [u8; 376] = [
