@@ -22,7 +22,6 @@ pub fn has_company(program: &Program, links: &Links, node: NodeId) -> bool
 }
 
 // Whether a thread, or one above it, is forked beside another one.
-#[tactic(auto, using(crate::proofs::Alone::further_up, crate::proofs::Alone::none_further, crate::proofs::Alone::child_within, crate::proofs::Alone::parent_less))]
 fn thread_has_company(program: &Program, links: &Links, thread: ThreadId) -> bool
     requires formed { IsFormed program.now }
     requires told { Tells program.now links.now }

@@ -42,7 +42,6 @@ pub fn expression(
 
 // All operands of a level.
 #[cycle(expression)]
-#[tactic(auto, using(crate::proofs::Chains::going_first, crate::proofs::Chains::going_first_stops, crate::proofs::Chains::going_ends, crate::proofs::Chains::going_over, crate::proofs::Chains::going_stops, crate::proofs::Chains::going_on))]
 fn chain<'a>(
     level: Level,
     depth: u8,
@@ -88,7 +87,6 @@ fn operand<'a>(
 
 // An operator of the level and its right operand, or a division.
 #[cycle(expression)]
-#[tactic(auto, using(crate::proofs::Chains::divided_stops, crate::proofs::Chains::divided_reads, crate::proofs::Chains::operator_stops, crate::proofs::Chains::right_stops, crate::proofs::Chains::right_reads))]
 fn right<'a>(
     level: Level,
     depth: u8,
@@ -111,7 +109,6 @@ fn right<'a>(
 }
 
 #[cycle(expression)]
-#[tactic(auto, using(crate::proofs::Chains::first_sum_stops, crate::proofs::Chains::lone_sum_reads, crate::proofs::Chains::comparator_stops, crate::proofs::Chains::second_sum_stops, crate::proofs::Chains::compared_reads))]
 fn comparison<'a>(
     depth: u8,
     tokens: &'a [Token],
@@ -133,7 +130,6 @@ fn comparison<'a>(
 }
 
 #[cycle(expression)]
-#[tactic(auto, using(crate::proofs::Nesting::no_not_stops, crate::proofs::Nesting::no_not_reads, crate::proofs::Nesting::not_deep, crate::proofs::Nesting::not_stops, crate::proofs::Nesting::not_reads))]
 fn negation<'a>(
     depth: u8,
     tokens: &'a [Token],
@@ -157,7 +153,6 @@ fn negation<'a>(
 }
 
 #[cycle(expression)]
-#[tactic(auto, using(crate::proofs::Nesting::no_minus_stops, crate::proofs::Nesting::no_minus_reads, crate::proofs::Nesting::minus_deep, crate::proofs::Nesting::negated_stops, crate::proofs::Nesting::negated_reads))]
 fn unary<'a>(
     depth: u8,
     tokens: &'a [Token],
@@ -181,7 +176,6 @@ fn unary<'a>(
 }
 
 #[cycle(expression)]
-#[tactic(auto, using(crate::proofs::Nesting::atom_deep, crate::proofs::Nesting::flat_leaf_stops, crate::proofs::Nesting::flat_leaf_reads, crate::proofs::Nesting::inside_stops, crate::proofs::Nesting::inside_reads, crate::proofs::Nesting::call_stops, crate::proofs::Nesting::call_reads, crate::proofs::Nesting::leaf_stops, crate::proofs::Nesting::leaf_reads))]
 fn atom<'a>(
     depth: u8,
     tokens: &'a [Token],
@@ -213,7 +207,6 @@ fn atom<'a>(
 
 // An expression and the sign that closes it.
 #[cycle(expression)]
-#[tactic(auto, using(crate::proofs::Nesting::closed_stops, crate::proofs::Nesting::unclosed_stops, crate::proofs::Nesting::closed_reads))]
 fn closed<'a>(
     depth: u8,
     closing: Sign,
@@ -232,7 +225,6 @@ fn closed<'a>(
 }
 
 #[cycle(expression)]
-#[tactic(auto, using(crate::proofs::Nesting::function_stops, crate::proofs::Nesting::opening_stops, crate::proofs::Nesting::first_stops, crate::proofs::Nesting::second_stops, crate::proofs::Nesting::called_reads))]
 fn call<'a>(
     depth: u8,
     tokens: &'a [Token],

@@ -64,7 +64,6 @@ impl ParkedSpace {
     }
 
     // Makes the room that the ticks of an image take.
-    #[tactic(auto, using(crate::proofs::ListedCopied::spare_listed))]
     pub(super) fn fill(&mut self, alloc: Global, verified: &Verified) -> Result<(), AllocError>
         requires forks { FindsForks verified.now.program self.old.joins }
         requires rows { OwnRows verified.now.program verified.now.tables self.old.rows }

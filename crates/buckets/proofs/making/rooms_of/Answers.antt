@@ -1,5 +1,5 @@
 use Rattle.std.proofs.Common.{◌∙◌, ◌+◌, ◌<◌, ap, arith, length, slice_index}
-use Rattle.std.proofs.lemmas.Grind.{get_or_default_zero}
+use Rattle.std.proofs.lemmas.Grind.{get_or_default_zero, common_steps, elements}
 use Rattle.buckets.proofs.Counting.{count_more}
 use Rattle.buckets.proofs.making.rooms_of.Goals as goal
 
@@ -12,3 +12,12 @@ loop-place-preserved c =
     count_more c.loop-place.rooms.items c.args.places.now c.loop-place.place-index _ c.loop-place.invariant below known _
     (ap (λ n. n + 1) (c.index_mut.ensures.value ∙ get_or_default_zero c.loop-place.rooms.items (slice_index c.args.places.now c.loop-place.place-index)
     c.index_mut.result.now there))
+
+pub returns-clause-rooms : goal.returns-clause-rooms
+returns-clause-rooms c = grind (arith, elements) steps 2000000
+
+pub loop-place-init : goal.loop-place-init
+loop-place-init c = grind (arith, common_steps) steps 2000000
+
+pub overflow_add-index_mut : goal.overflow_add-index_mut
+overflow_add-index_mut c = grind (arith, common_steps) steps 2000000

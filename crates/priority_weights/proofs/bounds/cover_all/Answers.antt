@@ -1,4 +1,5 @@
-use Rattle.std.proofs.Common.{ℕ, ◌<◌, List, inl, inr, sum, sym, ◌∙◌, subst}
+use Rattle.std.proofs.lemmas.Grind.{elements}
+use Rattle.std.proofs.Common.{ℕ, ◌<◌, List, inl, inr, sum, sym, ◌∙◌, subst, arith}
 use Rattle.std.specs.Prelude.{slice_index}
 use Rattle.sc_graph.proofs.Each.{below_or_at}
 use Rattle.priority_weights.specs.Inside.Bounds.{AreUnder, IsCovered}
@@ -39,3 +40,6 @@ loop-node-preserved c =
             ];
           }
     ]
+
+pub returns : goal.returns
+returns c = grind (arith, elements) steps 2000000

@@ -1,4 +1,5 @@
-use Rattle.std.proofs.Common.{ap, ◌∙◌, refl, slice_get}
+use Rattle.std.proofs.lemmas.Grind.{elements}
+use Rattle.std.proofs.Common.{ap, ◌∙◌, refl, slice_get, arith}
 use Rattle.sc_graph.specs.Inside.Fits.{ChildrenStand}
 use Rattle.sc_graph.proofs.Each.{each_more, each_of_all}
 use Rattle.sc_graph.proofs.resting.all_children_stand.Goals as goal
@@ -17,3 +18,6 @@ returns c = (
   },
   λ all. refl,
 )
+
+pub returns-then-not-children_stand : goal.returns-then-not-children_stand
+returns-then-not-children_stand c = grind (arith, elements) steps 2000000

@@ -1,3 +1,4 @@
+use Rattle.std.proofs.lemmas.Grind.{elements}
 use Rattle.std.proofs.Common.{◌≡◌, ◌<◌, Some, None, length, slice_get, refl, sym, subst, arith}
 use Rattle.std.proofs.lemmas.Option.{slice_get_read, slice_get_within}
 use Rattle.tick_core.specs.Inside.Inputs.{IsForAt, NamesInput}
@@ -62,3 +63,24 @@ returns-clause-accepted c = (
       c.loop-at.invariant.accepted i a (omega (arith, c.loop-at-test.false)) is),
   λ all. refl,
 )
+
+pub returns-in_default-clause-given : goal.returns-in_default-clause-given
+returns-in_default-clause-given c = grind (arith, elements) steps 2000000
+
+pub returns-in_default-clause-places : goal.returns-in_default-clause-places
+returns-in_default-clause-places c = grind (arith, elements) steps 2000000
+
+pub returns-then-is_given-clause-given : goal.returns-then-is_given-clause-given
+returns-then-is_given-clause-given c = grind (arith, elements) steps 2000000
+
+pub returns-then-is_given-clause-places : goal.returns-then-is_given-clause-places
+returns-then-is_given-clause-places c = grind (arith, elements) steps 2000000
+
+pub returns-clause-given : goal.returns-clause-given
+returns-clause-given c = grind (arith, elements) steps 2000000
+
+pub returns-clause-places : goal.returns-clause-places
+returns-clause-places c = grind (arith, elements) steps 2000000
+
+pub loop-at-init : goal.loop-at-init
+loop-at-init c = grind (arith, elements) steps 2000000

@@ -1,4 +1,5 @@
-use Rattle.std.proofs.Common.{◌≡◌, ◌∙◌, ap, subst, sym, rules}
+use Rattle.std.proofs.lemmas.Grind.{elements}
+use Rattle.std.proofs.Common.{◌≡◌, ◌∙◌, ap, subst, sym, rules, arith}
 use Rattle.sc_graph.specs.Tick.{start}
 use Rattle.tick_core.specs.State.{BeginsTick}
 use Rattle.sc_graph.specs.declared.control.Control.{Control}
@@ -45,3 +46,24 @@ returns-in-Whole-clause-judged c =
     judged_run p c.args.verified.now.tables c.in_ok-reached.reached c.image.ensures.valid begins c.args.run.now c.replay.new.control
     c.in-Whole.steps.items c.deref.result.now by c.deref.ensures.value c.judge_steps.result c.judge_steps.ensures
     (start p c.args.inputs.now c.args.control.now) begun
+
+pub returns-then-not-are_accepted-clause-judged : goal.returns-then-not-are_accepted-clause-judged
+returns-then-not-are_accepted-clause-judged c = grind (arith, elements) steps 2000000
+
+pub returns-then-not-are_accepted-clause-accepted : goal.returns-then-not-are_accepted-clause-accepted
+returns-then-not-are_accepted-clause-accepted c = grind (arith, elements) steps 2000000
+
+pub returns-then-not-are_accepted-clause-refused : goal.returns-then-not-are_accepted-clause-refused
+returns-then-not-are_accepted-clause-refused c = grind (arith, elements) steps 2000000
+
+pub returns-in-Stopped-clause-accepted : goal.returns-in-Stopped-clause-accepted
+returns-in-Stopped-clause-accepted c = grind (arith, elements) steps 2000000
+
+pub returns-in-Stopped-clause-refused : goal.returns-in-Stopped-clause-refused
+returns-in-Stopped-clause-refused c = grind (arith, elements) steps 2000000
+
+pub returns-in-Whole-clause-accepted : goal.returns-in-Whole-clause-accepted
+returns-in-Whole-clause-accepted c = grind (arith, elements) steps 2000000
+
+pub returns-in-Whole-clause-refused : goal.returns-in-Whole-clause-refused
+returns-in-Whole-clause-refused c = grind (arith, elements) steps 2000000

@@ -1,3 +1,4 @@
+use Rattle.std.proofs.lemmas.Grind.{elements}
 use Rattle.std.proofs.Common.{◌∙◌, Option, ℕ, arith, ap, sym, subst, slice_set}
 use Rattle.buckets.specs.Rows.{HasRoom}
 use Rattle.tick_core.proofs.OwnRoom.{room_there}
@@ -33,3 +34,6 @@ pub returns-clause-counted : goal.returns-clause-counted
 returns-clause-counted c =
     all_counted c.args.program.now c.args.control.now c.loop-thread.counts.items c.requires.configuration c.loop-thread.invariant.long
     (λ t j less. c.loop-thread.invariant.counted t j (omega (arith, less, c.loop-thread-test.false, c.thread_count-thread-end.ensures.count)))
+
+pub returns-clause-sorted : goal.returns-clause-sorted
+returns-clause-sorted c = grind (arith, elements) steps 2000000

@@ -1,5 +1,5 @@
 use Rattle.std.proofs.Common.{arith, ◌≡◌, ◌∙◌, ◌<◌, ◌+◌, length, slice_index, slice_get, Some, None}
-use Rattle.std.proofs.lemmas.Grind.{get_or_default_zero}
+use Rattle.std.proofs.lemmas.Grind.{get_or_default_zero, common_steps, elements}
 use Rattle.buckets.proofs.Entering.{has_entered, free_place, FreePlace}
 use Rattle.buckets.proofs.rows.Rows.put_in.Goals as goal
 
@@ -33,3 +33,9 @@ invariant_of-self c =
     rw count_is (has_entered _ _ _ _ _ _ _ _ c.self.invariant c.args.item c.args.class (c.index.result.now + c.index-2.result.now) c.max-self-inside.result
     nowhere known (rw (← c.self.view_is) at c.requires.room.2)
     (omega (arith, c.index.ensures, c.index-2.ensures, start, count)) (omega (arith, c.max-self-inside.ensures)) (omega (arith, c.max-self-inside.ensures)))
+
+pub overflow_add-at : goal.overflow_add-at
+overflow_add-at c = grind (arith, elements) steps 2000000
+
+pub overflow_add-self : goal.overflow_add-self
+overflow_add-self c = grind (arith, common_steps) steps 2000000

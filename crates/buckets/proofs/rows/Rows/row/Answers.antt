@@ -1,5 +1,5 @@
 use Rattle.std.proofs.Common.{◌≡◌, ◌∙◌, ◌-◌, ◌+◌, ◌<◌, ap, subst, arith, length, slice_index, take, drop}
-use Rattle.std.proofs.lemmas.Grind.{get_or_default_zero}
+use Rattle.std.proofs.lemmas.Grind.{get_or_default_zero, elements}
 use Rattle.buckets.specs.Rows.{Rows, IsRow}
 use Rattle.buckets.proofs.Reading.{row_is, start_known}
 use Rattle.buckets.proofs.rows.Rows.row.Goals as goal
@@ -22,3 +22,12 @@ returns-then-class-len c =
     ∙ (ap (λ n. take (slice_index c.self.inside.counts.items c.args.class) (drop n c.deref.result.now)) start_is
     ∙ ap (λ xs. take (slice_index c.self.inside.counts.items c.args.class) (drop (slice_index c.self.inside.starts.items c.args.class) xs))
     c.deref.ensures.value)))
+
+pub overflow_add-result : goal.overflow_add-result
+overflow_add-result c = grind (arith, elements) steps 2000000
+
+pub offset_bounds-deref-start : goal.offset_bounds-deref-start
+offset_bounds-deref-start c = grind (arith, elements) steps 2000000
+
+pub slice_bounds-result-end : goal.slice_bounds-result-end
+slice_bounds-result-end c = grind (arith, elements) steps 2000000

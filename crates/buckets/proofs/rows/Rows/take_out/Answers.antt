@@ -1,5 +1,5 @@
 use Rattle.std.proofs.Common.{arith, ◌≡◌, ◌∙◌, ◌+◌, ◌-◌, ap, slice_index}
-use Rattle.std.proofs.lemmas.Grind.{get_or_default_zero}
+use Rattle.std.proofs.lemmas.Grind.{get_or_default_zero, common_steps, elements}
 use Rattle.buckets.specs.Rows.{IsIn}
 use Rattle.buckets.proofs.Classes.{stood_in}
 use Rattle.buckets.proofs.Leaving.{has_left, stands_in, StandsIn}
@@ -83,3 +83,18 @@ invariant_of-self c =
     ∙ ap (λ n. slice_index c.self.inside.row.items (n + (c.index-2.result.now - 1))) start_is) in
     has_left _ _ _ _ _ _ _ _ c.self.invariant c.args.item c.in-Some.class c.index-at.result.now (c.index-2.result.now - 1) c.index-last.result.now is at_is
     (ap (λ n. n - 1) count_is) last_is
+
+pub index-requires-2 : goal.index-requires-2
+index-requires-2 c = grind (arith, elements) steps 2000000
+
+pub overflow_sub-count : goal.overflow_sub-count
+overflow_sub-count c = grind (arith, elements) steps 2000000
+
+pub index-requires-3 : goal.index-requires-3
+index-requires-3 c = grind (arith, elements) steps 2000000
+
+pub returns-in_default : goal.returns-in_default
+returns-in_default c = grind (arith, common_steps) steps 2000000
+
+pub overflow_sub-self : goal.overflow_sub-self
+overflow_sub-self c = grind (arith, common_steps) steps 2000000

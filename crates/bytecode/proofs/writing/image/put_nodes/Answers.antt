@@ -1,3 +1,4 @@
+use Rattle.std.proofs.lemmas.Grind.{elements}
 use Rattle.std.proofs.Common.{◌≡◌, ◌+◌, ◌++◌, ◌∷◌, [], List, ℕ, length, take, ap, ◌∙◌, arith}
 use Rattle.std.proofs.lemmas.List.{flat_map_more}
 use Rattle.bytecode.specs.declared.rows.NodeRow.{NodeRow}
@@ -23,3 +24,12 @@ loop-n-preserved c =
           ∙ flat_map_more node_bytes c.args.out.now.items front row;
       fits = all_push (SayableNode 2) front row c.loop-n.invariant.fits c.in_ok-put_node.ensures.fits;
     })
+
+pub put_node-requires : goal.put_node-requires
+put_node-requires c = grind (arith, elements) steps 2000000
+
+pub returns-clause-written : goal.returns-clause-written
+returns-clause-written c = grind (arith, elements) steps 2000000
+
+pub returns-clause-fits : goal.returns-clause-fits
+returns-clause-fits c = grind (arith, elements) steps 2000000

@@ -1,3 +1,4 @@
+use Rattle.std.proofs.lemmas.Grind.{elements}
 use Rattle.std.proofs.Common.{◌≡◌, ◌+◌, ◌++◌, ◌∷◌, [], List, ℕ, None, get_or, length, take, refl, ap, ◌∙◌, arith}
 use Rattle.std.proofs.lemmas.List.{flat_map_more}
 use Rattle.bytecode.specs.declared.rows.ThreadRow.{ThreadRow}
@@ -22,3 +23,12 @@ loop-t-preserved c =
           ∙ flat_map_more thread_bytes c.args.out.now.items front row;
       fits = all_push SayableThread front row c.loop-t.invariant.fits c.in_ok-put_thread.ensures.fits;
     })
+
+pub put_thread-requires : goal.put_thread-requires
+put_thread-requires c = grind (arith, elements) steps 2000000
+
+pub returns-clause-written : goal.returns-clause-written
+returns-clause-written c = grind (arith, elements) steps 2000000
+
+pub returns-clause-fits : goal.returns-clause-fits
+returns-clause-fits c = grind (arith, elements) steps 2000000

@@ -1,4 +1,5 @@
-use Rattle.std.proofs.Common.{take, get_or}
+use Rattle.std.proofs.lemmas.Grind.{elements}
+use Rattle.std.proofs.Common.{take, get_or, arith}
 use Rattle.std.proofs.lemmas.Option.{slice_get-get_or}
 use Rattle.tick_core.proofs.Replaying.{reached_by, some_step, runs_more}
 use Rattle.tick_core.proofs.judging.replaying.replay.Goals as goal
@@ -28,3 +29,6 @@ pub loop-at-preserved : goal.loop-at-preserved
 loop-at-preserved c =
     runs_more c.args.verified.now.program c.args.control.now c.loop-at.control c.step_if_enabled.new.control c.args.run.now c.loop-at.at c.in-Some.node
     c.loop-at.steps.items c.push.new.self.items c.loop-at-test.true c.loop-at.invariant c.in-Some.ensures c.in_ok-push-in-Some.ensures.items
+
+pub returns : goal.returns
+returns c = grind (arith, elements) steps 2000000

@@ -1,4 +1,5 @@
-use Rattle.std.proofs.Common.{◌≡◌, ◌∙◌, length, ap, sym, subst}
+use Rattle.std.proofs.lemmas.Grind.{elements}
+use Rattle.std.proofs.Common.{◌≡◌, ◌∙◌, length, ap, sym, subst, arith}
 use Rattle.sc_graph.specs.declared.control.Control.{Control}
 use Rattle.sc_graph.specs.Tick.{Rests, start}
 use Rattle.bytecode.specs.Image.{Image}
@@ -79,3 +80,36 @@ begin_listed-requires-clause-space c =
     (subst (λ (d : Control). AllListed d.statuses c.list_present.new.self.listed.items) (sym started)
     (listed_started c.program-program.result.now c.as_slice.result.now c.args.control c.list_present.new.self.listed.items
     c.if-list_present.ensures.listed))
+
+pub returns-then-not-take-clause-accepted : goal.returns-then-not-take-clause-accepted
+returns-then-not-take-clause-accepted c = grind (arith, elements) steps 2000000
+
+pub returns-then-not-take-clause-start : goal.returns-then-not-take-clause-start
+returns-then-not-take-clause-start c = grind (arith, elements) steps 2000000
+
+pub returns-then-not-take-clause-refused : goal.returns-then-not-take-clause-refused
+returns-then-not-take-clause-refused c = grind (arith, elements) steps 2000000
+
+pub returns-then-not-take-clause-why : goal.returns-then-not-take-clause-why
+returns-then-not-take-clause-why c = grind (arith, elements) steps 2000000
+
+pub returns-then-list_present-clause-accepted : goal.returns-then-list_present-clause-accepted
+returns-then-list_present-clause-accepted c = grind (arith, elements) steps 2000000
+
+pub returns-then-list_present-clause-start : goal.returns-then-list_present-clause-start
+returns-then-list_present-clause-start c = grind (arith, elements) steps 2000000
+
+pub returns-then-list_present-clause-refused : goal.returns-then-list_present-clause-refused
+returns-then-list_present-clause-refused c = grind (arith, elements) steps 2000000
+
+pub returns-then-list_present-clause-why : goal.returns-then-list_present-clause-why
+returns-then-list_present-clause-why c = grind (arith, elements) steps 2000000
+
+pub returns-clause-accepted : goal.returns-clause-accepted
+returns-clause-accepted c = grind (arith, elements) steps 2000000
+
+pub returns-clause-refused : goal.returns-clause-refused
+returns-clause-refused c = grind (arith, elements) steps 2000000
+
+pub returns-clause-why : goal.returns-clause-why
+returns-clause-why c = grind (arith, elements) steps 2000000

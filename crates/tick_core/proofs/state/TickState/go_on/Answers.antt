@@ -1,3 +1,4 @@
+use Rattle.std.proofs.lemmas.Grind.{elements}
 use Rattle.std.proofs.Common.{◌≡◌, ◌<◌, ◌∙◌, None, length, refl, sym, ap, subst, arith}
 use Rattle.std.proofs.lemmas.List.{length-map}
 use Rattle.sc_values.specs.Runs.{IsOver}
@@ -112,3 +113,30 @@ returns-clause-start c =
     let given = started ∙ ap (λ i. start c.self.inside.verified.now.program i c.self.inside.present) c.as_slice.ensures in
     begun_anew _ _ c.self.view_is c.self.invariant.0 c.requires c.args.inputs.now c.start_anew.new.begun c.start_anew.new.present c.clear.new.self.items
     (c.start_anew.ensures.same ∙ given) given c.clear.ensures.items
+
+pub returns-then-not-take-clause-accepted : goal.returns-then-not-take-clause-accepted
+returns-then-not-take-clause-accepted c = grind (arith, elements) steps 2000000
+
+pub returns-then-not-take-clause-start : goal.returns-then-not-take-clause-start
+returns-then-not-take-clause-start c = grind (arith, elements) steps 2000000
+
+pub returns-then-not-take-clause-refused : goal.returns-then-not-take-clause-refused
+returns-then-not-take-clause-refused c = grind (arith, elements) steps 2000000
+
+pub returns-then-not-take-clause-same : goal.returns-then-not-take-clause-same
+returns-then-not-take-clause-same c = grind (arith, elements) steps 2000000
+
+pub returns-then-not-take-clause-why : goal.returns-then-not-take-clause-why
+returns-then-not-take-clause-why c = grind (arith, elements) steps 2000000
+
+pub returns-clause-accepted : goal.returns-clause-accepted
+returns-clause-accepted c = grind (arith, elements) steps 2000000
+
+pub returns-clause-refused : goal.returns-clause-refused
+returns-clause-refused c = grind (arith, elements) steps 2000000
+
+pub returns-clause-same : goal.returns-clause-same
+returns-clause-same c = grind (arith, elements) steps 2000000
+
+pub returns-clause-why : goal.returns-clause-why
+returns-clause-why c = grind (arith, elements) steps 2000000

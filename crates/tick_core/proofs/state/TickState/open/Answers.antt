@@ -1,3 +1,4 @@
+use Rattle.std.proofs.lemmas.Grind.{common_steps, elements}
 use Rattle.std.proofs.Common.{◌+◌, ◌<◌, ◌∙◌, length, slice_get, refl, sym, ap, arith}
 use Rattle.sc_graph.specs.Control.{status_of}
 use Rattle.sc_graph.specs.Tables.{priority_of}
@@ -29,3 +30,12 @@ invariant_of-self c =
       c.self.invariant.7,
       c.self.invariant.8,
     )
+
+pub returns : goal.returns
+returns c = grind (arith, elements) steps 2000000
+
+pub index_mut-requires : goal.index_mut-requires
+index_mut-requires c = grind (arith, elements) steps 2000000
+
+pub overflow_add-self : goal.overflow_add-self
+overflow_add-self c = grind (arith, common_steps) steps 2000000

@@ -1,0 +1,12 @@
+use Rattle.std.proofs.lemmas.Grind.{common_steps, elements}
+use Rattle.std.proofs.Common.{arith}
+use Rattle.bytecode.proofs.writing.nodes.put_children.Goals as goal
+
+pub returns-clause-written : goal.returns-clause-written
+returns-clause-written c = grind (arith, elements) steps 2000000
+
+pub returns-clause-fits : goal.returns-clause-fits
+returns-clause-fits c = grind (arith, elements) steps 2000000
+
+pub loop-child-preserved : goal.loop-child-preserved
+loop-child-preserved c = grind (arith, common_steps) steps 2000000

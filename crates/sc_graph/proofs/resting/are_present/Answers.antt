@@ -1,0 +1,9 @@
+use Rattle.std.proofs.lemmas.Grind.{elements}
+use Rattle.std.proofs.Common.{arith}
+use Rattle.sc_graph.proofs.resting.are_present.Goals as goal
+
+pub loop-child-preserved : goal.loop-child-preserved
+loop-child-preserved c = grind (arith, elements) steps 2000000
+
+pub returns : goal.returns
+returns c = grind (arith, elements) steps 2000000
