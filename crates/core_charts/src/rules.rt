@@ -42,19 +42,23 @@ pub(crate) fn is_chart(
     ensures { IfOk result (λ yes. IsTrue yes ↔ IsChart features
         (record { name = name.now; variables = variables.now; regions = regions.now })) }
 {
-    let kinds = kinds_of(alloc, variables)?;
     let language = features.language();
+    if !language.takes_name(name) {
+        return Ok(false);
+    }
+    if !language.takes_variables(alloc, variables)? {
+        return Ok(false);
+    }
+    if regions.is_empty() {
+        return Ok(false);
+    }
+    let kinds = kinds_of(alloc, variables)?;
     let frame = Frame {
         features,
         variables,
         kinds: &kinds,
     };
-    Ok(
-        language.takes_name(name)
-            && language.takes_variables(alloc, variables)?
-            && !regions.is_empty()
-            && frame.are_regions(alloc, DEPTH_LIMIT, regions)?,
-    )
+    frame.are_regions(alloc, DEPTH_LIMIT, regions)
 }
 
 fn kinds_of(alloc: Global, variables: &[Variable]) -> Result<Vec<Kind>, AllocError>
