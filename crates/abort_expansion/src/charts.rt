@@ -38,7 +38,6 @@ fn core_variables(chart: &Chart) -> Result<usize, AllocError>
 }
 
 // The expansion of a chart that has one.
-#[tactic(auto, using(crate::proofs::Whole::core_chart, crate::proofs::FewRegions::keeps_limits))]
 fn expanded(alloc: Global, chart: &Chart) -> Result<(CoreChart, StateMap), AllocError>
     requires few { 1 + superstates_in (map piece_of_region chart.now.regions) ≤ 2 ^ 64 }
     requires fits { IsExpandable chart.now }

@@ -57,8 +57,8 @@ fn put_regions(
     Ok(())
 }
 
-#[cycle(text)]
 #[tactic(auto, using(crate::proofs::PieceParts::region_made))]
+#[cycle(text)]
 fn put_region(
     alloc: Global,
     region: &Region,
@@ -155,8 +155,8 @@ fn put_states(
     Ok(())
 }
 
-#[cycle(text)]
 #[tactic(auto, using(crate::proofs::PieceParts::simple_made, crate::proofs::PieceParts::superstate_made))]
+#[cycle(text)]
 fn put_state(
     alloc: Global,
     state: &State,

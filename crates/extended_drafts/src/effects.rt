@@ -98,7 +98,6 @@ fn combining(alloc: Global, ahead: &mut Ahead, end: usize) -> Result<CompoundSig
 }
 
 // What stands behind the first name of an effect.
-#[tactic(auto, using(crate::proofs::EffectParts::becoming_gives, crate::proofs::EffectParts::becoming_stops, crate::proofs::EffectParts::combined_gives, crate::proofs::EffectParts::combined_stops, crate::proofs::EffectParts::emitting_gives, crate::proofs::EffectParts::emitting_stops))]
 fn effect_end(alloc: Global, ahead: &mut Ahead, end: usize) -> Result<EffectEnd, ReadFault>
     ensures { MatchResult result
         (λ x. Gives (read (effect_end (expression 0)) ahead.old.tokens.now) x ahead.new.tokens.now)

@@ -46,7 +46,6 @@ pub(crate) fn history_flaws(
     all_history_flaws(alloc, ways, places.as_slice(), found)
 }
 
-#[tactic(auto, using(crate::proofs::Histories::history_told, crate::proofs::Histories::no_places, crate::proofs::Histories::no_ways))]
 fn all_history_flaws(
     alloc: Global,
     ways: &[DraftWay],

@@ -184,7 +184,6 @@ fn typed(alloc: Global, ahead: &mut Ahead, end: usize) -> Result<ItemBody, ReadF
     })
 }
 
-#[tactic(auto, using(crate::proofs::ItemParts::value_missing, crate::proofs::ItemParts::value_there, crate::proofs::ItemParts::value_stops))]
 fn item_value(
     alloc: Global,
     ahead: &mut Ahead,

@@ -88,8 +88,8 @@ pub(crate) fn put_targets(
     Ok(())
 }
 
-#[cycle(targets)]
 #[tactic(auto, using(crate::proofs::SimplePlaces::region_is))]
+#[cycle(targets)]
 fn put_region(
     alloc: Global,
     region: &DraftRegion,
@@ -116,8 +116,8 @@ fn put_states(
     Ok(())
 }
 
-#[cycle(targets)]
 #[tactic(auto, using(crate::proofs::SimplePlaces::state_put))]
+#[cycle(targets)]
 fn put_state(
     alloc: Global,
     simple: &SimpleStates,

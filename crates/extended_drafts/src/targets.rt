@@ -24,7 +24,6 @@ fn two_names(ahead: &mut Ahead, end: usize) -> Result<(Named, Named), ReadFault>
 }
 
 // Two names more, where one is next.
-#[tactic(auto, using(crate::proofs::Leads::more_missing, crate::proofs::Leads::more_there, crate::proofs::Leads::more_stops))]
 fn two_more(ahead: &mut Ahead, end: usize) -> Result<Option<(Named, Named)>, ReadFault>
     ensures { MatchResult result
         (λ x. Gives (read two_more ahead.old.tokens.now) x ahead.new.tokens.now)

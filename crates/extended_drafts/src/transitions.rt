@@ -71,7 +71,6 @@ fn some_count(alloc: Global, ahead: &mut Ahead, end: usize) -> Result<DraftCount
 }
 
 // Whether a transition is tested at once, and what it waits for.
-#[tactic(auto, using(crate::proofs::Pieces::at_once_gives, crate::proofs::Pieces::pause_missing, crate::proofs::Pieces::waiting_gives, crate::proofs::Pieces::waiting_stops))]
 fn pause(
     alloc: Global,
     ahead: &mut Ahead,

@@ -119,7 +119,6 @@ fn braced_parts(
     Ok(parts.into_inner())
 }
 
-#[tactic(auto, using(crate::proofs::Nesting::items_stop))]
 fn parts(
     alloc: Global,
     ahead: &mut Ahead,

@@ -21,7 +21,6 @@ pub(crate) fn are_apart(alloc: Global, labels: &NameRow) -> Result<bool, AllocEr
     Ok(are_rising(numbers.as_slice()))
 }
 
-#[tactic(auto, using(crate::proofs::AllApart::numbers_step))]
 fn numbers_of(alloc: Global, labels: &NameRow) -> Result<Vec<u64>, AllocError>
     ensures { IfOk result (λ numbers. numbers.items ≡ map number_of (names labels.now)) }
 {

@@ -42,7 +42,6 @@ pub fn declarations<'a>(
     Ok(rest)
 }
 
-#[tactic(auto, using(crate::proofs::Declaring::role_stops, crate::proofs::Declaring::kind_stops, crate::proofs::Declaring::name_stops, crate::proofs::Declaring::end_stops, crate::proofs::Declaring::declaration_reads))]
 fn declaration<'a>(
     tokens: &'a [Token],
     end: usize,

@@ -69,7 +69,6 @@ fn note_each_repeated(
     Ok(())
 }
 
-#[tactic(auto, using(crate::proofs::Labelled::names_step))]
 fn names(alloc: Global, labels: &NameRow) -> Result<Vec<Name>, AllocError>
     ensures { IfOk result (λ found. found.items ≡ names labels.now) }
 {

@@ -38,7 +38,6 @@ pub fn simple<'a>(
 }
 
 // An assignment or a label.
-#[tactic(auto, using(crate::proofs::Single::name_stops, crate::proofs::Single::assigned_stops, crate::proofs::Single::assigned_reads, crate::proofs::Single::colon_stops, crate::proofs::Single::labelled_reads))]
 fn named<'a>(
     alloc: Global,
     tokens: &'a [Token],
@@ -64,7 +63,6 @@ fn named<'a>(
     Ok(after)
 }
 
-#[tactic(auto, using(crate::proofs::Single::goto_stops, crate::proofs::Single::target_stops, crate::proofs::Single::goto_end_stops, crate::proofs::Single::goto_reads))]
 fn goto<'a>(
     tokens: &'a [Token],
     end: usize,
@@ -82,7 +80,6 @@ fn goto<'a>(
     Ok(after)
 }
 
-#[tactic(auto, using(crate::proofs::Single::pause_stops, crate::proofs::Single::pause_end_stops, crate::proofs::Single::pause_reads))]
 fn pause<'a>(
     tokens: &'a [Token],
     end: usize,

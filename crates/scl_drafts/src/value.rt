@@ -15,7 +15,6 @@ use std::alloc::Global;
 
 /// An expression up to the sign that closes it, and the tokens behind the sign.
 /// Err: the fault at the first token that can't go on, or memory was refused.
-#[tactic(auto, using(crate::proofs::Values::value_stops, crate::proofs::Values::closing_stops, crate::proofs::Values::value_taken))]
 pub fn value(
     alloc: Global,
     closing: Sign,

@@ -23,7 +23,6 @@ use std::alloc::Global;
 
 /// The graph of a program. Err: E14 with the label of the first goto that leads through labels and gotos alone
 /// back to itself; else E07, where the graph has more nodes or threads than an image may; E52.
-#[tactic(auto, using(crate::proofs::Resolved::graph_is, crate::proofs::Resolved::limit_is, crate::proofs::Resolved::empty_loop_is, crate::proofs::Resolved::image_room))]
 pub fn graph_of(alloc: Global, scl: &Scl) -> Result<Program, GraphFault>
     ensures { MatchResult result (IsGraph scl.now) (LacksGraph scl.now) }
 {

@@ -19,8 +19,8 @@ use std::alloc::{AllocError, Global};
 /// Puts the nodes of a thread for these statements behind the others. Behind them it goes on the way
 /// `behind`. A row of labels is looked past once. Err: memory was refused, or an expression has more than 64
 /// operations.
-#[cycle(laying)]
 #[tactic(auto, using(crate::proofs::Tallied::tally_at, crate::proofs::Tallied::within_tallies))]
+#[cycle(laying)]
 pub(crate) fn lay<T: Targets>(
     alloc: Global,
     statements: &[Statement],
@@ -50,8 +50,8 @@ pub(crate) fn lay<T: Targets>(
 }
 
 // Puts the nodes of a thread for a statement behind the others.
-#[cycle(laying)]
 #[tactic(auto, using(crate::proofs::Tallied::first_part, crate::proofs::Tallied::second_part))]
+#[cycle(laying)]
 fn lay_statement<T: Targets>(
     alloc: Global,
     statement: &Statement,
@@ -115,7 +115,6 @@ fn lay_statement<T: Targets>(
 }
 
 // The threads of a fork's branches, of which the first has this number.
-#[tactic(auto, using(crate::proofs::Tallied::branch_part))]
 fn children_of(
     alloc: Global,
     branches: &[Items<Statement>],

@@ -77,7 +77,6 @@ fn small(node: u64) -> NodeId
 
 /// The labels of a program of these statements, which count this, and the node behind each. Err: a goto
 /// leads back to itself, or memory was refused.
-#[tactic(auto, using(crate::proofs::Resolved::resolved_ok, crate::proofs::Resolved::unresolved))]
 pub(crate) fn resolve(
     alloc: Global,
     body: &[Statement],

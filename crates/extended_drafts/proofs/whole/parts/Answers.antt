@@ -5,7 +5,7 @@ use Rattle.sc_text.specs.Expression.{expression}
 use Rattle.sc_text.specs.Reading.{Stops}
 use Rattle.core_charts.specs.Rules.{inner_depth_limit}
 use Rattle.extended_drafts.specs.ExtendedText.{rowed, region, within, parts}
-use Rattle.extended_drafts.proofs.Nesting.{parts_give, parts_stop}
+use Rattle.extended_drafts.proofs.Nesting.{parts_give, parts_stop, items_stop}
 use Rattle.extended_drafts.proofs.whole.parts.Goals as goal
 
 pub returns-in_err-regions : goal.returns-in_err-regions
@@ -20,3 +20,6 @@ pub returns : goal.returns
 returns c =
     parts_give c.args.ahead.now.tokens.now _ _ _ _ _ _ _ _ c.in_ok-put_row.ensures c.new-all.ensures c.in_ok-regions.ensures c.new-found.ensures
     c.new-rows.ensures
+
+pub returns-in_err-put_row : goal.returns-in_err-put_row
+returns-in_err-put_row c = search (rules, items_stop)

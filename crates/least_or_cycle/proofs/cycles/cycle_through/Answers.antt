@@ -1,4 +1,5 @@
-use Rattle.std.proofs.Common.{ℕ, List, subst}
+use Rattle.std.proofs.lemmas.Grind.{elements}
+use Rattle.std.proofs.Common.{ℕ, List, subst, arith}
 use Rattle.least_or_cycle.specs.Walks.{LeadsStrictlyTo}
 use Rattle.least_or_cycle.proofs.Cutting.{cut}
 use Rattle.least_or_cycle.proofs.cycles.cycle_through.Goals as goal
@@ -10,3 +11,6 @@ returns g c =
     let P : List ℕ → Type 0 = λ xs. (n : ℕ) → ¬ LeadsStrictlyTo leads xs c.args.node n in
     cut leads c.args.count c.args.node c.in_ok-ranks.ranks.items found.long found.ranks found.complete
     (subst P c.as_slice.ensures.value (λ n. c.in-None.ensures n))
+
+pub returns-in-Some : goal.returns-in-Some
+returns-in-Some g c = grind (arith, elements) steps 2000000

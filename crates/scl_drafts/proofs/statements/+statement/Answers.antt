@@ -12,10 +12,10 @@ use Rattle.scl.specs.Rules.{if_limit}
 use Rattle.scl_drafts.specs.Program.{branch, fork}
 use Rattle.scl_drafts.specs.Inside.{statement_classes}
 use Rattle.scl_drafts.specs.Within.{within}
-use Rattle.scl_drafts.proofs.Blocks.{close_stops, block_reads, else_reads, else_stops}
-use Rattle.scl_drafts.proofs.Choosing.{no_if_reads, no_if_stops, if_reads, if_stops, simple_reads, simple_stops, fork_reads, fork_stops}
-use Rattle.scl_drafts.proofs.Forks.{join_stops, join_end_stops}
-use Rattle.scl_drafts.proofs.Loops.{within_ends, within_stops, branches_end, branch_stops}
+use Rattle.scl_drafts.proofs.Blocks.{close_stops, block_reads, else_reads, else_stops, body_stops, choice_reads, first_stops, if_word_stops, open_stops, second_stops, test_stops}
+use Rattle.scl_drafts.proofs.Choosing.{no_if_reads, no_if_stops, if_reads, if_stops, simple_reads, simple_stops, fork_reads, fork_stops, fork_deep, if_deep}
+use Rattle.scl_drafts.proofs.Forks.{join_stops, join_end_stops, branch_body_stops, branch_reads, branches_stop, first_branch_stops, opening_stops}
+use Rattle.scl_drafts.proofs.Loops.{within_ends, within_stops, branches_end, branch_stops, branches_go_on, within_goes_on}
 use Rattle.scl_drafts.proofs.statements.+statement.Goals as goal
 
 pub statements-returns-then-not-statement_follows : goal.statements-returns-then-not-statement_follows
@@ -101,3 +101,51 @@ otherwise-returns t c =
     let begins : starts text_tokens (TheWord word.Else ∷ []) c.args.tokens.now ≡ true = search (rules, on, c.word_follows.ensures) in
     either_way _ c.block.ensures (λ x. else_reads (within c.args.forks c.args.ifs) c.args.tokens.now _ _ _ _ begins c.behind.ensures)
     (λ f. else_stops (within c.args.forks c.args.ifs) c.args.tokens.now _ _ f begins c.behind.ensures)
+
+pub block-returns-in_err-body : goal.block-returns-in_err-body
+block-returns-in_err-body t c = search (rules, open_stops)
+
+pub branch-returns-in_err-body : goal.branch-returns-in_err-body
+branch-returns-in_err-body t c = search (rules, opening_stops)
+
+pub choice-returns-in_err-opened : goal.choice-returns-in_err-opened
+choice-returns-in_err-opened t c = search (rules, if_word_stops)
+
+pub fork-returns-in_err-more : goal.fork-returns-in_err-more
+fork-returns-in_err-more t c = search (rules, first_branch_stops)
+
+pub no_if-returns-then-forks-eq0 : goal.no_if-returns-then-forks-eq0
+no_if-returns-then-forks-eq0 t c = search (rules, fork_deep)
+
+pub statement-returns-then-ifs-eq0 : goal.statement-returns-then-ifs-eq0
+statement-returns-then-ifs-eq0 t c = search (rules, if_deep)
+
+pub block-returns-in_err-rest : goal.block-returns-in_err-rest
+block-returns-in_err-rest t c = search (rules, body_stops)
+
+pub branch-returns-in_err-rest : goal.branch-returns-in_err-rest
+branch-returns-in_err-rest t c = search (rules, branch_body_stops)
+
+pub choice-returns-in_err-test : goal.choice-returns-in_err-test
+choice-returns-in_err-test t c = search (rules, test_stops)
+
+pub fork-returns-in_err-rest : goal.fork-returns-in_err-rest
+fork-returns-in_err-rest t c = search (rules, branches_stop)
+
+pub branch-returns : goal.branch-returns
+branch-returns t c = search (rules, branch_reads)
+
+pub choice-returns-in_err-rest : goal.choice-returns-in_err-rest
+choice-returns-in_err-rest t c = search (rules, first_stops)
+
+pub choice-returns-in_err-after : goal.choice-returns-in_err-after
+choice-returns-in_err-after t c = search (rules, second_stops)
+
+pub branches-loop-used-preserved : goal.branches-loop-used-preserved
+branches-loop-used-preserved t c = search (rules, branches_go_on)
+
+pub choice-returns : goal.choice-returns
+choice-returns t c = search (rules, choice_reads)
+
+pub statements-loop-used-preserved : goal.statements-loop-used-preserved
+statements-loop-used-preserved t c = search (rules, within_goes_on)

@@ -15,7 +15,7 @@ use Rattle.scl_graph.specs.Inside.Forking.{AreBranchesLaid, AreForkedLaid, HasBr
 use Rattle.scl_graph.proofs.Laid.{ok_then, room_at, room_more, split_at}
 use Rattle.scl_graph.proofs.Branching.{branch_room, branches_at, branches_more, branches_none, fork_room, forked_fork, forked_if, forked_more, forked_none}
 use Rattle.scl_graph.proofs.Branching.{further_room, if_room_first, if_room_node, if_room_second, inner_room}
-use Rattle.scl_graph.proofs.Tallied.{branch_part, first_part, fork_is, second_part, tally_at}
+use Rattle.scl_graph.proofs.Tallied.{branch_part, first_part, fork_is, second_part, tally_at, within_tallies}
 use Rattle.scl_graph.proofs.forking.+forking.Goals as goal
 
 pub lay_forked-loop-i-init : goal.lay_forked-loop-i-init
@@ -305,3 +305,12 @@ lay_forked_by-returns-after-loop-place g t c =
     let Left : List (List Statement) → Type 0 = λ zs. AreBranchesLaid target c.args.owner zs here threads threads nodes nodes in
     c.loop-place.invariant.laid threads nodes (subst Left (sym (drop_all c.loop-place.place c.as_slice-bodies.result.now c.loop-place-test.false))
     (branches_none target c.args.owner here threads nodes))
+
+pub lay_forked-known_statement_counts-requires-clause-tallied : goal.lay_forked-known_statement_counts-requires-clause-tallied
+lay_forked-known_statement_counts-requires-clause-tallied g t c = search (rules, tally_at)
+
+pub lay_forked_by-known_counts-requires-clause-tallied : goal.lay_forked_by-known_counts-requires-clause-tallied
+lay_forked_by-known_counts-requires-clause-tallied g t c = search (rules, first_part)
+
+pub lay_forked-bounds-tallies-i : goal.lay_forked-bounds-tallies-i
+lay_forked-bounds-tallies-i g t c = search (rules, within_tallies)

@@ -13,7 +13,7 @@ use Rattle.scl_graph.specs.Inside.Gathering.{IsGathered, Noted, landing_behind, 
 use Rattle.scl_graph.proofs.Laid.{ok_then, split_at}
 use Rattle.scl_graph.proofs.Gathered.{gathered_if, gathered_more, gathered_none, lands_behind}
 use Rattle.scl_graph.proofs.NumberRooms.{numbers_if_first, numbers_if_node, numbers_if_second, numbers_room_at, numbers_room_more}
-use Rattle.scl_graph.proofs.Tallied.{first_part, second_part, tally_at}
+use Rattle.scl_graph.proofs.Tallied.{first_part, second_part, tally_at, within_tallies}
 use Rattle.scl_graph.proofs.gathering.+gathering.Goals as goal
 
 pub gather-loop-i-init : goal.gather-loop-i-init
@@ -148,3 +148,12 @@ gather_statement-gather-requires-in-If t c =
     ∙ second_part c.args.statement.now c.args.tally.now c.in-If.test c.in-If.first c.in-If.second c.in-If.is c.requires.tallied
     ∙ ap (map tally_of) (sym c.as_slice-second.ensures) in
     (search (rules, statement.the_lemmas), (room, tallied))
+
+pub gather-known_statement_totals-requires : goal.gather-known_statement_totals-requires
+gather-known_statement_totals-requires t c = search (rules, tally_at)
+
+pub gather_statement-known_totals-requires-clause-tallied : goal.gather_statement-known_totals-requires-clause-tallied
+gather_statement-known_totals-requires-clause-tallied t c = search (rules, first_part)
+
+pub gather-bounds-tallies-i : goal.gather-bounds-tallies-i
+gather-bounds-tallies-i t c = search (rules, within_tallies)

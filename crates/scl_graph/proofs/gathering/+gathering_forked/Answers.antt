@@ -15,7 +15,7 @@ use Rattle.scl_graph.proofs.Laid.{ok_then, split_at}
 use Rattle.scl_graph.proofs.GatheredBelow.{branches_gathered_more, branches_gathered_none, lower_fork, lower_if, lower_more, lower_none}
 use Rattle.scl_graph.proofs.NumberRooms.{numbers_branch_room, numbers_branches_at, numbers_fork_room, numbers_further_room, numbers_if_first}
 use Rattle.scl_graph.proofs.NumberRooms.{numbers_if_node, numbers_if_second, numbers_inner_room, numbers_room_at, numbers_room_more}
-use Rattle.scl_graph.proofs.Tallied.{branch_part, first_part, fork_is, second_part, tally_at}
+use Rattle.scl_graph.proofs.Tallied.{branch_part, first_part, fork_is, second_part, tally_at, within_tallies}
 use Rattle.scl_graph.proofs.gathering.+gathering_forked.Goals as goal
 
 pub gather_forked-loop-i-init : goal.gather_forked-loop-i-init
@@ -264,3 +264,12 @@ gather_forked_by-past_branch-here-requires t c =
     c.as_slice-body.ensures in
     let Fits : Totals → Type 0 = λ k. HasBranchRoom here k in
     subst Fits (sym c.known_totals-totals.ensures.totals) (numbers_branch_room here body (drop (i + 1) items) room)
+
+pub gather_forked-known_statement_totals-requires : goal.gather_forked-known_statement_totals-requires
+gather_forked-known_statement_totals-requires t c = search (rules, tally_at)
+
+pub gather_forked_by-known_totals-requires-clause-tallied : goal.gather_forked_by-known_totals-requires-clause-tallied
+gather_forked_by-known_totals-requires-clause-tallied t c = search (rules, first_part)
+
+pub gather_forked-bounds-tallies-i : goal.gather_forked-bounds-tallies-i
+gather_forked-bounds-tallies-i t c = search (rules, within_tallies)

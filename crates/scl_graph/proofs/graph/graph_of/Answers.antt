@@ -8,7 +8,7 @@ use Rattle.scl_graph.specs.Loops.{HasNoEmptyLoop}
 use Rattle.scl_graph.specs.Inside.Gathering.{Noted}
 use Rattle.scl_graph.specs.Inside.Resolving.{FitsTotals, IsResolved, last_node, leads_by, numbered_of, root_of}
 use Rattle.scl_graph.specs.Inside.Totals.{totals_of_all}
-use Rattle.scl_graph.proofs.Resolved.{graph_is, limit_is}
+use Rattle.scl_graph.proofs.Resolved.{graph_is, limit_is, empty_loop_is}
 use Rattle.scl_graph.proofs.graph.graph_of.Goals as goal
 
 pub returns-then-not-fit_an_image : goal.returns-then-not-fit_an_image
@@ -36,3 +36,6 @@ returns-in-Ok c =
     (c.in-Ok.ensures
     ∙ ap (λ v. program_by (leads_by labels table) (numbered_of v c.as_slice-body.result.now)) c.as_slice-variables.ensures
     ∙ ap (λ b. program_by (leads_by labels table) (numbered_of p.variables b)) c.as_slice-body.ensures)
+
+pub returns-in_err-targets : goal.returns-in_err-targets
+returns-in_err-targets c = search (rules, empty_loop_is)

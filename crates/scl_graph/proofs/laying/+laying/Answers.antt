@@ -16,7 +16,7 @@ use Rattle.scl_graph.specs.Inside.Tallies.{fork_tally, tally_of}
 use Rattle.scl_graph.specs.Counting.{AreSmall, branches_counts, counts_of, counts_of_all}
 use Rattle.scl_graph.proofs.Branching.{fork_room, if_room_first, if_room_node, if_room_second}
 use Rattle.scl_graph.proofs.Laid.{laid_none, laid_more, leads_behind, laid_if, laid_fork, ok_then, room_at, room_more, split_at}
-use Rattle.scl_graph.proofs.Tallied.{first_part, fork_is, second_part, tally_at}
+use Rattle.scl_graph.proofs.Tallied.{first_part, fork_is, second_part, tally_at, within_tallies}
 use Rattle.scl_graph.proofs.laying.+laying.Goals as goal
 
 pub lay-loop-i-init : goal.lay-loop-i-init
@@ -201,3 +201,12 @@ lay_statement-lay-requires-in-If g t c =
     ∙ second_part c.args.statement.now c.args.tally.now c.in-If.test c.in-If.first c.in-If.second c.in-If.is c.requires.tallied
     ∙ ap (map tally_of) (sym c.as_slice-second.ensures) in
     λ κs within. (search (rules, statement.the_lemmas), (search rules, (room, tallied)))
+
+pub lay-known_statement_counts-requires-clause-tallied : goal.lay-known_statement_counts-requires-clause-tallied
+lay-known_statement_counts-requires-clause-tallied g t c = search (rules, tally_at)
+
+pub lay_statement-known_counts-requires-clause-tallied : goal.lay_statement-known_counts-requires-clause-tallied
+lay_statement-known_counts-requires-clause-tallied g t c = search (rules, first_part)
+
+pub lay-bounds-tallies-i : goal.lay-bounds-tallies-i
+lay-bounds-tallies-i g t c = search (rules, within_tallies)

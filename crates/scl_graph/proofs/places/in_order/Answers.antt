@@ -1,3 +1,4 @@
+use Rattle.std.proofs.lemmas.Grind.{elements}
 use Rattle.std.proofs.Common.{◌≡◌, ◌∙◌, Some, arith, get_or, slice_get, ◌-◌, ◌<◌, ap, cond, length}
 use Rattle.std.proofs.lemmas.Option.{slice_get-get_or}
 use Rattle.std.proofs.lemmas.Map.Text.{is_eq-slice_cmp}
@@ -20,3 +21,6 @@ loop-left-preserved c =
           (λ name. c.in_ok-insert.ensures.updates.0 name
           ∙ ap (λ b. cond b (Some (c.loop-left.left - 1)) (get (slice_cmp nat_cmp) c.loop-left.table name)) (is_eq-slice_cmp label.0 name));
     }
+
+pub returns : goal.returns
+returns c = grind (arith, elements) steps 2000000

@@ -1,4 +1,4 @@
-use Rattle.std.proofs.Common.{◌≡◌, None, List, [], ap, sym, subst, ◌∙◌}
+use Rattle.std.proofs.Common.{◌≡◌, None, List, [], ap, sym, subst, ◌∙◌, rules}
 use Rattle.scl.specs.declared.statement.Statement.{Statement}
 use Rattle.scl_graph.specs.declared.hops.Hop.{Hop}
 use Rattle.scl_graph.specs.declared.totals.Totals.{Totals}
@@ -6,7 +6,7 @@ use Rattle.scl_graph.specs.Inside.Gathering.{IsThreadGathered, Noted}
 use Rattle.scl_graph.specs.Inside.Resolving.{IsResolved, last_node, start}
 use Rattle.scl_graph.specs.Inside.Settling.{IsSettled, hops_of, least_name}
 use Rattle.scl_graph.specs.Inside.Totals.{totals_of_all}
-use Rattle.scl_graph.proofs.Resolved.{resolved_ok}
+use Rattle.scl_graph.proofs.Resolved.{resolved_ok, unresolved}
 use Rattle.scl_graph.proofs.resolving.resolve.Goals as goal
 
 pub returns-in-None : goal.returns-in-None
@@ -23,3 +23,6 @@ returns-in-None c =
     let none : least_name labels table ≡ None = ap (least_name labels) (sym c.as_slice.ensures.value) ∙ sym c.least_name.ensures ∙ c.in-None.is in
     let Resolved : Totals → Type 0 = λ t. IsResolved b (last_node t) labels table in
     subst Resolved (sym is) (resolved_ok b labels table gathered settles none)
+
+pub returns-in-Some : goal.returns-in-Some
+returns-in-Some c = search (rules, unresolved)

@@ -1,4 +1,5 @@
-use Rattle.std.proofs.Common.{◌≡◌, List, ap, map, sym, ◌∙◌}
+use Rattle.std.proofs.lemmas.Grind.{common_steps}
+use Rattle.std.proofs.Common.{◌≡◌, List, ap, map, sym, ◌∙◌, arith}
 use Rattle.std.proofs.lemmas.List.{drop_all}
 use Rattle.scl.specs.declared.statement.Statement.{Statement}
 use Rattle.scl_graph.specs.declared.tallies.Tally.{Tally}
@@ -48,3 +49,12 @@ tally_of-returns-after-loop-branch t c =
     c.tally_of_fork.ensures
     ∙ ap fork_tally (made ∙ ap (map (map tally_of)) c.as_slice-branch-items.ensures)
     ∙ sym (ap tally_of c.in-Fork.is ∙ tally_of_fork c.in-Fork.branches)
+
+pub tallies_of-loop-statement-preserved : goal.tallies_of-loop-statement-preserved
+tallies_of-loop-statement-preserved t c = grind (arith, common_steps) steps 2000000
+
+pub tallies_of-returns : goal.tallies_of-returns
+tallies_of-returns t c = grind (arith, common_steps) steps 2000000
+
+pub tally_of-loop-branch-preserved : goal.tally_of-loop-branch-preserved
+tally_of-loop-branch-preserved t c = grind (arith, common_steps) steps 2000000

@@ -1,0 +1,9 @@
+use Rattle.std.proofs.Common.{arith}
+use Rattle.std.proofs.lemmas.Grind.{common_steps}
+use Rattle.scl_graph.proofs.tallies.branches_total.Goals as goal
+
+pub loop-branch-preserved : goal.loop-branch-preserved
+loop-branch-preserved c = grind (arith, common_steps) steps 2000000
+
+pub returns : goal.returns
+returns c = grind (arith, common_steps) steps 2000000
