@@ -21,7 +21,6 @@ use std::alloc::{AllocError, Global};
 /// Tells the flaws of the regions of one superstate, which nest so many levels deep at most. Err: memory was
 /// refused.
 #[cycle(flaws)]
-#[tactic(auto, using(crate::proofs::Flawed::nested_past))]
 pub(crate) fn region_flaws(
     alloc: Global,
     scope: &Scope,
@@ -41,7 +40,6 @@ pub(crate) fn region_flaws(
 
 // The same, by the names of the regions, inside which so many levels more may nest.
 #[cycle(flaws)]
-#[tactic(auto, using(crate::proofs::Flawed::regions_over))]
 fn each_region_flaws(
     alloc: Global,
     scope: &Scope,
@@ -82,7 +80,6 @@ fn state_flaws(
 
 // The same, by the names of the states.
 #[cycle(flaws)]
-#[tactic(auto, using(crate::proofs::Flawed::states_over))]
 fn each_state_flaws(
     alloc: Global,
     scope: &Scope,

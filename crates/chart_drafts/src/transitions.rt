@@ -49,7 +49,6 @@ impl RowPart for Declarations {
 }
 
 /// An expression with its place.
-#[tactic(auto, using(crate::proofs::Pieces::placed_stops, crate::proofs::Pieces::placed_gives))]
 pub fn placed(alloc: Global, ahead: &mut Ahead, end: usize) -> Result<TextExpression, ReadFault>
     ensures { MatchResult result
         (λ x. Gives (read (placed (expression 0)) ahead.old.tokens.now) x ahead.new.tokens.now)

@@ -53,7 +53,6 @@ fn whole(alloc: Global, tokens: &[Token], end: usize) -> Result<DraftChart, Read
     Ok(draft)
 }
 
-#[tactic(auto, using(crate::proofs::Nesting::title_stops, crate::proofs::Nesting::parts_stop))]
 fn chart(alloc: Global, ahead: &mut Ahead, end: usize) -> Result<DraftChart, ReadFault>
     ensures { MatchResult result
         (λ x. Gives (read (chart_text 0) ahead.old.tokens.now) x ahead.new.tokens.now)

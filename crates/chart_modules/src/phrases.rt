@@ -50,7 +50,6 @@ impl Part for ListedArguments {
 
     ghost phrase = { argument };
 
-    #[tactic(auto, using(chart_drafts::proofs::Parts::token_fails, chart_drafts::proofs::Parts::token_gives))]
     fn take(alloc: Global, ahead: &mut Ahead, end: usize) -> Result<Token, ReadFault> {
         if !argument_follows(ahead.tokens) {
             return Err(wrong(ahead.tokens, end));

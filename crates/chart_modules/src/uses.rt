@@ -208,7 +208,6 @@ struct Walk<'a> {
 }
 
 // Goes over the use that is next.
-#[tactic(auto, using(crate::proofs::UsesInOrder::use_round, crate::proofs::UsesInOrder::use_stops, crate::proofs::UsesInOrder::memory_stops))]
 fn pass_use(alloc: Global, site: &Site, end: usize, walk: &mut Walk) -> Result<(), ReadFault>
     requires few { walk.old.made ≤ made_limit }
     requires begun { (walk.old.may_begin && begins (codes "use") walk.old.left.now) ≡ true }

@@ -17,7 +17,6 @@ use sqlite_items::Items;
 use std::alloc::{AllocError, Global};
 
 // The modules at the front. They are taken off it. Err: what is wrong with the first wrong one; or memory was refused.
-#[tactic(auto, using(crate::proofs::ModulesInOrder::modules_go, crate::proofs::ModulesInOrder::modules_stop, crate::proofs::ModulesInOrder::modules_end, crate::proofs::ModulesInOrder::modules_over))]
 fn all_modules(alloc: Global, end: usize, ahead: &mut Ahead) -> Result<Items<Module>, ReadFault>
     ensures { MatchResult result
         (λ modules. all_modules end (length ahead.old.tokens.now) [] ahead.old.tokens.now
@@ -69,7 +68,6 @@ fn known_before(alloc: Global, front: &[Token]) -> Result<Items<Known>, AllocErr
 
 // The text of what stands before the modules, and of what stands from there on. Err: what is wrong with a module or a
 // use; or memory was refused.
-#[tactic(auto, using(crate::proofs::ModulesInOrder::modules_wrong, crate::proofs::ModulesInOrder::uses_wrong, crate::proofs::ModulesInOrder::text_put, crate::proofs::ModulesInOrder::text_wrong))]
 fn put_together(
     alloc: Global,
     end: usize,

@@ -1,8 +1,9 @@
-use Rattle.std.proofs.Common.{◌≡◌, ◌∙◌, ◌-◌, Some, ap, refl, sym, slice_get}
+use Rattle.std.proofs.lemmas.Grind.{elements}
+use Rattle.std.proofs.Common.{◌≡◌, ◌∙◌, ◌-◌, Some, ap, refl, sym, slice_get, arith, rules}
 use Rattle.std.proofs.lemmas.Option.{slice_get_read}
 use Rattle.drafts.specs.Told.{told_behind}
 use Rattle.chart_drafts.specs.Flaws.{state_names, state_flaws, region_names, region_flaws, nested_flaws}
-use Rattle.chart_drafts.proofs.Flawed.{region_noted, state_noted, nested_is}
+use Rattle.chart_drafts.proofs.Flawed.{region_noted, state_noted, nested_is, regions_over, states_over}
 use Rattle.chart_drafts.proofs.Same.{on_ok_is}
 use Rattle.chart_drafts.proofs.region_flaws.+flaws.Goals as goal
 
@@ -47,3 +48,15 @@ each_state_flaws-loop-at-preserved t c =
     c.loop-at.at state _ _ _ _ _ _ _ is refl
     c.in_ok-place_flaws.ensures c.in_ok-final_flaws.ensures c.in_ok-own_transition_flaws.ensures c.as_slice.ensures c.in_ok-region_flaws.ensures
     ∙ c.loop-at.invariant
+
+pub state_flaws-returns-in_err-state_names : goal.state_flaws-returns-in_err-state_names
+state_flaws-returns-in_err-state_names t c = grind (arith, elements) steps 2000000
+
+pub state_flaws-returns-in_err-names : goal.state_flaws-returns-in_err-names
+state_flaws-returns-in_err-names t c = grind (arith, elements) steps 2000000
+
+pub each_region_flaws-returns : goal.each_region_flaws-returns
+each_region_flaws-returns t c = search (rules, regions_over)
+
+pub each_state_flaws-returns : goal.each_state_flaws-returns
+each_state_flaws-returns t c = search (rules, states_over)

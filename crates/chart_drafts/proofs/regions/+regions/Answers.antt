@@ -8,7 +8,7 @@ use Rattle.sc_text.specs.Reading.{Stops}
 use Rattle.drafts.proofs.Outcomes.{either_way}
 use Rattle.chart_drafts.specs.Inside.{FillsBoth}
 use Rattle.chart_drafts.specs.ChartText.{the_word, the_sign, listed, state_first, state, states, region, within}
-use Rattle.chart_drafts.proofs.Nesting.{regions_fill, states_fill, inside_read, braced_fills, braced_fills_stops, bare_fills, bare_stops, nested_fills}
+use Rattle.chart_drafts.proofs.Nesting.{regions_fill, states_fill, inside_read, braced_fills, braced_fills_stops, bare_fills, bare_stops, nested_fills, brace_stops, no_first_state, regions_stop, simple_fills, state_gives, too_deep_stops}
 use Rattle.chart_drafts.proofs.Nesting.{leaving_stops}
 use Rattle.chart_drafts.proofs.Filling.{filling_ends, filling_over, filling_stops, filling_on}
 use Rattle.chart_drafts.proofs.Same.{reading_so}
@@ -106,3 +106,21 @@ inside-returns t c =
     let some = c.if-depth-eq0.false in
     either_way _ c.leaving-2.ensures (λ x. nested_fills _ _ _ _ _ begins some c.in_ok-regions.ensures _ _ _)
     (λ f. leaving_stops _ _ _ _ _ begins some c.in_ok-regions.ensures _ f)
+
+pub body-returns-then-sign_follows : goal.body-returns-then-sign_follows
+body-returns-then-sign_follows t c = search (rules, simple_fills)
+
+pub inside-returns-then-depth-eq0 : goal.inside-returns-then-depth-eq0
+inside-returns-then-depth-eq0 t c = search (rules, too_deep_stops)
+
+pub state-returns : goal.state-returns
+state-returns t c = search (rules, state_gives)
+
+pub states-returns-in_err-first : goal.states-returns-in_err-first
+states-returns-in_err-first t c = search (rules, no_first_state)
+
+pub body-returns-in_err-skip_sign : goal.body-returns-in_err-skip_sign
+body-returns-in_err-skip_sign t c = search (rules, brace_stops)
+
+pub inside-returns-in_err-regions : goal.inside-returns-in_err-regions
+inside-returns-in_err-regions t c = search (rules, regions_stop)

@@ -1,4 +1,5 @@
-use Rattle.std.proofs.Common.{string_bytes, ◌∙◌}
+use Rattle.std.proofs.lemmas.Grind.{common_steps}
+use Rattle.std.proofs.Common.{string_bytes, ◌∙◌, arith}
 use Rattle.chart_printer.proofs.Pieces.{three, four, region_lines, open_lines}
 use Rattle.chart_printer.proofs.regions.+printing.Goals as goal
 
@@ -17,3 +18,15 @@ put_state-returns t c =
     c.as_str-space.result.now c.as_slice-regions.result.now c.as_slice-own.result.now c.is_bare.result
     (c.as_str-words.ensures.value ∙ c.in_ok-head.ensures) (c.as_str-space.ensures.value ∙ c.in_ok-inner.ensures)
     c.as_slice-regions.ensures c.as_slice-own.ensures c.is_bare.ensures.value c.if-is_bare.false)
+
+pub put_regions-loop-region-preserved : goal.put_regions-loop-region-preserved
+put_regions-loop-region-preserved t c = grind (arith, common_steps) steps 2000000
+
+pub put_regions-returns : goal.put_regions-returns
+put_regions-returns t c = grind (arith, common_steps) steps 2000000
+
+pub put_states-loop-state-preserved : goal.put_states-loop-state-preserved
+put_states-loop-state-preserved t c = grind (arith, common_steps) steps 2000000
+
+pub put_states-returns : goal.put_states-returns
+put_states-returns t c = grind (arith, common_steps) steps 2000000
