@@ -156,7 +156,6 @@ fn follow<W: States>(
 }
 
 /// Does what a line says, and gives the answer. None: it says that this is the end. Err: memory was refused.
-#[tactic(auto, using(crate::proofs::Doing::of_text, crate::proofs::Doing::of_none, crate::proofs::Doing::untold, crate::proofs::Doing::untold_none))]
 pub fn answer<W: States>(
     alloc: Global,
     session: &mut Session<'_>,

@@ -75,7 +75,6 @@ pub fn simulate<S: Source, K: Sink, W: States>(
 }
 
 // Greets, and answers the lines of an input from the first tick on.
-#[tactic(auto, using(crate::proofs::Reading::not_read))]
 fn greet<S: Source, K: Sink, W: States>(
     alloc: Global,
     session: &mut Session<'_>,
@@ -105,7 +104,6 @@ fn greet<S: Source, K: Sink, W: States>(
 }
 
 // Answers the lines of an input, none of which was read.
-#[tactic(auto, using(crate::proofs::Reading::behind_on, crate::proofs::Reading::open_on, crate::proofs::Turns::at_start, crate::proofs::Turns::one_more, crate::proofs::Turns::has_ended, crate::proofs::Turns::has_stopped))]
 fn go_on<S: Source, K: Sink, W: States>(
     alloc: Global,
     session: &mut Session<'_>,
@@ -144,7 +142,6 @@ fn go_on<S: Source, K: Sink, W: States>(
 }
 
 // Reads the line of this number, and answers it. Whether more is to be read.
-#[tactic(auto, using(crate::proofs::Turns::nothing_ahead, crate::proofs::Turns::says_end, crate::proofs::Turns::is_answered))]
 fn turn<S: Source, K: Sink, W: States>(
     alloc: Global,
     session: &mut Session<'_>,

@@ -1,7 +1,7 @@
 use Rattle.std.proofs.Common.{◌≡◌, false, rules, subst}
 use Rattle.trace_lines.specs.Lines.{ahead}
 use Rattle.simulation.specs.Inside.Turns.{Ends, TurnsTo}
-use Rattle.simulation.proofs.Turns.{has_ended, has_stopped}
+use Rattle.simulation.proofs.Turns.{has_ended, has_stopped, at_start, one_more}
 use Rattle.simulation.proofs.simulating.go_on.Goals as goal
 
 pub returns-in-Ok-false-clause-done : goal.returns-in-Ok-false-clause-done
@@ -25,3 +25,9 @@ returns-in-Err-clause-left g c =
     let now = ahead l.lines (g.S.Source.to_come l.source) in
     has_stopped c.args.session.now l.session start now l.number c.next_number-number.result (g.K.Sink.taken c.args.sink.now) (g.K.Sink.taken l.sink)
     (g.K.Sink.taken c.turn.new.sink) c.in-Err.fault c.next_number-number.ensures l.invariant.led c.in-Err.ensures.left
+
+pub loop-turn-init : goal.loop-turn-init
+loop-turn-init g c = search (rules, at_start)
+
+pub loop-turn-preserved : goal.loop-turn-preserved
+loop-turn-preserved g c = search (rules, one_more)

@@ -1,0 +1,12 @@
+use Rattle.std.proofs.lemmas.Grind.{common_steps}
+use Rattle.std.proofs.Common.{arith}
+use Rattle.chart_machine.proofs.table.Table.are_done.Goals as goal
+
+pub returns-then-region_has_work : goal.returns-then-region_has_work
+returns-then-region_has_work c = grind (arith, common_steps) steps 2000000
+
+pub loop-region-preserved : goal.loop-region-preserved
+loop-region-preserved c = grind (arith, common_steps) steps 2000000
+
+pub returns : goal.returns
+returns c = grind (arith, common_steps) steps 2000000
