@@ -1,3 +1,4 @@
+use Rattle.std.proofs.lemmas.Grind.{common_steps, elements}
 use Rattle.std.proofs.Common.{ℕ, ◌+◌, List, map, ap, sym, ◌∙◌, arith}
 use Rattle.core_charts.specs.declared.region.Region.{Region}
 use Rattle.core_charts.specs.declared.region.State.{State}
@@ -28,3 +29,27 @@ body_of-returns-clause-next t c =
       region_labels region,
       ap (λ ys. labels_in_states (map piece_of_state ys)) c.as_slice-states.ensures,
     )
+
+pub body_of-returns-clause-within : goal.body_of-returns-clause-within
+body_of-returns-clause-within t c = grind (arith, elements) steps 2000000
+
+pub branches_of-returns-clause-within : goal.branches_of-returns-clause-within
+branches_of-returns-clause-within t c = grind (arith, elements) steps 2000000
+
+pub statements_of-returns : goal.statements_of-returns
+statements_of-returns t c = grind (arith, elements) steps 2000000
+
+pub branches_of-loop-region-preserved : goal.branches_of-loop-region-preserved
+branches_of-loop-region-preserved t c = grind (arith, common_steps) steps 2000000
+
+pub branches_of-returns-clause-bodies : goal.branches_of-returns-clause-bodies
+branches_of-returns-clause-bodies t c = grind (arith, common_steps) steps 2000000
+
+pub branches_of-returns-clause-next : goal.branches_of-returns-clause-next
+branches_of-returns-clause-next t c = grind (arith, common_steps) steps 2000000
+
+pub texts_of-returns-in_default : goal.texts_of-returns-in_default
+texts_of-returns-in_default t c = grind (arith, common_steps) steps 2000000
+
+pub texts_of-returns : goal.texts_of-returns
+texts_of-returns t c = grind (arith, common_steps) steps 2000000
