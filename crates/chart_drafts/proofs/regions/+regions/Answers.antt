@@ -8,7 +8,8 @@ use Rattle.sc_text.specs.Reading.{Stops}
 use Rattle.drafts.proofs.Outcomes.{either_way}
 use Rattle.chart_drafts.specs.Inside.{FillsBoth}
 use Rattle.chart_drafts.specs.ChartText.{the_word, the_sign, listed, state_first, state, states, region, within}
-use Rattle.chart_drafts.proofs.Nesting.{regions_fill, states_fill, inside_read, braced_fills, braced_fills_stops, bare_fills, bare_stops, nested_fills, brace_stops, no_first_state, regions_stop, simple_fills, state_gives, too_deep_stops}
+use Rattle.chart_drafts.proofs.Nesting.{regions_fill, states_fill, inside_read, braced_fills, braced_fills_stops, bare_fills, bare_stops, nested_fills}
+use Rattle.chart_drafts.proofs.Nesting.{brace_stops, no_first_state, regions_stop, simple_fills, state_gives, too_deep_stops}
 use Rattle.chart_drafts.proofs.Nesting.{leaving_stops}
 use Rattle.chart_drafts.proofs.Filling.{filling_ends, filling_over, filling_stops, filling_on}
 use Rattle.chart_drafts.proofs.Same.{reading_so}

@@ -1,11 +1,14 @@
-use Rattle.sc_text.proofs.Nesting.{atom_deep, call_reads, call_stops, called_reads, first_stops, flat_leaf_reads, flat_leaf_stops, function_stops, inside_reads, inside_stops, leaf_reads, leaf_stops, minus_deep, negated_reads, negated_stops, no_minus_reads, no_minus_stops, no_not_reads, no_not_stops, not_deep, not_reads, not_stops, opening_stops, second_stops}
+use Rattle.sc_text.proofs.Nesting.{atom_deep, call_reads, call_stops, called_reads, first_stops, flat_leaf_reads, flat_leaf_stops, function_stops, inside_reads}
+use Rattle.sc_text.proofs.Nesting.{inside_stops, leaf_reads, leaf_stops, minus_deep, negated_reads, negated_stops, no_minus_reads, no_minus_stops, no_not_reads}
+use Rattle.sc_text.proofs.Nesting.{no_not_stops, not_deep, not_reads, not_stops, opening_stops, second_stops}
 use Rattle.std.proofs.Common.{◌≡◌, ◌-◌, ◌<◌, true, length, arith, rules}
 use Rattle.grammar.specs.Read.{read, starts}
 use Rattle.sc_text.specs.declared.read_fault.ReadFault.{ReadFault}
 use Rattle.sc_text.specs.Expression.{text_tokens, within}
 use Rattle.sc_text.specs.Levels.{whole, behind_operand, begins_behind}
 use Rattle.sc_text.specs.Reading.{Stops}
-use Rattle.sc_text.proofs.Chains.{going_ends, going_stops, compared_reads, divided_reads, divided_stops, first_sum_stops, going_first, going_first_stops, going_on, lone_sum_reads, operator_stops, right_reads, right_stops, second_sum_stops}
+use Rattle.sc_text.proofs.Chains.{going_ends, going_stops, compared_reads, divided_reads, divided_stops, first_sum_stops, going_first, going_first_stops}
+use Rattle.sc_text.proofs.Chains.{going_on, lone_sum_reads, operator_stops, right_reads, right_stops, second_sum_stops}
 use Rattle.sc_text.proofs.expressions.+expression.Goals as goal
 
 pub chain-returns-then-not-goes_on : goal.chain-returns-then-not-goes_on

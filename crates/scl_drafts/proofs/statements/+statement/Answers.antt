@@ -12,7 +12,8 @@ use Rattle.scl.specs.Rules.{if_limit}
 use Rattle.scl_drafts.specs.Program.{branch, fork}
 use Rattle.scl_drafts.specs.Inside.{statement_classes}
 use Rattle.scl_drafts.specs.Within.{within}
-use Rattle.scl_drafts.proofs.Blocks.{close_stops, block_reads, else_reads, else_stops, body_stops, choice_reads, first_stops, if_word_stops, open_stops, second_stops, test_stops}
+use Rattle.scl_drafts.proofs.Blocks.{close_stops, block_reads, else_reads, else_stops, body_stops, choice_reads, first_stops, if_word_stops, open_stops}
+use Rattle.scl_drafts.proofs.Blocks.{second_stops, test_stops}
 use Rattle.scl_drafts.proofs.Choosing.{no_if_reads, no_if_stops, if_reads, if_stops, simple_reads, simple_stops, fork_reads, fork_stops, fork_deep, if_deep}
 use Rattle.scl_drafts.proofs.Forks.{join_stops, join_end_stops, branch_body_stops, branch_reads, branches_stop, first_branch_stops, opening_stops}
 use Rattle.scl_drafts.proofs.Loops.{within_ends, within_stops, branches_end, branch_stops, branches_go_on, within_goes_on}
