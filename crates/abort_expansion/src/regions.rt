@@ -57,8 +57,8 @@ fn put_regions(
     Ok(())
 }
 
-#[tactic(auto, using(crate::proofs::PieceParts::region_made))]
 #[cycle(text)]
+#[tactic(auto, using(crate::proofs::PieceParts::region_made))]
 fn put_region(
     alloc: Global,
     region: &Region,
@@ -155,8 +155,8 @@ fn put_states(
     Ok(())
 }
 
-#[tactic(auto, using(crate::proofs::PieceParts::simple_made, crate::proofs::PieceParts::superstate_made))]
 #[cycle(text)]
+#[tactic(auto, using(crate::proofs::PieceParts::simple_made, crate::proofs::PieceParts::superstate_made))]
 fn put_state(
     alloc: Global,
     state: &State,

@@ -20,8 +20,8 @@ use sqlite_items::Items;
 use std::alloc::Global;
 
 /// Puts the regions of one superstate behind others, inside which so many more levels of regions may stand.
-#[tactic(auto, using(crate::proofs::Nesting::no_first_region))]
 #[cycle(regions)]
+#[tactic(auto, using(crate::proofs::Nesting::no_first_region))]
 pub(crate) fn regions(
     alloc: Global,
     depth: u8,
@@ -63,8 +63,8 @@ fn region(alloc: Global, depth: u8, ahead: &mut Ahead, end: usize) -> Result<Dra
     Ok(DraftRegion { named, states })
 }
 
-#[tactic(auto, using(crate::proofs::Parts::after_stops_first, crate::proofs::Nesting::braced_stops_inside))]
 #[cycle(regions)]
+#[tactic(auto, using(crate::proofs::Parts::after_stops_first, crate::proofs::Nesting::braced_stops_inside))]
 fn braced_states(
     alloc: Global,
     depth: u8,
@@ -83,8 +83,8 @@ fn braced_states(
     skip_sign(ahead, end, Sign::CloseBrace)
 }
 
-#[tactic(auto, using(crate::proofs::Nesting::no_first_state))]
 #[cycle(regions)]
+#[tactic(auto, using(crate::proofs::Nesting::no_first_state))]
 fn states(
     alloc: Global,
     depth: u8,
@@ -144,8 +144,8 @@ fn state(alloc: Global, depth: u8, ahead: &mut Ahead, end: usize) -> Result<Draf
 }
 
 // What is in a state, or the semicolon where nothing is.
-#[tactic(auto, using(crate::proofs::Nesting::simple_fills, crate::proofs::Nesting::brace_stops))]
 #[cycle(regions)]
+#[tactic(auto, using(crate::proofs::Nesting::simple_fills, crate::proofs::Nesting::brace_stops))]
 fn body(
     alloc: Global,
     depth: u8,
@@ -168,8 +168,8 @@ fn body(
 }
 
 // The regions and the transitions of a state, up to the brace that closes it.
-#[tactic(auto, using(crate::proofs::Nesting::too_deep_stops, crate::proofs::Nesting::regions_stop))]
 #[cycle(regions)]
+#[tactic(auto, using(crate::proofs::Nesting::too_deep_stops, crate::proofs::Nesting::regions_stop))]
 fn inside(
     alloc: Global,
     depth: u8,

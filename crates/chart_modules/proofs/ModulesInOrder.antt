@@ -51,11 +51,6 @@ module _ (end : ℕ) (modules : List Module) (text : List Token) where
     pub modules_end : begins (codes "module") text ≡ false → whole ≡ Good (modules, text)
     modules_end e = sym is ∙ none_begun (most - count) e
 
-    pub modules_over : most ≤ count → whole ≡ Good (modules, text)
-    modules_over le =
-        let over : most - count ≡ 0 = omega (arith, le) in
-        sym is ∙ ap (λ n. all_modules end n modules text) over
-
 -- ---- the text behind its front
 
 module _ (end : ℕ) (front text : List Token) where

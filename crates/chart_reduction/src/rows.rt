@@ -102,8 +102,8 @@ fn states_in_states(alloc: Global, states: &[ExtendedState]) -> Result<Items<boo
     Ok(made)
 }
 
-#[tactic(auto, using(crate::proofs::Folded::state_states))]
 #[cycle(states)]
+#[tactic(auto, using(crate::proofs::Folded::state_states))]
 fn states_in_state(alloc: Global, state: &ExtendedState) -> Result<Items<bool>, AllocError>
     ensures { IfOk result (λ made. made ≡ states_in_state state.now) }
 {

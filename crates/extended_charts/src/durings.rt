@@ -252,8 +252,8 @@ fn put_states(
     Ok(())
 }
 
-#[tactic(auto, using(crate::proofs::ActingStates::state_acts))]
 #[cycle(acting)]
+#[tactic(auto, using(crate::proofs::ActingStates::state_acts))]
 fn put_state(
     alloc: Global,
     state: &ExtendedState,

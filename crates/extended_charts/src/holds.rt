@@ -191,8 +191,8 @@ fn put_states(
     Ok(())
 }
 
-#[tactic(auto, using(crate::proofs::HeldStates::state_held))]
 #[cycle(held)]
+#[tactic(auto, using(crate::proofs::HeldStates::state_held))]
 fn put_state(
     alloc: Global,
     state: &ExtendedState,

@@ -8,14 +8,6 @@ use Rattle.extended_drafts.specs.declared.draft.DraftWay.{DraftWay}
 use Rattle.extended_drafts.specs.Flaws.{history_flaw, history_flaws}
 
 module _ (ways : List DraftWay) (at : ℕ) where
-  pub history_told : (w : DraftWay) (p : Option ℕ) (places : List (Option ℕ)) (found new : List Flaw) → slice_get ways at ≡ Some w
-      → new ≡ told_behind found (history_flaw w.history p)
-      → told_behind new (history_flaws (drop (at + 1) ways) places) ≡ told_behind found (history_flaws (drop at ways) (p ∷ places))
-  history_told w p places found new i e =
-      ap (λ g. told_behind g (history_flaws (drop (at + 1) ways) places)) e
-      ∙ sym (told_both found (history_flaw w.history p) (history_flaws (drop (at + 1) ways) places))
-      ∙ ap (λ l. told_behind found (history_flaws l (p ∷ places))) (sym (drop_is ways at w i))
-
   pub no_ways : (places : List (Option ℕ)) (found : List Flaw) → length ways ≤ at → told_behind found (history_flaws (drop at ways) places) ≡ found
   no_ways places found le = ap (λ l. told_behind found (history_flaws l places)) (drop_past ways at le)
 

@@ -29,8 +29,8 @@ pub(crate) fn regions_inside_flaws(
     Ok(())
 }
 
-#[tactic(auto, using(crate::proofs::Told::region_told))]
 #[cycle(inside)]
+#[tactic(auto, using(crate::proofs::Told::region_told))]
 fn region_inside_flaws(
     alloc: Global,
     signals: &Scope,
@@ -60,8 +60,8 @@ fn states_inside_flaws(
     Ok(())
 }
 
-#[tactic(auto, using(crate::proofs::Told::state_told))]
 #[cycle(inside)]
+#[tactic(auto, using(crate::proofs::Told::state_told))]
 fn state_inside_flaws(
     alloc: Global,
     signals: &Scope,

@@ -76,8 +76,8 @@ fn region(
     }
 }
 
-#[tactic(auto, using(chart_drafts::proofs::Parts::after_stops_first, chart_drafts::proofs::Nesting::braced_stops_inside))]
 #[cycle(regions)]
+#[tactic(auto, using(chart_drafts::proofs::Parts::after_stops_first, chart_drafts::proofs::Nesting::braced_stops_inside))]
 fn braced_states(
     alloc: Global,
     depth: u8,
@@ -172,8 +172,8 @@ fn state(
 }
 
 // What is in a state, or the semicolon where nothing is.
-#[tactic(auto, using(crate::proofs::Nesting::brace_stops))]
 #[cycle(regions)]
+#[tactic(auto, using(crate::proofs::Nesting::brace_stops))]
 fn body(
     alloc: Global,
     depth: u8,
@@ -224,8 +224,8 @@ fn acting(
 }
 
 // The regions and the transitions of a state, up to the brace that closes it.
-#[tactic(auto, using(crate::proofs::Nesting::too_deep_stops, crate::proofs::Nesting::regions_stop))]
 #[cycle(regions)]
+#[tactic(auto, using(crate::proofs::Nesting::too_deep_stops, crate::proofs::Nesting::regions_stop))]
 fn inside(
     alloc: Global,
     depth: u8,

@@ -88,8 +88,8 @@ pub(crate) fn put_targets(
     Ok(())
 }
 
-#[tactic(auto, using(crate::proofs::SimplePlaces::region_is))]
 #[cycle(targets)]
+#[tactic(auto, using(crate::proofs::SimplePlaces::region_is))]
 fn put_region(
     alloc: Global,
     region: &DraftRegion,
@@ -116,8 +116,8 @@ fn put_states(
     Ok(())
 }
 
-#[tactic(auto, using(crate::proofs::SimplePlaces::state_put))]
 #[cycle(targets)]
+#[tactic(auto, using(crate::proofs::SimplePlaces::state_put))]
 fn put_state(
     alloc: Global,
     simple: &SimpleStates,

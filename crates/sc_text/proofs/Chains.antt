@@ -273,12 +273,6 @@ module _ (i : Inner) (text : List Token) where
         behind = r.behind ∙ ap (λ d. old ++ d) (sym (append-nil r.phrase));
       }
 
-  pub comparator_stops : (rest : List Token) (old new : List TextOperation) (end : ℕ) (f : ReadFault) → Reads (read (sum i) text) old new rest
-      → starts text_tokens comparisons rest ≡ true → Stops end (read (one {L = text_tokens} comparisons) rest) f → Stops end (read (comparison i) text) f
-  comparator_stops rest old new end f r e s =
-      stops_as end _ _ f (compared_read i r.phrase text rest r.is e)
-      (next_stops end _ _ f (next_stops end _ _ f (next_stops end _ _ f (seq_stops_first _ (one comparisons) (sum i) end rest f s))))
-
   pub second_sum_stops : (rest second : List Token) (o : BinaryOperator) (old new : List TextOperation) (end : ℕ) (f : ReadFault)
       → Reads (read (sum i) text) old new rest → starts text_tokens comparisons rest ≡ true
       → TakesOperator (read (one {L = text_tokens} comparisons) rest) o second → Stops end (read (sum i) second) f → Stops end (read (comparison i) text) f

@@ -265,21 +265,6 @@ module _ (n : ℕ) (text : List Token) where
       → starts text_tokens calls text ≡ false → Reads (read leaf text) old new rest → Reads (read (atom (within n)) text) old new rest
   leaf_reads rest old new z e d r = record { phrase = r.phrase; is = leaf_read z e d ∙ r.is; behind = r.behind }
 
--- ---- an expression and the sign that closes it
-
-module _ (ks : List Class) (e : Grammar text_tokens Phrase) (text : List Token) where
-  pub closed_stops : (end : ℕ) (f : ReadFault) → Stops end (read e text) f → Stops end (read (before e ks) text) f
-  closed_stops end f s = seq_stops_first _ e (one ks) end text f s
-
-  pub unclosed_stops : (rest : List Token) (old new : List TextOperation) (end : ℕ) (f : ReadFault) → Reads (read e text) old new rest
-      → Stops end (read (one {L = text_tokens} ks) rest) f → Stops end (read (before e ks) text) f
-  unclosed_stops rest old new end f r s = seq_stops_second _ e (one ks) end text rest r.phrase f r.is s
-
-  pub closed_reads : (rest more : List Token) (old new : List TextOperation) → Reads (read e text) old new rest
-      → Takes (read (one {L = text_tokens} ks) rest) more → Reads (read (before e ks) text) old new more
-  closed_reads rest more old new r t =
-      record { phrase = r.phrase; is = seq_got _ e (one ks) text rest more r.phrase t.token r.is t.is; behind = r.behind }
-
 -- ---- calls
 
 module _ (e : Grammar text_tokens Phrase) (text : List Token) where

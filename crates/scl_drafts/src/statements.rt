@@ -42,8 +42,8 @@ fn statement_follows(tokens: &[Token]) -> bool
 /// Reads the statements at the front of the tokens, and puts them behind the others. So many forks and ifs may
 /// still stand in one another. Gives the tokens behind them. Err: the fault at the first token that can't go
 /// on, or memory was refused.
-#[tactic(auto, using(crate::proofs::Loops::within_begins, crate::proofs::Loops::within_ends, crate::proofs::Loops::within_over, crate::proofs::Loops::within_stops, crate::proofs::Loops::within_goes_on))]
 #[cycle(statement)]
+#[tactic(auto, using(crate::proofs::Loops::within_begins, crate::proofs::Loops::within_ends, crate::proofs::Loops::within_over, crate::proofs::Loops::within_stops, crate::proofs::Loops::within_goes_on))]
 pub fn statements<'a>(
     alloc: Global,
     forks: u8,
@@ -67,8 +67,8 @@ pub fn statements<'a>(
     Ok(rest)
 }
 
-#[tactic(auto, using(crate::proofs::Choosing::if_deep))]
 #[cycle(statement)]
+#[tactic(auto, using(crate::proofs::Choosing::if_deep))]
 fn statement<'a>(
     alloc: Global,
     forks: u8,
@@ -90,8 +90,8 @@ fn statement<'a>(
     choice(alloc, forks, ifs - 1, tokens, end, into)
 }
 
-#[tactic(auto, using(crate::proofs::Choosing::fork_deep))]
 #[cycle(statement)]
+#[tactic(auto, using(crate::proofs::Choosing::fork_deep))]
 fn no_if<'a>(
     alloc: Global,
     forks: u8,
@@ -113,8 +113,8 @@ fn no_if<'a>(
 }
 
 // Statements in braces.
-#[tactic(auto, using(crate::proofs::Blocks::open_stops, crate::proofs::Blocks::body_stops))]
 #[cycle(statement)]
+#[tactic(auto, using(crate::proofs::Blocks::open_stops, crate::proofs::Blocks::body_stops))]
 fn block<'a>(
     alloc: Global,
     forks: u8,
@@ -132,8 +132,8 @@ fn block<'a>(
     past_sign(rest, end, Sign::CloseBrace)
 }
 
-#[tactic(auto, using(crate::proofs::Blocks::if_word_stops, crate::proofs::Blocks::test_stops, crate::proofs::Blocks::first_stops, crate::proofs::Blocks::second_stops, crate::proofs::Blocks::choice_reads))]
 #[cycle(statement)]
+#[tactic(auto, using(crate::proofs::Blocks::if_word_stops, crate::proofs::Blocks::test_stops, crate::proofs::Blocks::first_stops, crate::proofs::Blocks::second_stops, crate::proofs::Blocks::choice_reads))]
 fn choice<'a>(
     alloc: Global,
     forks: u8,
@@ -178,8 +178,8 @@ fn test(
 }
 
 // The second list of an if, where there is one.
-#[tactic(auto, using(crate::proofs::Blocks::no_else_reads))]
 #[cycle(statement)]
+#[tactic(auto, using(crate::proofs::Blocks::no_else_reads))]
 fn otherwise<'a>(
     alloc: Global,
     forks: u8,
@@ -200,8 +200,8 @@ fn otherwise<'a>(
     block(alloc, forks, ifs, behind(tokens), end, into)
 }
 
-#[tactic(auto, using(crate::proofs::Forks::first_branch_stops, crate::proofs::Forks::branches_stop, crate::proofs::Forks::join_stops, crate::proofs::Forks::join_end_stops, crate::proofs::Forks::fork_reads))]
 #[cycle(statement)]
+#[tactic(auto, using(crate::proofs::Forks::first_branch_stops, crate::proofs::Forks::branches_stop, crate::proofs::Forks::join_stops, crate::proofs::Forks::join_end_stops, crate::proofs::Forks::fork_reads))]
 fn fork<'a>(
     alloc: Global,
     forks: u8,
@@ -227,8 +227,8 @@ fn fork<'a>(
 }
 
 // The further branches of a fork.
-#[tactic(auto, using(crate::proofs::Loops::branches_begin, crate::proofs::Loops::branches_end, crate::proofs::Loops::branches_over, crate::proofs::Loops::branch_stops, crate::proofs::Loops::branches_go_on))]
 #[cycle(statement)]
+#[tactic(auto, using(crate::proofs::Loops::branches_begin, crate::proofs::Loops::branches_end, crate::proofs::Loops::branches_over, crate::proofs::Loops::branch_stops, crate::proofs::Loops::branches_go_on))]
 fn branches<'a>(
     alloc: Global,
     forks: u8,
@@ -253,8 +253,8 @@ fn branches<'a>(
 }
 
 // The branch that is opened by this word.
-#[tactic(auto, using(crate::proofs::Forks::opening_stops, crate::proofs::Forks::branch_body_stops, crate::proofs::Forks::branch_reads))]
 #[cycle(statement)]
+#[tactic(auto, using(crate::proofs::Forks::opening_stops, crate::proofs::Forks::branch_body_stops, crate::proofs::Forks::branch_reads))]
 fn branch<'a>(
     alloc: Global,
     forks: u8,

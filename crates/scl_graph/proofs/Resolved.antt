@@ -155,19 +155,6 @@ program_laid f variables statements at ts us ns ms is own lower =
     ap (λ r. record { variables = variables; threads = r; nodes = ms }) threads
     ∙ ap (λ r. record { variables = variables; threads = thread f None root ∷ forked f 0 root; nodes = r }) nodes
 
--- what fits an image has numbers for its nodes and threads
-pub image_room : (statements : List Statement) → FitsTotals (totals_of_all statements)
-    → HasRoom (small_start (counts_of_all statements)) (counts_of_all statements)
-image_room statements h =
-    let nodes : _ = h.nodes in
-    let threads : _ = h.threads in
-    record {
-      small = record { nodes = omega (arith, nodes); threads = omega (arith, threads); lower = omega (arith, nodes) };
-      node = omega (arith, nodes);
-      thread = omega (arith, threads);
-      base = omega (arith, nodes);
-    }
-
 pub graph_is : (p : Scl) (labels : Noted) (table : List Hop) (q : Program) → IsResolved p.body (last_node (totals_of_all p.body)) labels table
     → FitsTotals (totals_of_all p.body)
     → q ≡ program_by (leads_by labels table) (numbered_of p.variables p.body) → IsGraph p q

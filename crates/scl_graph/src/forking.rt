@@ -19,8 +19,8 @@ use std::alloc::Global;
 
 /// Puts the threads that a thread forks in these statements behind the others, and their nodes. Err:
 /// memory was refused, or an expression has more than 64 operations.
-#[tactic(auto, using(crate::proofs::Tallied::tally_at, crate::proofs::Tallied::within_tallies))]
 #[cycle(forking)]
+#[tactic(auto, using(crate::proofs::Tallied::tally_at, crate::proofs::Tallied::within_tallies))]
 pub(crate) fn lay_forked<T: Targets>(
     alloc: Global,
     statements: &[Statement],
@@ -45,8 +45,8 @@ pub(crate) fn lay_forked<T: Targets>(
 }
 
 // Puts the threads that a statement forks behind the others, and their nodes.
-#[tactic(auto, using(crate::proofs::Tallied::first_part, crate::proofs::Tallied::second_part))]
 #[cycle(forking)]
+#[tactic(auto, using(crate::proofs::Tallied::first_part, crate::proofs::Tallied::second_part))]
 fn lay_forked_by<T: Targets>(
     alloc: Global,
     statement: &Statement,

@@ -15,8 +15,8 @@ use std::alloc::AllocError;
 
 /// Notes the labels of a thread in these statements, behind which `behind` stands. A row of labels is
 /// looked past once.
-#[tactic(auto, using(crate::proofs::Tallied::tally_at, crate::proofs::Tallied::within_tallies))]
 #[cycle(gathering)]
+#[tactic(auto, using(crate::proofs::Tallied::tally_at, crate::proofs::Tallied::within_tallies))]
 pub(crate) fn gather(
     statements: &[Statement],
     tallies: &[Tally],
@@ -58,8 +58,8 @@ fn landing_behind(
 }
 
 // Notes the labels of a thread in a statement, behind which `behind` stands.
-#[tactic(auto, using(crate::proofs::Tallied::first_part, crate::proofs::Tallied::second_part))]
 #[cycle(gathering)]
+#[tactic(auto, using(crate::proofs::Tallied::first_part, crate::proofs::Tallied::second_part))]
 fn gather_statement(
     statement: &Statement,
     tally: &Tally,
@@ -93,8 +93,8 @@ fn gather_statement(
 }
 
 /// Notes the labels of the threads that are forked in these statements.
-#[tactic(auto, using(crate::proofs::Tallied::tally_at, crate::proofs::Tallied::within_tallies))]
 #[cycle(gathering_forked)]
+#[tactic(auto, using(crate::proofs::Tallied::tally_at, crate::proofs::Tallied::within_tallies))]
 pub(crate) fn gather_forked(
     statements: &[Statement],
     tallies: &[Tally],
@@ -115,8 +115,8 @@ pub(crate) fn gather_forked(
 }
 
 // Notes the labels of the threads that a statement forks.
-#[tactic(auto, using(crate::proofs::Tallied::first_part, crate::proofs::Tallied::second_part))]
 #[cycle(gathering_forked)]
+#[tactic(auto, using(crate::proofs::Tallied::first_part, crate::proofs::Tallied::second_part))]
 fn gather_forked_by(
     statement: &Statement,
     tally: &Tally,

@@ -19,8 +19,8 @@ use std::alloc::{AllocError, Global};
 /// Puts the nodes of a thread for these statements behind the others. Behind them it goes on the way
 /// `behind`. A row of labels is looked past once. Err: memory was refused, or an expression has more than 64
 /// operations.
-#[tactic(auto, using(crate::proofs::Tallied::tally_at, crate::proofs::Tallied::within_tallies))]
 #[cycle(laying)]
+#[tactic(auto, using(crate::proofs::Tallied::tally_at, crate::proofs::Tallied::within_tallies))]
 pub(crate) fn lay<T: Targets>(
     alloc: Global,
     statements: &[Statement],
@@ -50,8 +50,8 @@ pub(crate) fn lay<T: Targets>(
 }
 
 // Puts the nodes of a thread for a statement behind the others.
-#[tactic(auto, using(crate::proofs::Tallied::first_part, crate::proofs::Tallied::second_part))]
 #[cycle(laying)]
+#[tactic(auto, using(crate::proofs::Tallied::first_part, crate::proofs::Tallied::second_part))]
 fn lay_statement<T: Targets>(
     alloc: Global,
     statement: &Statement,

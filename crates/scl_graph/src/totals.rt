@@ -148,8 +148,8 @@ pub(crate) fn totals_of(statements: &[Statement]) -> Option<Totals>
 }
 
 // What a statement counts.
-#[tactic(auto, using(crate::proofs::Pieces::piece_of_assign, crate::proofs::Pieces::piece_of_label, crate::proofs::Pieces::piece_of_goto, crate::proofs::Pieces::piece_of_pause, crate::proofs::Pieces::piece_of_if, crate::proofs::Pieces::piece_of_fork))]
 #[cycle(totalling)]
+#[tactic(auto, using(crate::proofs::Pieces::piece_of_assign, crate::proofs::Pieces::piece_of_label, crate::proofs::Pieces::piece_of_goto, crate::proofs::Pieces::piece_of_pause, crate::proofs::Pieces::piece_of_if, crate::proofs::Pieces::piece_of_fork))]
 fn statement_totals(statement: &Statement) -> Option<Totals>
     ensures { SomeIff result (AreCounted (totals_of statement.now)) (totals_of statement.now) }
 {

@@ -36,10 +36,3 @@ untold line text command old new utf8 trimmed says may =
       text = λ _. subst (λ t. MayDo (said t) t old new) trimmed here;
       no_text = λ none. absurd (none utf8);
     }
-
-pub untold_none : (line : List ℕ) (old new : History) → ¬ IsUtf8 line → new ≡ old → IsUntold line old new
-untold_none line old new none same =
-    record {
-      text = λ utf8. absurd (none utf8);
-      no_text = λ _. same;
-    }

@@ -8,6 +8,3 @@ not_read p was is = cc
 
 pub behind_on : (p q r : Option Progress) → StaysOpen p q → IsNotReadBehind q r → IsNotReadBehind p r
 behind_on p q r stays read was = read (stays was)
-
-pub open_on : (p q r : Option Progress) → StaysOpen p q → StaysOpen q r → StaysOpen p r
-open_on p q r first next was = next (first was)

@@ -127,10 +127,6 @@ has_stopped first here start now number k old new newer play_fault.Write is l u 
 
 -- ---- one line
 
--- nothing is ahead
-pub nothing_ahead : (h : History) (now after old : Option (List ℕ)) → IsAtEnd now → Ends h h now after old old
-nothing_ahead h now after old ended = inl (refl, ended, refl)
-
 -- the line says that this is the end
 pub says_end : (line : List ℕ) (h next : History) (now after old : Option (List ℕ)) → TakesLine now after line → Answers line h next None
     → Ends h next now after old old
