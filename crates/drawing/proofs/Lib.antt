@@ -1,1 +1,2 @@
 mod WrittenTrees
+mod Putting

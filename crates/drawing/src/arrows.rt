@@ -6,10 +6,9 @@ ghost use Rattle.std.specs.Prelude.{◌≡◌};
 ghost use Rattle.drawing.specs.Labels.{head_text, line_text, tail_text};
 
 use crate::drawn::{Arrow, DrawnState};
-use crate::pieces::{path_in, put_all};
+use crate::sheet::Sheet;
 use core_charts::TransitionKind;
 use sqlite_items::at;
-use std::alloc::{AllocError, Global};
 
 // How the arrow to the words of a transition is drawn.
 fn tail_text(kind: TransitionKind) -> &'static str
@@ -42,114 +41,74 @@ fn line_text(immediate: bool) -> &'static str
     if immediate { ", style=\"dashed\"" } else { "" }
 }
 
-/// The states of a region, and the path of that.
+// A transition of a state of a region: the numbers of the state and of the transition.
 #[derive(Clone, Copy)]
-pub(crate) struct Place<'a> {
-    pub(crate) states: &'a [DrawnState],
-    pub(crate) path: &'a str,
+struct Origin {
+    state: u32,
+    number: u32,
 }
 
-// Says behind a text where an arrow is cut that ends or begins at the state of this number and node: at the border of a
-// superstate.
-fn put_cut(
-    text: &mut String,
-    states: &[DrawnState],
-    end: &str,
-    number: u32,
-    node: &str,
-) -> Result<(), AllocError> {
+// Puts the name of the node of the words of a transition.
+fn put_name(sheet: &mut Sheet, origin: Origin) {
+    sheet.put_inner(origin.state);
+    sheet.put(" ");
+    sheet.text.put_number(origin.number);
+}
+
+// Says where an arrow is cut that ends or begins at the state of this number: at the border of a superstate.
+fn put_cut(sheet: &mut Sheet, states: &[DrawnState], end: &str, number: u32) {
     match at(states, number as usize) {
         Some(state) if state.is_superstate() => {
-            put_all(text, &[", ", end, "=\"cluster_", node, "\""])
+            sheet.put(end);
+            sheet.put_inner(number);
+            sheet.put("\"");
         }
-        _ => Ok(()),
+        _ => {}
     }
 }
 
-// Where an arrow to words ends that leads back to its state, and where that from them begins: at their sides, so that
-// the two stand apart.
-fn side(end: &'static str, is_loop: bool) -> &'static str {
-    if is_loop { end } else { "" }
+// Puts a piece where an arrow leads to the state of this number. Arrows to words from there and back stand apart so.
+fn put_side(sheet: &mut Sheet, arrow: &Arrow, from: u32, side: &str) {
+    if arrow.target == from {
+        sheet.put(side);
+    }
 }
 
-// Puts the node of the words of a transition behind a text.
-fn put_words(text: &mut String, node: &str, words: &str) -> Result<(), AllocError> {
-    let drawn = "\" [shape=\"plaintext\", fontsize=10, margin=0, height=0, label=\"";
-    put_all(text, &["\"", node, drawn, words, "\"];\n"])
+// Puts the node of the words of a transition.
+fn put_words(sheet: &mut Sheet, origin: Origin, words: &str) {
+    sheet.put("\"");
+    put_name(sheet, origin);
+    sheet.put("\" [shape=\"plaintext\", fontsize=10, margin=0, height=0, label=\"");
+    sheet.put(words);
+    sheet.put("\"];\n");
 }
 
-// Puts the arrow from a state, whose node this is, to the words of a transition behind a text.
-fn put_tail(
-    text: &mut String,
-    states: &[DrawnState],
-    from: u32,
-    own: &str,
-    words: &str,
-    arrow: &Arrow,
-) -> Result<(), AllocError> {
-    let tail = tail_text(arrow.kind);
-    let line = line_text(arrow.immediate);
-    let west = side(", headport=\"w\"", arrow.target == from);
-    put_all(text, &["\"", own, "\" -> \"", words, "\" ["])?;
-    put_all(text, &[tail, line])?;
-    put_cut(text, states, "ltail", from, own)?;
-    put_all(text, &[west, "];\n"])
+// Puts the arrow from a state to the words of a transition.
+fn put_tail(sheet: &mut Sheet, states: &[DrawnState], origin: Origin, arrow: &Arrow) {
+    sheet.put("\"");
+    sheet.put_inner(origin.state);
+    sheet.put("\" -> \"");
+    put_name(sheet, origin);
+    sheet.put("\" [");
+    sheet.put(tail_text(arrow.kind));
+    sheet.put(line_text(arrow.immediate));
+    put_cut(sheet, states, ", ltail=\"cluster_", origin.state);
+    put_side(sheet, arrow, origin.state, ", headport=\"w\"");
+    sheet.put("];\n");
 }
 
-// Puts the arrow from the words of a transition to its target, whose node this is, behind a text.
-fn put_head(
-    text: &mut String,
-    states: &[DrawnState],
-    from: u32,
-    words: &str,
-    target: &str,
-    arrow: &Arrow,
-) -> Result<(), AllocError> {
-    let head = head_text(arrow.kind);
-    let line = line_text(arrow.immediate);
-    let east = side(", tailport=\"e\"", arrow.target == from);
-    put_all(text, &["\"", words, "\" -> \"", target, "\" ["])?;
-    put_all(text, &[head, line])?;
-    put_cut(text, states, "lhead", arrow.target, target)?;
-    put_all(text, &[east, "];\n"])
-}
-
-// Puts the node of the words of a transition, and the arrows to it and from it, behind a text.
-fn put_arrows(
-    text: &mut String,
-    states: &[DrawnState],
-    from: u32,
-    own: &str,
-    words: &str,
-    target: &str,
-    arrow: &Arrow,
-) -> Result<(), AllocError> {
-    put_words(text, words, arrow.words.as_str())?;
-    put_tail(text, states, from, own, words, arrow)?;
-    put_head(text, states, from, words, target, arrow)
-}
-
-// The same for the transition of this number of a state.
-fn put_transition(
-    alloc: Global,
-    text: &mut String,
-    place: Place<'_>,
-    from: u32,
-    own: &str,
-    number: u32,
-    arrow: &Arrow,
-) -> Result<(), AllocError> {
-    let words = format!(in alloc; "{own} {number}")?;
-    let target = path_in(alloc, place.path, arrow.target)?;
-    put_arrows(
-        text,
-        place.states,
-        from,
-        own,
-        words.as_str(),
-        target.as_str(),
-        arrow,
-    )
+// Puts the arrow from the words of a transition to its target.
+fn put_head(sheet: &mut Sheet, states: &[DrawnState], origin: Origin, arrow: &Arrow) {
+    sheet.put("\"");
+    put_name(sheet, origin);
+    sheet.put("\" -> \"");
+    sheet.put_inner(arrow.target);
+    sheet.put("\" [");
+    sheet.put(head_text(arrow.kind));
+    sheet.put(line_text(arrow.immediate));
+    put_cut(sheet, states, ", lhead=\"cluster_", arrow.target);
+    put_side(sheet, arrow, origin.state, ", tailport=\"e\"");
+    sheet.put("];\n");
 }
 
 // Whether a transition of the state of this number shares an arrow.
@@ -157,50 +116,55 @@ fn is_shared(state: &DrawnState, from: u32, arrow: &Arrow) -> bool {
     arrow.target == from && !arrow.immediate && !state.is_superstate()
 }
 
-// Puts the arrows of the transitions of a state, but for one that some of them share, behind a text, and the words of
-// these behind others.
-fn put_unshared(
-    alloc: Global,
-    text: &mut String,
-    shared: &mut String,
-    place: Place<'_>,
-    from: u32,
-    own: &str,
-    state: &DrawnState,
-) -> Result<(), AllocError> {
+// Puts the words of the transitions of a state, and the arrows to them and from them, but for those that share an arrow.
+fn put_unshared(sheet: &mut Sheet, states: &[DrawnState], from: u32, state: &DrawnState) {
     let mut number: u32 = 1;
     for arrow in state.arrows.as_slice() {
-        if is_shared(state, from, arrow) {
-            shared.push_str(arrow.words.as_str())?;
-        } else {
-            put_transition(alloc, text, place, from, own, number, arrow)?;
+        if !is_shared(state, from, arrow) {
+            let origin = Origin {
+                state: from,
+                number,
+            };
+            put_words(sheet, origin, arrow.words.as_str());
+            put_tail(sheet, states, origin, arrow);
+            put_head(sheet, states, origin, arrow);
         }
         number = number.saturating_add(1);
     }
-    Ok(())
 }
 
-// Puts the arrow that such transitions share, whose words these are, behind a text.
-fn put_shared(text: &mut String, own: &str, words: &str) -> Result<(), AllocError> {
-    if words.is_empty() {
-        return Ok(());
+// Puts what begins the arrow that transitions of the state of this number share.
+fn put_shared_opening(sheet: &mut Sheet, from: u32) {
+    sheet.put("\"");
+    sheet.put_inner(from);
+    sheet.put("\" -> \"");
+    sheet.put_inner(from);
+    sheet.put("\" [label=\"");
+}
+
+// Puts the arrow that transitions of a state share, where they have words.
+fn put_shared(sheet: &mut Sheet, from: u32, state: &DrawnState) {
+    let mut is_open = false;
+    for arrow in state.arrows.as_slice() {
+        if is_shared(state, from, arrow) && !arrow.words.is_empty() {
+            if !is_open {
+                put_shared_opening(sheet, from);
+                is_open = true;
+            }
+            sheet.put(arrow.words.as_str());
+        }
     }
-    put_all(
-        text,
-        &["\"", own, "\" -> \"", own, "\" [label=\"", words, "\"];\n"],
-    )
+    if is_open {
+        sheet.put("\"];\n");
+    }
 }
 
-/// Puts the arrows of the transitions of the state of this number behind a text. Err: memory was refused.
-pub(crate) fn put_transitions(
-    alloc: Global,
-    text: &mut String,
-    place: Place<'_>,
-    from: u32,
-    state: &DrawnState,
-) -> Result<(), AllocError> {
-    let own = path_in(alloc, place.path, from)?;
-    let mut shared = String::new(alloc);
-    put_unshared(alloc, text, &mut shared, place, from, own.as_str(), state)?;
-    put_shared(text, own.as_str(), shared.as_str())
+/// Puts the arrows of the transitions of all states of a region.
+pub(crate) fn put_transitions(sheet: &mut Sheet, states: &[DrawnState]) {
+    let mut from: u32 = 0;
+    for state in states {
+        put_unshared(sheet, states, from, state);
+        put_shared(sheet, from, state);
+        from = from.saturating_add(1);
+    }
 }

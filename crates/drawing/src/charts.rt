@@ -12,86 +12,99 @@ use core_charts::{Chart, Region, State, Transition};
 use sqlite_items::Items;
 use std::alloc::{AllocError, Global};
 
-// Puts the arrows of these transitions of a state behind others.
-fn put_arrows(
+// A text that was made. Where memory was refused to it, that is noted, and it is empty.
+fn text_of(alloc: Global, made: Result<String, AllocError>, is_refused: &mut bool) -> String {
+    match made {
+        Ok(text) => text,
+        Err(_) => {
+            *is_refused = true;
+            String::new(alloc)
+        }
+    }
+}
+
+// The arrows of these transitions of a state. It is noted where memory was refused.
+fn arrows_of(
+    transitions: &[Transition],
     alloc: Global,
     symbols: &[Symbol],
-    transitions: &[Transition],
-    arrows: &mut Items<Arrow>,
-) -> Result<(), AllocError> {
+    is_refused: &mut bool,
+) -> Items<Arrow> {
+    let mut arrows = Items::new(alloc);
     let mut number: u32 = 1;
     for transition in transitions {
-        arrows.push(Arrow {
+        let words = transition_text(alloc, symbols, number, transition);
+        let arrow = Arrow {
             kind: transition.kind,
             immediate: transition.immediate,
             target: transition.target,
-            words: transition_text(alloc, symbols, number, transition)?,
-        })?;
+            words: text_of(alloc, words, is_refused),
+        };
+        if arrows.push(arrow).is_err() {
+            *is_refused = true;
+        }
         number = number.saturating_add(1);
     }
-    Ok(())
+    arrows
 }
 
-// Puts what is drawn of regions behind others.
+// What is drawn of regions. It is noted where memory was refused.
 #[cycle(charted)]
-fn put_regions(
+fn regions_of(
     regions: &[Region],
     alloc: Global,
     symbols: &[Symbol],
-    drawn: &mut Items<DrawnRegion>,
-) -> Result<(), AllocError> {
+    is_refused: &mut bool,
+) -> Items<DrawnRegion> {
+    let mut drawn = Items::new(alloc);
     for region in regions {
-        let mut states = Items::new(alloc);
-        put_states(region.states.as_slice(), alloc, symbols, &mut states)?;
-        drawn.push(DrawnRegion {
+        let region = DrawnRegion {
             name: region.name,
-            states,
-        })?;
+            states: states_of(region.states.as_slice(), alloc, symbols, is_refused),
+        };
+        if drawn.push(region).is_err() {
+            *is_refused = true;
+        }
     }
-    Ok(())
+    drawn
 }
 
-// Puts what is drawn of states behind others.
+// What is drawn of states. It is noted where memory was refused.
 #[cycle(charted)]
-fn put_states(
+fn states_of(
     states: &[State],
     alloc: Global,
     symbols: &[Symbol],
-    drawn: &mut Items<DrawnState>,
-) -> Result<(), AllocError> {
+    is_refused: &mut bool,
+) -> Items<DrawnState> {
+    let mut drawn = Items::new(alloc);
     for state in states {
-        let mut regions = Items::new(alloc);
-        put_regions(state.regions.as_slice(), alloc, symbols, &mut regions)?;
-        put_state(state, alloc, symbols, regions, drawn)?;
+        let label = String::from_str(alloc, state.name.as_str());
+        let state = DrawnState {
+            label: text_of(alloc, label, is_refused),
+            is_initial: state.is_initial,
+            is_final: state.is_final,
+            regions: regions_of(state.regions.as_slice(), alloc, symbols, is_refused),
+            arrows: arrows_of(state.transitions.as_slice(), alloc, symbols, is_refused),
+        };
+        if drawn.push(state).is_err() {
+            *is_refused = true;
+        }
     }
-    Ok(())
+    drawn
 }
 
-// Puts what is drawn of a state with these regions behind others.
-fn put_state(
-    state: &State,
-    alloc: Global,
-    symbols: &[Symbol],
-    regions: Items<DrawnRegion>,
-    drawn: &mut Items<DrawnState>,
-) -> Result<(), AllocError> {
-    let mut arrows = Items::new(alloc);
-    put_arrows(alloc, symbols, state.transitions.as_slice(), &mut arrows)?;
-    drawn.push(DrawnState {
-        label: String::from_str(alloc, state.name.as_str())?,
-        is_initial: state.is_initial,
-        is_final: state.is_final,
-        regions,
-        arrows,
-    })
-}
-
-// What is drawn of the regions of a chart.
+// What is drawn of the regions of a chart. Err: memory was refused.
 fn drawn_of(alloc: Global, chart: &Chart) -> Result<Items<DrawnRegion>, AllocError> {
     let symbols = symbols_of(alloc, chart.variables())?;
-    let mut drawn = Items::new(alloc);
-    put_regions(chart.regions(), alloc, symbols.as_slice(), &mut drawn)?;
-    Ok(drawn)
+    let mut is_refused = false;
+    let drawn = regions_of(chart.regions(), alloc, symbols.as_slice(), &mut is_refused);
+    if is_refused {
+        drop(drawn);
+        Err(AllocError)
+    } else {
+        Ok(drawn)
+    }
 }
 
 /// A chart as Graphviz text: regions and superstates are clusters, simple states nodes, and each transition an arrow
@@ -102,7 +115,7 @@ fn drawn_of(alloc: Global, chart: &Chart) -> Result<Items<DrawnRegion>, AllocErr
 pub fn chart_drawing(alloc: Global, chart: &Chart) -> Result<String, AllocError>
     ensures { IfOk result (λ text. IsDrawing chart.now.name (string_bytes text)) }
 {
-    let regions = drawn_of(alloc, chart)?;
     let variables = variable_lines(alloc, chart.variables())?;
+    let regions = drawn_of(alloc, chart)?;
     drawing_of(alloc, chart.name(), variables.as_str(), regions.as_slice())
 }

@@ -1,12 +1,15 @@
 //! The words of a transition.
 
-ghost use Rattle.std.specs.Prelude.{◌≡◌, IfOk, nat_eq, string_bytes};
+ghost use Rattle.std.specs.Prelude.{◌≡◌, ◌++◌, codes, IfOk, nat_eq, string_bytes};
+ghost use Rattle.std.specs.Fmt.{decimal};
 ghost use Rattle.std.specs.List.{list_any};
 ghost use Rattle.drawing.specs.Labels.{do_text, effect_text, effects_text, further_text, immediate_text};
 ghost use Rattle.drawing.specs.Labels.{kind_word, transition_text, trigger_text, words_text};
+ghost use Rattle.drawing.specs.Inside.Puts.{Puts};
 
-use crate::expressions::sparing_text;
-use crate::symbols::{Symbol, symbol_text};
+use crate::expressions::put_expression;
+use crate::symbols::{Symbol, put_symbol};
+use crate::text::Text;
 use core_charts::{Effect, Transition, TransitionKind};
 use sc_graph::VariableId;
 use sc_values::Expr;
@@ -37,12 +40,17 @@ pub fn trigger_text(
 ) -> Result<String, AllocError>
     ensures { IfOk result (λ text. string_bytes text ≡ trigger_text symbols.now trigger.now) }
 {
-    match trigger {
-        Some(trigger) => {
-            let test = sparing_text(alloc, symbols, trigger)?;
-            format!(in alloc; " if {test}")
-        }
-        None => Ok(String::new(alloc)),
+    let mut text = Text::new(alloc);
+    put_trigger(&mut text, symbols, trigger);
+    text.finish()
+}
+
+fn put_trigger(text: &mut Text, symbols: &[Symbol], trigger: &Option<Expr>)
+    ensures { Puts text.old text.new (trigger_text symbols.now trigger.now) }
+{
+    if let Some(trigger) = trigger {
+        text.put(" if ");
+        put_expression(text, symbols, trigger);
     }
 }
 
@@ -54,7 +62,6 @@ fn is_among(signals: &[VariableId], variable: VariableId) -> bool
 
 /// An effect: the signal that is emitted, or the name of its variable, and the expression whose value that gets. Err:
 /// memory was refused.
-#[tactic(auto, unfolding(crate::specs::Labels::effect_text))]
 pub fn effect_text(
     alloc: Global,
     symbols: &[Symbol],
@@ -63,12 +70,23 @@ pub fn effect_text(
 ) -> Result<String, AllocError>
     ensures { IfOk result (λ text. string_bytes text ≡ effect_text symbols.now signals.now effect.now) }
 {
-    let name = symbol_text(alloc, symbols, effect.variable)?;
+    let mut text = Text::new(alloc);
+    put_effect(&mut text, symbols, signals, effect);
+    text.finish()
+}
+
+#[tactic(auto, unfolding(crate::specs::Labels::effect_text))]
+fn put_effect(text: &mut Text, symbols: &[Symbol], signals: &[VariableId], effect: &Effect)
+    ensures { Puts text.old text.new (effect_text symbols.now signals.now effect.now) }
+{
     if is_among(signals, effect.variable) {
-        return format!(in alloc; "emit {name}");
+        text.put("emit ");
+        put_symbol(text, symbols, effect.variable);
+    } else {
+        put_symbol(text, symbols, effect.variable);
+        text.put(" = ");
+        put_expression(text, symbols, &effect.value);
     }
-    let value = sparing_text(alloc, symbols, &effect.value)?;
-    format!(in alloc; "{name} = {value}")
 }
 
 /// The effects behind the first, each in a line of its own. Err: memory was refused.
@@ -80,13 +98,18 @@ pub fn further_text(
 ) -> Result<String, AllocError>
     ensures { IfOk result (λ text. string_bytes text ≡ further_text symbols.now signals.now effects.now) }
 {
-    let mut text = String::new(alloc);
+    let mut text = Text::new(alloc);
+    put_further(&mut text, symbols, signals, effects);
+    text.finish()
+}
+
+fn put_further(text: &mut Text, symbols: &[Symbol], signals: &[VariableId], effects: &[Effect])
+    ensures { Puts text.old text.new (further_text symbols.now signals.now effects.now) }
+{
     for effect in effects {
-        let one = effect_text(alloc, symbols, signals, effect)?;
-        text.push_str(",  \\l     ")?;
-        text.push_str(one.as_str())?;
+        text.put(",  \\l     ");
+        put_effect(text, symbols, signals, effect);
     }
-    Ok(text)
 }
 
 // What stands before the effects.
@@ -99,26 +122,36 @@ fn do_text(trigger: &Option<Expr>) -> &'static str
     }
 }
 
-// All effects, where there are some.
-fn effects_text(
-    alloc: Global,
+// Puts all effects, where there are some.
+fn put_effects(
+    text: &mut Text,
     symbols: &[Symbol],
     signals: &[VariableId],
     trigger: &Option<Expr>,
     effects: &[Effect],
-) -> Result<String, AllocError>
-    ensures { IfOk result (λ text. string_bytes text
-        ≡ effects_text symbols.now signals.now trigger.now effects.now) }
+)
+    ensures { Puts text.old text.new (effects_text symbols.now signals.now trigger.now effects.now) }
 {
     match effects {
-        [] => Ok(String::new(alloc)),
+        [] => {}
         [first, rest @ ..] => {
-            let word = do_text(trigger);
-            let one = effect_text(alloc, symbols, signals, first)?;
-            let others = further_text(alloc, symbols, signals, rest)?;
-            format!(in alloc; "{word}{one}{others}")
+            text.put(do_text(trigger));
+            put_effect(text, symbols, signals, first);
+            put_further(text, symbols, signals, rest);
         }
     }
+}
+
+// Puts with what the words of the transition of this number begin.
+fn put_opening(text: &mut Text, number: u32, transition: &Transition)
+    ensures { Puts text.old text.new (codes "  " ++ (decimal number ++ (codes ":"
+        ++ (kind_word transition.now.kind ++ immediate_text transition.now.immediate)))) }
+{
+    text.put("  ");
+    text.put_number(number);
+    text.put(":");
+    text.put(kind_word(transition.kind));
+    text.put(immediate_text(transition.immediate));
 }
 
 /// The transition with this number among those of its state, in the words of chart text, without its target: what it
@@ -135,11 +168,14 @@ pub fn words_text(
     ensures { IfOk result (λ text. string_bytes text
         ≡ words_text symbols.now signals.now number transition.now asked.now entering.now) }
 {
-    let kind = kind_word(transition.kind);
-    let immediate = immediate_text(transition.immediate);
+    let mut text = Text::new(alloc);
     let own = transition.effects.as_slice();
-    let effects = effects_text(alloc, symbols, signals, &transition.trigger, own)?;
-    format!(in alloc; "  {number}:{kind}{immediate}{asked}{effects}{entering}  \\l")
+    put_opening(&mut text, number, transition);
+    text.put(asked);
+    put_effects(&mut text, symbols, signals, &transition.trigger, own);
+    text.put(entering);
+    text.put("  \\l");
+    text.finish()
 }
 
 /// The transition of a chart with this number among those of its state. Err: memory was refused.
@@ -151,6 +187,11 @@ pub(crate) fn transition_text(
 ) -> Result<String, AllocError>
     ensures { IfOk result (λ text. string_bytes text ≡ transition_text symbols.now number transition.now) }
 {
-    let asked = trigger_text(alloc, symbols, &transition.trigger)?;
-    words_text(alloc, symbols, &[], number, transition, asked.as_str(), "")
+    let mut text = Text::new(alloc);
+    let own = transition.effects.as_slice();
+    put_opening(&mut text, number, transition);
+    put_trigger(&mut text, symbols, &transition.trigger);
+    put_effects(&mut text, symbols, &[], &transition.trigger, own);
+    text.put("  \\l");
+    text.finish()
 }

@@ -9,11 +9,12 @@ mod flow;
 mod graphs;
 mod labels;
 mod levels;
-mod pieces;
 mod protocol;
 mod regions;
+mod sheet;
 mod stacking;
 mod symbols;
+mod text;
 mod variables;
 
 pub use charts::chart_drawing;

@@ -2,9 +2,10 @@
 
 ghost use Rattle.sc_graph.specs.Links.{Tells};
 
+use crate::text::Text;
 use conflict_edges::{ConflictFault, Edges, conflicts};
 use sc_graph::{Links, NodeId, Program};
-use std::alloc::{AllocError, Global};
+use std::alloc::Global;
 
 // How many arrows of protocol edges a drawing has: of more nobody sees anything.
 const MOST_ARROWS: u32 = 4096;
@@ -16,102 +17,78 @@ struct Arrows {
     left_out: u32,
 }
 
-// Puts an arrow behind a text, if there are not too many.
-fn put_arrow(
-    alloc: Global,
-    text: &mut String,
-    arrows: &mut Arrows,
-    from: NodeId,
-    to: NodeId,
-) -> Result<(), AllocError> {
-    if arrows.drawn >= MOST_ARROWS {
-        arrows.left_out = arrows.left_out.saturating_add(1);
-        return Ok(());
-    }
-    arrows.drawn = arrows.drawn.saturating_add(1);
-    let line = format!(in alloc;
-        "\"{from}\" -> \"{to}\" [style=\"dotted\", color=\"blue\", constraint=\"false\"];\n"
-    )?;
-    text.push_str(line.as_str())
+// Puts a line between two nodes, which is drawn so.
+fn put_line(text: &mut Text, from: NodeId, to: NodeId, drawn: &str) {
+    text.put("\"");
+    text.put_number(from as u32);
+    text.put("\" -> \"");
+    text.put_number(to as u32);
+    text.put(drawn);
 }
 
-// Puts the arrows from a node to those of these nodes that are concurrent with it behind a text.
+// Puts an arrow, if there are not too many.
+fn put_arrow(text: &mut Text, arrows: &mut Arrows, from: NodeId, to: NodeId) {
+    if arrows.drawn >= MOST_ARROWS {
+        arrows.left_out = arrows.left_out.saturating_add(1);
+        return;
+    }
+    arrows.drawn = arrows.drawn.saturating_add(1);
+    let drawn = "\" [style=\"dotted\", color=\"blue\", constraint=\"false\"];\n";
+    put_line(text, from, to, drawn);
+}
+
+// Puts the arrows from a node to those of these nodes that are concurrent with it.
 fn put_arrows(
-    alloc: Global,
-    text: &mut String,
+    text: &mut Text,
     edges: &Edges<'_>,
     arrows: &mut Arrows,
     from: NodeId,
     others: &[NodeId],
-) -> Result<(), AllocError> {
+) {
     for other in others {
-        let to = *other;
-        if edges.are_concurrent(from, to) {
-            put_arrow(alloc, text, arrows, from, to)?;
+        if edges.are_concurrent(from, *other) {
+            put_arrow(text, arrows, from, *other);
         }
     }
-    Ok(())
 }
 
 // Says how many arrows were left out, in a note.
-fn put_left_out(alloc: Global, text: &mut String, left_out: u32) -> Result<(), AllocError> {
-    if left_out == 0 {
-        return Ok(());
+fn put_left_out(text: &mut Text, left_out: u32) {
+    if left_out > 0 {
+        text.put("\"left out\" [shape=\"note\", label=\"");
+        text.put_number(left_out);
+        text.put(" more protocol edges are left out\"];\n");
     }
-    let note = format!(in alloc;
-        "\"left out\" [shape=\"note\", label=\"{left_out} more protocol edges are left out\"];\n"
-    )?;
-    text.push_str(note.as_str())
 }
 
-// Puts the arrows of protocol edges behind a text, and how many were left out.
-fn put_edges(
-    alloc: Global,
-    text: &mut String,
-    program: &Program,
-    edges: &Edges<'_>,
-) -> Result<(), AllocError> {
+// Puts the arrows of protocol edges, and how many were left out.
+fn put_edges(text: &mut Text, program: &Program, edges: &Edges<'_>) {
     let mut arrows = Arrows {
         drawn: 0,
         left_out: 0,
     };
     for from in 0..program.node_count() {
         let followers = edges.followers(from);
-        put_arrows(alloc, text, edges, &mut arrows, from, followers.updates)?;
-        put_arrows(alloc, text, edges, &mut arrows, from, followers.reads)?;
+        put_arrows(text, edges, &mut arrows, from, followers.updates);
+        put_arrows(text, edges, &mut arrows, from, followers.reads);
     }
-    put_left_out(alloc, text, arrows.left_out)
+    put_left_out(text, arrows.left_out);
 }
 
-// Puts the line between two nodes that conflict behind a text.
-fn put_conflict(
-    alloc: Global,
-    text: &mut String,
-    first: NodeId,
-    second: NodeId,
-) -> Result<(), AllocError> {
-    let line = format!(in alloc;
-        "\"{first}\" -> \"{second}\" [dir=\"none\", color=\"red\", label=\"conflict\", constraint=\"false\"];\n"
-    )?;
-    text.push_str(line.as_str())
-}
-
-/// Puts the arrows of protocol edges behind a text, or, where two nodes conflict, the line between them. Err: memory
-/// was refused.
-pub(crate) fn put_protocol(
-    alloc: Global,
-    text: &mut String,
-    program: &Program,
-    links: &Links,
-) -> Result<(), AllocError>
+/// Puts the arrows of protocol edges, or, where two nodes conflict, the line between them.
+pub(crate) fn put_protocol(alloc: Global, text: &mut Text, program: &Program, links: &Links)
     requires { Tells program.now links.now }
 {
     if !program.formed_with(links) {
-        return Ok(());
+        return;
     }
     match conflicts(alloc, program, links) {
-        Ok(edges) => put_edges(alloc, text, program, &edges),
-        Err(ConflictFault::Memory) => Err(AllocError),
-        Err(ConflictFault::WriteWrite(first, second)) => put_conflict(alloc, text, first, second),
+        Ok(edges) => put_edges(text, program, &edges),
+        Err(ConflictFault::Memory) => text.refuse(),
+        Err(ConflictFault::WriteWrite(first, second)) => {
+            let drawn =
+                "\" [dir=\"none\", color=\"red\", label=\"conflict\", constraint=\"false\"];\n";
+            put_line(text, first, second, drawn);
+        }
     }
 }

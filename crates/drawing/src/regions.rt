@@ -5,10 +5,11 @@
 ghost use Rattle.std.specs.Prelude.{IfOk, string_bytes};
 ghost use Rattle.drawing.specs.Drawing.{IsDrawing};
 
-use crate::arrows::{Place, put_transitions};
+use crate::arrows::put_transitions;
 use crate::drawn::{DrawnRegion, DrawnState};
-use crate::pieces::{path_in, put_all, region_path};
+use crate::sheet::Sheet;
 use crate::stacking::put_stacks;
+use crate::text::graph_text;
 use crate::variables::put_variables;
 use sc_values::Name;
 use std::alloc::{AllocError, Global};
@@ -26,126 +27,85 @@ fn rings(state: &DrawnState) -> &'static str {
     if state.is_final { "2" } else { "1" }
 }
 
-// Puts the arrows of the transitions of all states of a region behind a text.
-fn put_all_transitions(
-    alloc: Global,
-    text: &mut String,
-    place: Place<'_>,
-) -> Result<(), AllocError> {
-    let mut from: u32 = 0;
-    for state in place.states {
-        put_transitions(alloc, text, place, from, state)?;
-        from = from.saturating_add(1);
-    }
-    Ok(())
+// Puts what begins the cluster of a region.
+fn put_region_opening(sheet: &mut Sheet, name: &Name) {
+    sheet.put("subgraph \"cluster_");
+    sheet.put_path();
+    sheet.put("\" {\nlabel=\"");
+    sheet.put(name.as_str());
+    sheet.put("\";\nstyle=\"dashed\";\n");
 }
 
-// Puts what begins the cluster of a region behind a text.
-fn put_region_opening(text: &mut String, path: &str, name: &Name) -> Result<(), AllocError> {
-    let named = "\" {\nlabel=\"";
-    let drawn = "\";\nstyle=\"dashed\";\n";
-    put_all(
-        text,
-        &["subgraph \"cluster_", path, named, name.as_str(), drawn],
-    )
-}
-
-// Puts the clusters of regions behind a text. Their paths begin so.
+// Puts the clusters of regions.
 #[cycle(put)]
-fn put_regions(
-    regions: &[DrawnRegion],
-    alloc: Global,
-    text: &mut String,
-    before: &str,
-) -> Result<(), AllocError> {
+fn put_regions(regions: &[DrawnRegion], sheet: &mut Sheet) {
     let mut number: u32 = 0;
     for region in regions {
-        let path = region_path(alloc, before, number)?;
-        put_region(region, alloc, text, path.as_str())?;
+        sheet.enter(number);
+        put_region_opening(sheet, &region.name);
+        put_states(region.states.as_slice(), sheet);
+        put_transitions(sheet, region.states.as_slice());
+        sheet.put("}\n");
+        sheet.leave();
         number = number.saturating_add(1);
     }
-    Ok(())
 }
 
-// Puts the cluster of a region behind a text. The numbers of the regions and states around it are its path.
+// Puts the nodes of simple states, and the clusters of superstates.
 #[cycle(put)]
-fn put_region(
-    region: &DrawnRegion,
-    alloc: Global,
-    text: &mut String,
-    path: &str,
-) -> Result<(), AllocError> {
-    put_region_opening(text, path, &region.name)?;
-    let states = region.states.as_slice();
+fn put_states(states: &[DrawnState], sheet: &mut Sheet) {
     let mut number: u32 = 0;
     for state in states {
-        let inner = path_in(alloc, path, number)?;
-        put_state(state, alloc, text, inner.as_str())?;
+        sheet.enter(number);
+        if state.is_superstate() {
+            put_state_opening(sheet, state);
+            put_regions(state.regions.as_slice(), sheet);
+            sheet.put("}\n");
+            put_stacks(sheet, state.regions.as_slice());
+        } else {
+            put_simple(sheet, state);
+        }
+        sheet.leave();
         number = number.saturating_add(1);
     }
-    put_all_transitions(alloc, text, Place { states, path })?;
-    text.push_str("}\n")
 }
 
-// Puts the node of a simple state behind a text.
-fn put_simple(text: &mut String, state: &DrawnState, path: &str) -> Result<(), AllocError> {
-    let label = state.label.as_str();
-    let border = border(state);
-    let rings = rings(state);
-    put_all(text, &["\"", path, "\" [label=\"", label])?;
-    put_all(text, &["\", shape=\"box\", style=\"rounded,", border])?;
-    put_all(text, &["\", peripheries=", rings, "];\n"])
+// Puts the node of a simple state.
+fn put_simple(sheet: &mut Sheet, state: &DrawnState) {
+    sheet.put("\"");
+    sheet.put_path();
+    sheet.put("\" [label=\"");
+    sheet.put(state.label.as_str());
+    sheet.put("\", shape=\"box\", style=\"rounded,");
+    sheet.put(border(state));
+    sheet.put("\", peripheries=");
+    sheet.put(rings(state));
+    sheet.put("];\n");
 }
 
-// Puts what begins the cluster of a superstate behind a text.
-fn put_state_opening(text: &mut String, state: &DrawnState, path: &str) -> Result<(), AllocError> {
-    let label = state.label.as_str();
-    let border = border(state);
-    let point = "\" [shape=\"point\", style=\"invis\", width=0];\n";
-    put_all(
-        text,
-        &["subgraph \"cluster_", path, "\" {\nlabel=\"", label],
-    )?;
-    put_all(text, &["\";\nstyle=\"rounded,", border, "\";\n"])?;
-    put_all(text, &["\"", path, point])
+// Puts what begins the cluster of a superstate.
+fn put_state_opening(sheet: &mut Sheet, state: &DrawnState) {
+    sheet.put("subgraph \"cluster_");
+    sheet.put_path();
+    sheet.put("\" {\nlabel=\"");
+    sheet.put(state.label.as_str());
+    sheet.put("\";\nstyle=\"rounded,");
+    sheet.put(border(state));
+    sheet.put("\";\n\"");
+    sheet.put_path();
+    sheet.put("\" [shape=\"point\", style=\"invis\", width=0];\n");
 }
 
-// Puts the node of a simple state, or the cluster of a superstate, behind a text.
-#[cycle(put)]
-fn put_state(
-    state: &DrawnState,
-    alloc: Global,
-    text: &mut String,
-    path: &str,
-) -> Result<(), AllocError> {
-    if !state.is_superstate() {
-        return put_simple(text, state, path);
-    }
-    put_state_opening(text, state, path)?;
-    let regions = state.regions.as_slice();
-    let inside = format!(in alloc; "{path}_")?;
-    put_regions(regions, alloc, text, inside.as_str())?;
-    text.push_str("}\n")?;
-    put_stacks(alloc, text, regions, inside.as_str())
-}
-
-// Puts what stands in the drawing of a chart of this name behind a text: its title, the lines of its variables, and the
-// clusters of its regions.
-fn put_body(
-    alloc: Global,
-    text: &mut String,
-    name: &Name,
-    variables: &str,
-    regions: &[DrawnRegion],
-) -> Result<(), AllocError> {
-    let title = name.as_str();
-    put_all(
-        text,
-        &["label=\"", title, "\";\ncompound=\"true\";\n", FONTS],
-    )?;
-    put_variables(text, variables)?;
-    put_regions(regions, alloc, text, "")?;
-    put_stacks(alloc, text, regions, "")
+// Puts what stands in the drawing of a chart of this name: its title, the lines of its variables, and the clusters of
+// its regions.
+fn put_body(sheet: &mut Sheet, name: &Name, variables: &str, regions: &[DrawnRegion]) {
+    sheet.put("label=\"");
+    sheet.put(name.as_str());
+    sheet.put("\";\ncompound=\"true\";\n");
+    sheet.put(FONTS);
+    put_variables(sheet, variables);
+    put_regions(regions, sheet);
+    put_stacks(sheet, regions);
 }
 
 /// The Graphviz text of a chart of this name, whose variables have these lines, and in which this is drawn. Err: memory
@@ -158,7 +118,7 @@ pub fn drawing_of(
 ) -> Result<String, AllocError>
     ensures { IfOk result (λ text. IsDrawing name (string_bytes text)) }
 {
-    let mut body = String::new(alloc);
-    put_body(alloc, &mut body, &name, variables, regions)?;
-    format!(in alloc; "digraph \"{name}\" {{\n{body}}}\n")
+    let mut sheet = Sheet::new(alloc);
+    put_body(&mut sheet, &name, variables, regions);
+    graph_text(alloc, &name, sheet.text)
 }

@@ -2,8 +2,7 @@
 //! of the next.
 
 use crate::drawn::{DrawnRegion, DrawnState};
-use crate::pieces::{path_in, put_all, region_path};
-use std::alloc::{AllocError, Global};
+use crate::sheet::{Place, Sheet};
 
 // The number of the initial state.
 fn initial_of(region: &DrawnRegion) -> u32 {
@@ -17,47 +16,38 @@ fn initial_of(region: &DrawnRegion) -> u32 {
     0
 }
 
-// Puts an arrow that is not seen behind a text.
-fn put_unseen(text: &mut String, from: &str, to: &str) -> Result<(), AllocError> {
-    let drawn = "\" [style=\"invis\", weight=0];\n";
-    put_all(text, &["\"", from, "\" -> \"", to, drawn])
+// Puts an arrow that is not seen from what is put to the state of this place.
+fn put_unseen(sheet: &mut Sheet, to: Place) {
+    sheet.put("\"");
+    sheet.put_path();
+    sheet.put("\" -> \"");
+    sheet.put_place(to);
+    sheet.put("\" [style=\"invis\", weight=0];\n");
 }
 
-// Puts such arrows from all that is in the region of this path behind a text.
+// Puts such arrows from all that is in these regions.
 #[cycle(stacked)]
-fn put_region_above(
-    region: &DrawnRegion,
-    alloc: Global,
-    text: &mut String,
-    path: &str,
-    to: &str,
-) -> Result<(), AllocError> {
+fn put_regions_above(regions: &[DrawnRegion], sheet: &mut Sheet, to: Place) {
     let mut number: u32 = 0;
-    for state in region.states.as_slice() {
-        let inner = path_in(alloc, path, number)?;
-        put_state_above(state, alloc, text, inner.as_str(), to)?;
+    for region in regions {
+        sheet.enter(number);
+        put_states_above(region.states.as_slice(), sheet, to);
+        sheet.leave();
         number = number.saturating_add(1);
     }
-    Ok(())
 }
 
-// Puts such arrows from the state of this path, and from all in it, behind a text.
+// Puts such arrows from these states, and from all in them.
 #[cycle(stacked)]
-fn put_state_above(
-    state: &DrawnState,
-    alloc: Global,
-    text: &mut String,
-    path: &str,
-    to: &str,
-) -> Result<(), AllocError> {
-    put_unseen(text, path, to)?;
+fn put_states_above(states: &[DrawnState], sheet: &mut Sheet, to: Place) {
     let mut number: u32 = 0;
-    for region in state.regions.as_slice() {
-        let inner = path_in(alloc, path, number)?;
-        put_region_above(region, alloc, text, inner.as_str(), to)?;
+    for state in states {
+        sheet.enter(number);
+        put_unseen(sheet, to);
+        put_regions_above(state.regions.as_slice(), sheet, to);
+        sheet.leave();
         number = number.saturating_add(1);
     }
-    Ok(())
 }
 
 // How many states stand in a region, those of its superstates with it.
@@ -103,14 +93,8 @@ fn columns_for(states: u32) -> u32 {
     columns
 }
 
-/// Puts the arrows by which regions, whose paths begin so, stand above the next ones of their column behind a text. A
-/// column has its share of the states. Err: memory was refused.
-pub(crate) fn put_stacks(
-    alloc: Global,
-    text: &mut String,
-    regions: &[DrawnRegion],
-    path: &str,
-) -> Result<(), AllocError> {
+/// Puts the arrows by which regions stand above the next ones of their column. A column has its share of the states.
+pub(crate) fn put_stacks(sheet: &mut Sheet, regions: &[DrawnRegion]) {
     let all = count_in_all(regions);
     let columns = columns_for(all);
     let mut above: Option<&DrawnRegion> = None;
@@ -122,27 +106,22 @@ pub(crate) fn put_stacks(
             filled = 0;
         }
         if let Some(upper) = above {
-            put_above(alloc, text, upper, region, path, number)?;
+            put_above(sheet, upper, region, number);
         }
         above = Some(region);
         filled = filled.saturating_add(count_in_region(region));
         number = number.saturating_add(1);
     }
-    Ok(())
 }
 
-// Puts the arrows by which a region stands above the next one, which has this number, behind a text.
-fn put_above(
-    alloc: Global,
-    text: &mut String,
-    upper: &DrawnRegion,
-    region: &DrawnRegion,
-    path: &str,
-    number: u32,
-) -> Result<(), AllocError> {
-    let initial = initial_of(region);
-    let last = number.saturating_sub(1);
-    let from = region_path(alloc, path, last)?;
-    let to = format!(in alloc; "{path}{number}_{initial}")?;
-    put_region_above(upper, alloc, text, from.as_str(), to.as_str())
+// Puts the arrows by which a region stands above the next one, which has this number.
+fn put_above(sheet: &mut Sheet, upper: &DrawnRegion, region: &DrawnRegion, number: u32) {
+    let to = Place {
+        depth: sheet.depth(),
+        region: number,
+        state: initial_of(region),
+    };
+    sheet.enter(number.saturating_sub(1));
+    put_states_above(upper.states.as_slice(), sheet, to);
+    sheet.leave();
 }

@@ -1,8 +1,10 @@
 //! What the numbers in expressions name.
 
-ghost use Rattle.std.specs.Prelude.{◌≡◌, IfOk, map, slice_get, string_bytes};
+ghost use Rattle.std.specs.Prelude.{◌≡◌, IfOk, map, slice_get};
 ghost use Rattle.drawing.specs.Expressions.{own_name, symbol_of, symbol_text};
+ghost use Rattle.drawing.specs.Inside.Puts.{Puts};
 
+use crate::text::Text;
 use sc_graph::{Variable, VariableId};
 use sc_values::Name;
 use sqlite_items::{Items, at};
@@ -29,29 +31,26 @@ pub(crate) fn symbols_of(alloc: Global, variables: &[Variable]) -> Result<Items<
 }
 
 // The name of this number; nothing where nothing has it.
-fn own_name(alloc: Global, symbols: &[Symbol], number: VariableId) -> Result<String, AllocError>
-    ensures { IfOk result (λ text. string_bytes text ≡ own_name (slice_get symbols.now number)) }
+fn own_name(symbols: &[Symbol], number: VariableId) -> &str
+    ensures { result.now ≡ own_name (slice_get symbols.now number) }
 {
     match at(symbols, number as usize) {
-        Some(Symbol::Named(name)) => format!(in alloc; "{name}"),
-        Some(Symbol::Before(_)) | None => Ok(String::new(alloc)),
+        Some(Symbol::Named(name)) => name.as_str(),
+        Some(Symbol::Before(_)) | None => "",
     }
 }
 
-/// How what has this number is written; nothing where nothing has it. Err: memory was refused.
-pub(crate) fn symbol_text(
-    alloc: Global,
-    symbols: &[Symbol],
-    number: VariableId,
-) -> Result<String, AllocError>
-    ensures { IfOk result (λ text. string_bytes text ≡ symbol_text symbols.now number) }
+/// Puts how what has this number is written; nothing where nothing has it.
+pub(crate) fn put_symbol(text: &mut Text, symbols: &[Symbol], number: VariableId)
+    ensures { Puts text.old text.new (symbol_text symbols.now number) }
 {
     match at(symbols, number as usize) {
-        Some(Symbol::Named(name)) => format!(in alloc; "{name}"),
+        Some(Symbol::Named(name)) => text.put(name.as_str()),
         Some(Symbol::Before(number)) => {
-            let name = own_name(alloc, symbols, *number)?;
-            format!(in alloc; "pre({name})")
+            text.put("pre(");
+            text.put(own_name(symbols, *number));
+            text.put(")");
         }
-        None => Ok(String::new(alloc)),
+        None => {}
     }
 }

@@ -1,32 +1,28 @@
 //! The box with the variables of a chart.
 
+use crate::sheet::Sheet;
+use crate::text::Text;
 use sc_graph::Variable;
 use scl_printer::{kind_prefix, role_prefix};
 use std::alloc::{AllocError, Global};
 
 /// The lines of these variables in their box. Err: memory was refused.
 pub(crate) fn variable_lines(alloc: Global, variables: &[Variable]) -> Result<String, AllocError> {
-    let mut lines = String::new(alloc);
+    let mut lines = Text::new(alloc);
     for variable in variables {
-        put_line(&mut lines, variable)?;
+        lines.put(role_prefix(variable.role));
+        lines.put(kind_prefix(variable.kind));
+        lines.put(variable.name.as_str());
+        lines.put("\\l");
     }
-    Ok(lines)
+    lines.finish()
 }
 
-// Puts the line of a variable behind others.
-fn put_line(lines: &mut String, variable: &Variable) -> Result<(), AllocError> {
-    lines.push_str(role_prefix(variable.role))?;
-    lines.push_str(kind_prefix(variable.kind))?;
-    lines.push_str(variable.name.as_str())?;
-    lines.push_str("\\l")
-}
-
-/// Puts the box with these lines behind a text, where there are some. Err: memory was refused.
-pub(crate) fn put_variables(text: &mut String, lines: &str) -> Result<(), AllocError> {
-    if lines.is_empty() {
-        return Ok(());
+/// Puts the box with these lines, where there are some.
+pub(crate) fn put_variables(sheet: &mut Sheet, lines: &str) {
+    if !lines.is_empty() {
+        sheet.put("\"variables\" [shape=\"box\", style=\"filled\", color=\"gray95\", label=\"");
+        sheet.put(lines);
+        sheet.put("\"];\n");
     }
-    text.push_str("\"variables\" [shape=\"box\", style=\"filled\", color=\"gray95\", label=\"")?;
-    text.push_str(lines)?;
-    text.push_str("\"];\n")
 }
