@@ -23,8 +23,12 @@ pub fn author_fault_told(
     ensures { IfOk result (λ report. Tells name.now (fault_text fault.now) (string_bytes report)) }
 {
     let mut report = Report::nowhere(alloc);
-    put_shown(alloc, &mut report, text, fault)?;
-    reported(alloc, name, &report, fault)
+    if put_shown(alloc, &mut report, text, fault).is_err() {
+        report.refuse();
+    }
+    let told = reported(alloc, name, &mut report, fault);
+    drop(report);
+    told
 }
 
 // Shows a fault in the text.
@@ -36,10 +40,10 @@ fn put_shown(
 ) -> Result<(), AllocError> {
     match fault {
         CompileFault::Graph(GraphFault::EmptyLoop(label)) => {
-            match author_label(alloc, text, *label)? {
-                Some(found) => put_label(report, text, *label, found),
-                None => Ok(()),
+            if let Some(found) = author_label(alloc, text, *label)? {
+                put_label(report, text, *label, found);
             }
+            Ok(())
         }
         CompileFault::Expansion(_) | CompileFault::Graph(_) => Ok(()),
         CompileFault::Conflict(_) | CompileFault::Tables(_) | CompileFault::Rule(_) => {
@@ -61,7 +65,7 @@ fn put_nodes(
 ) -> Result<(), AllocError> {
     let AuthorSources { graph, nodes } = sources;
     let shown = Shown::in_author(alloc, text, graph.get(), nodes)?;
-    let put = put_shown_nodes(report, &shown, fault);
+    put_shown_nodes(report, &shown, fault);
     drop(shown);
-    put
+    Ok(())
 }

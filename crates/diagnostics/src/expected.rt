@@ -1,15 +1,32 @@
 //! What could stand where a text goes wrong, in words.
 
 use crate::could::Could;
-use crate::told::put_filled;
+use crate::found::Piece;
+use crate::page::Page;
 use sc_text::{Sign, Word};
-use std::alloc::{AllocError, Global};
+use sqlite_items::Items;
+use std::alloc::Global;
 
 // A thing that could stand there: a word or a sign of the language, or what a kind of them is called.
 #[derive(Clone, Copy)]
 enum Thing {
     Spelled(&'static str),
     Called(&'static str),
+}
+
+// Things in their order. Where memory was refused, some are missing.
+#[derive(Drop)]
+struct Things {
+    list: Items<Thing>,
+    is_refused: bool,
+}
+
+impl Things {
+    fn add(&mut self, thing: Thing) {
+        if self.list.push(thing).is_err() {
+            self.is_refused = true;
+        }
+    }
 }
 
 // Whether a word is told by what it is part of.
@@ -41,21 +58,20 @@ fn is_told_of_sign(could: &Could, sign: Sign) -> bool {
 }
 
 // Adds what could stand there by its kind.
-fn add_called(could: &Could, things: &mut Vec<Thing>) -> Result<(), AllocError> {
+fn add_called(could: &Could, things: &mut Things) {
     if could.begins_expression() {
-        things.push(Thing::Called("an expression"))?;
+        things.add(Thing::Called("an expression"));
     } else {
         if could.has_name() {
-            things.push(Thing::Called("a name"))?;
+            things.add(Thing::Called("a name"));
         }
         if could.has_number() {
-            things.push(Thing::Called("a number"))?;
+            things.add(Thing::Called("a number"));
         }
     }
     if could.goes_on_expression() {
-        things.push(Thing::Called("an operator"))?;
+        things.add(Thing::Called("an operator"));
     }
-    Ok(())
 }
 
 // A sign as it is told: an operator that combines with what stands behind it.
@@ -68,22 +84,25 @@ fn sign_text(could: &Could, sign: Sign) -> &'static str {
     }
 }
 
-// Adds the words and the signs that could stand there.
-fn add_spelled(could: &Could, things: &mut Vec<Thing>) -> Result<(), AllocError> {
+// Adds the words that could stand there.
+fn add_words(could: &Could, things: &mut Things) {
     for word in could.own_words() {
-        things.push(Thing::Spelled(word))?;
+        things.add(Thing::Spelled(word));
     }
     for word in could.words() {
         if !is_told_of_word(could, *word) && !could.is_barred(*word) {
-            things.push(Thing::Spelled(word.text()))?;
+            things.add(Thing::Spelled(word.text()));
         }
     }
+}
+
+// Adds the signs that could stand there.
+fn add_signs(could: &Could, things: &mut Things) {
     for sign in could.signs() {
         if !is_told_of_sign(could, *sign) {
-            things.push(Thing::Spelled(sign_text(could, *sign)))?;
+            things.add(Thing::Spelled(sign_text(could, *sign)));
         }
     }
-    Ok(())
 }
 
 // What stands before one of several things.
@@ -98,35 +117,38 @@ fn joint(place: usize, count: usize) -> &'static str {
 }
 
 // Adds a thing.
-fn put_thing(text: &mut String, thing: Thing) -> Result<(), AllocError> {
+fn put_thing(page: &mut Page, thing: Thing) {
     match thing {
-        Thing::Called(name) => text.push_str(name),
-        Thing::Spelled(piece) => put_filled(text, "`@`", piece),
+        Thing::Called(name) => page.put(name),
+        Thing::Spelled(piece) => page.put_filled("`@`", piece),
     }
 }
 
 // Adds that this was found where these things could stand.
-fn put_found(text: &mut String, found: &str, things: &[Thing]) -> Result<(), AllocError> {
+fn put_found(page: &mut Page, found: Piece<'_>, things: &[Thing]) {
     if things.is_empty() {
-        return put_filled(text, "found @ behind the end of the program", found);
+        found.put_into(page, "found @ behind the end of the program");
+        return;
     }
-    put_filled(text, "found @, expected ", found)?;
+    found.put_into(page, "found @, expected ");
     for (place, thing) in things.iter().enumerate() {
-        text.push_str(joint(place, things.len()))?;
-        put_thing(text, *thing)?;
+        page.put(joint(place, things.len()));
+        put_thing(page, *thing);
     }
-    Ok(())
 }
 
-/// Adds what was found, and what could stand there: "a name", "`go`, `strong` or `}`". Err: memory was refused.
-pub(crate) fn put_expected(
-    alloc: Global,
-    text: &mut String,
-    found: &str,
-    could: &Could,
-) -> Result<(), AllocError> {
-    let mut things = Vec::new(alloc);
-    add_called(could, &mut things)?;
-    add_spelled(could, &mut things)?;
-    put_found(text, found, things.as_slice())
+/// Adds what was found, and what could stand there: "a name", "`go`, `strong` or `}`".
+pub(crate) fn put_expected(alloc: Global, page: &mut Page, found: Piece<'_>, could: &Could) {
+    let mut things = Things {
+        list: Items::new(alloc),
+        is_refused: false,
+    };
+    add_called(could, &mut things);
+    add_words(could, &mut things);
+    add_signs(could, &mut things);
+    put_found(page, found, things.list.as_slice());
+    if things.is_refused {
+        page.refuse();
+    }
+    drop(things);
 }

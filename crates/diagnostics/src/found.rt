@@ -1,8 +1,7 @@
 //! What stands at a place of a text.
 
-use crate::told::filled;
+use crate::page::Page;
 use node_sources::name_in;
-use std::alloc::{AllocError, Global};
 
 /// Whether this piece stands at a byte of a text.
 pub(crate) fn stands_at(text: &str, at: usize, piece: &str) -> bool {
@@ -47,15 +46,38 @@ fn piece_at(text: &str, at: usize) -> &str {
     }
 }
 
-/// What stands at a byte of a text: the word, number or sign that begins there. Err: memory was refused.
-pub(crate) fn found(alloc: Global, text: &str, at: usize) -> Result<String, AllocError> {
+/// What stands at a byte of a text: a piece of it between two backquotes, or what it is called.
+#[derive(Clone, Copy)]
+pub(crate) struct Piece<'a> {
+    quote: &'static str,
+    text: &'a str,
+}
+
+impl<'a> Piece<'a> {
+    /// Writes these words, with what was found where `@` stands.
+    pub(crate) fn put_into(self, page: &mut Page, words: &str) {
+        page.put_quoted(words, self.quote, self.text);
+    }
+}
+
+/// What stands at a byte of a text: the word, number or sign that begins there.
+pub(crate) fn found(text: &str, at: usize) -> Piece<'_> {
     if at >= text.len() {
-        return String::from_str(alloc, "the end of the text");
+        return Piece {
+            quote: "",
+            text: "the end of the text",
+        };
     }
     let piece = piece_at(text, at);
     if piece.is_empty() {
-        String::from_str(alloc, "a character that it does not use")
+        Piece {
+            quote: "",
+            text: "a character that it does not use",
+        }
     } else {
-        filled(alloc, "`@`", piece)
+        Piece {
+            quote: "`",
+            text: piece,
+        }
     }
 }

@@ -6,13 +6,14 @@ use crate::extended_words::{misuse_at, near_own_word};
 use crate::found::{found, one_at, stands_at};
 use crate::fronts::{front_of, last_token};
 use crate::near_names::difference;
+use crate::page::Page;
 use crate::spellings::{for_sign, for_word};
-use crate::told::{Told, put_filled};
+use crate::told::Told;
 use crate::unclosed::last_open;
 use crate::words::Words;
 use node_sources::{LineColumn, line_column_of, name_in};
 use sc_text::{Sign, TokenKind, Word};
-use std::alloc::{AllocError, Global};
+use std::alloc::Global;
 use text_continuations::Grammar;
 
 // How many bytes may stand before a place of which is told what could stand there: they are read some fifty times.
@@ -47,17 +48,16 @@ enum Cure {
 }
 
 // Adds what helps.
-fn put_cure(text: &mut String, cure: Cure) -> Result<(), AllocError> {
+fn put_cure(page: &mut Page, cure: Cure) {
     match cure {
-        Cure::Said(words) => text.push_str(words),
-        Cure::OfWord(words, word) => put_filled(text, words, word),
+        Cure::Said(words) => page.put(words),
+        Cure::OfWord(words, word) => page.put_filled(words, word),
         Cure::Closing(line_column) => {
-            let line = line_column.line;
-            let column = line_column.column;
-            write!(
-                text,
-                "line {line} opens a brace or parenthesis, in column {column}, that is not closed"
-            )
+            page.put("line ");
+            page.put_number(line_column.line);
+            page.put(" opens a brace or parenthesis, in column ");
+            page.put_number(line_column.column);
+            page.put(", that is not closed");
         }
     }
 }
@@ -261,60 +261,42 @@ fn cure_of(alloc: Global, stop: Stop<'_>, before: &TokenKind, could: &Could) -> 
     }
 }
 
-// Adds the words for it that tell what could stand there.
+// Says what stands where something else could, and what.
 fn put_stopped(
     alloc: Global,
     words: &mut Words,
     stop: Stop<'_>,
-    found: &str,
     before: &TokenKind,
     could: &Could,
-) -> Result<(), AllocError> {
-    put_expected(alloc, &mut words.cause, found, could)?;
-    put_cure(&mut words.cure, cure_of(alloc, stop, before, could))
-}
-
-// The words for what stands where something else could.
-fn stopped_words(
-    alloc: Global,
-    stop: Stop<'_>,
-    found: &str,
-    before: &TokenKind,
-    could: &Could,
-) -> Result<Words, AllocError> {
+) {
     if let Some(misused) = misuse_at(stop.text, stop.at, before, could) {
-        return Words::told(alloc, misused, "");
+        words.tell(misused, "");
+        return;
     }
-    let mut words = Words::none(alloc);
-    match put_stopped(alloc, &mut words, stop, found, before, could) {
-        Ok(()) => Ok(words),
-        Err(error) => {
-            drop(words);
-            Err(error)
+    put_expected(alloc, &mut words.cause, found(stop.text, stop.at), could);
+    put_cure(&mut words.cure, cure_of(alloc, stop, before, could));
+}
+
+// Says what stands behind this token, where something else could.
+fn put_stop_behind(alloc: Global, words: &mut Words, stop: Stop<'_>, before: &TokenKind) {
+    match Could::of(alloc, stop.grammar, front_of(stop.text, stop.at), before) {
+        Ok(could) => {
+            put_stopped(alloc, words, stop, before, &could);
+            drop(could);
         }
+        Err(_) => words.cause.refuse(),
     }
 }
 
-// The words for a byte of a text where it cannot go on, and this was found.
-fn words_of_found(alloc: Global, text: &str, at: usize, found: &str) -> Result<Words, AllocError> {
+/// Says of a byte of a text where it cannot go on what was found, what could stand there, and what helps.
+pub(crate) fn put_stop(alloc: Global, words: &mut Words, text: &str, at: usize) {
     if at > LONGEST {
-        return Words::told(alloc, FAR, found);
+        words.tell_found(FAR, found(text, at));
+        return;
     }
     let grammar = Grammar::of(text);
-    let front = front_of(text, at);
-    let Some(before) = last_token(alloc, grammar.tokens(), front) else {
-        return Words::told(alloc, FIRST, found);
-    };
-    let could = Could::of(alloc, grammar, front, &before)?;
-    let stop = Stop { grammar, text, at };
-    let words = stopped_words(alloc, stop, found, &before, &could);
-    drop(could);
-    words
-}
-
-/// The words for a byte of a text where it cannot go on: what was found, what could stand there, and what helps. Err:
-/// memory was refused.
-pub(crate) fn grammar_words(alloc: Global, text: &str, at: usize) -> Result<Words, AllocError> {
-    let found = found(alloc, text, at)?;
-    words_of_found(alloc, text, at, found.as_str())
+    match last_token(alloc, grammar.tokens(), front_of(text, at)) {
+        Some(before) => put_stop_behind(alloc, words, Stop { grammar, text, at }, &before),
+        None => words.tell_found(FIRST, found(text, at)),
+    }
 }

@@ -15,6 +15,7 @@ mod limit_words;
 mod lines;
 mod near_names;
 mod nodes;
+mod page;
 mod program_report;
 mod program_words;
 mod report;

@@ -11,6 +11,9 @@ use text_continuations::Grammar;
 const ANY: &str =
     "a limit is passed: what begins here is one too many or too large, or it nests one level too deep";
 
+const CURE: &str =
+    "split it: a local variable for a part of an expression, a thread for some of the branches";
+
 // A number or a name that is too long, by its first byte.
 fn long_token(first: Option<u8>) -> &'static str {
     match first {
@@ -58,11 +61,10 @@ fn limit_at(alloc: Global, text: &str, at: usize) -> Result<&'static str, AllocE
     }
 }
 
-/// The words for a byte of a text at which a limit is passed. Err: memory was refused.
-pub(crate) fn limit_words(alloc: Global, text: &str, at: usize) -> Result<Words, AllocError> {
-    let told = Told {
-        cause: limit_at(alloc, text, at)?,
-        cure: "split it: a local variable for a part of an expression, a thread for some of the branches",
-    };
-    Words::told(alloc, told, "")
+/// Says the limit that is passed at a byte of a text.
+pub(crate) fn put_limit(alloc: Global, words: &mut Words, text: &str, at: usize) {
+    match limit_at(alloc, text, at) {
+        Ok(cause) => words.tell(Told { cause, cure: CURE }, ""),
+        Err(_) => words.cause.refuse(),
+    }
 }

@@ -2,7 +2,7 @@
 
 use crate::edges::{name_of, written};
 use crate::lines::{put_margin, put_marked_line};
-use crate::told::put_filled;
+use crate::page::Page;
 use compiler::LinkedProgram;
 use extended_nodes::AuthorNode;
 use node_sources::{LineColumn, Origin, Positions, SourcePart, name_in};
@@ -126,67 +126,60 @@ fn part_text(part: SourcePart) -> &'static str {
 }
 
 /// Adds the state and the region of a chart to which this belongs, what part of them it is, and whether it is made, and
-/// stands at the place of that for which it is; then ends the line. Err: memory was refused.
-pub(crate) fn put_around(
-    text: &mut String,
-    source: &str,
-    found: AuthorNode,
-) -> Result<(), AllocError> {
+/// stands at the place of that for which it is; then ends the line.
+pub(crate) fn put_around(page: &mut Page, source: &str, found: AuthorNode) {
     let origin = found.origin;
-    text.push_str(part_text(origin.part))?;
+    page.put(part_text(origin.part));
     if let Some(region) = origin.region {
         if let Some(state) = origin.state {
-            put_filled(text, " state @ in", name_in(source, state))?;
+            page.put_filled(" state @ in", name_in(source, state));
         }
-        put_filled(text, " region @", name_in(source, region))?;
+        page.put_filled(" region @", name_in(source, region));
     }
-    text.push_str(if found.is_made { " (made)\n" } else { "\n" })
+    page.put(if found.is_made { " (made)\n" } else { "\n" });
 }
 
 // Adds what a node does.
-fn put_step(text: &mut String, program: &Program, node: NodeId) -> Result<(), AllocError> {
-    text.push_str(what_it_does(program.step(node)))?;
-    match written_name(program, node) {
-        Some(name) => put_filled(text, " `@`", name.as_str()),
-        None => Ok(()),
+fn put_step(page: &mut Page, program: &Program, node: NodeId) {
+    page.put(what_it_does(program.step(node)));
+    if let Some(name) = written_name(program, node) {
+        page.put_filled(" `@`", name.as_str());
     }
 }
 
-/// Adds a node: its number and place, what it does, and, where it is one of the first, its line with a mark. Err:
-/// memory was refused.
-pub(crate) fn put_node(
-    text: &mut String,
-    shown: &Shown<'_>,
-    node: NodeId,
-    number: usize,
-) -> Result<(), AllocError> {
-    let Some(found) = shown.node(node) else {
-        write!(text, "node {node} ")?;
-        put_step(text, shown.program, node)?;
-        return text.push('\n');
-    };
+// Adds the place of a node, what it does, and, where it is one of the first, its line with a mark.
+fn put_placed(page: &mut Page, shown: &Shown<'_>, node: NodeId, found: AuthorNode, number: usize) {
     let line_column = shown.line_column(found.origin);
-    let line = line_column.line;
-    let column = line_column.column;
-    write!(text, "node {node} at {line}:{column} ")?;
-    put_step(text, shown.program, node)?;
-    put_around(text, shown.text, found)?;
+    page.put("at ");
+    page.put_place(line_column);
+    page.put(" ");
+    put_step(page, shown.program, node);
+    put_around(page, shown.text, found);
     if number < SHOWN {
-        put_marked_line(text, shown.text, found.origin.at, line_column)?;
+        put_marked_line(page, shown.text, found.origin.at, line_column);
     }
-    Ok(())
 }
 
-/// Adds what stands before a note below the line of a node. Err: memory was refused.
-pub(crate) fn put_note_margin(
-    text: &mut String,
-    shown: &Shown<'_>,
-    node: NodeId,
-) -> Result<(), AllocError> {
+/// Adds a node: its number and place, what it does, and, where it is one of the first, its line with a mark.
+pub(crate) fn put_node(page: &mut Page, shown: &Shown<'_>, node: NodeId, number: usize) {
+    page.put("node ");
+    page.put_number(node as usize);
+    page.put(" ");
+    match shown.node(node) {
+        Some(found) => put_placed(page, shown, node, found, number),
+        None => {
+            put_step(page, shown.program, node);
+            page.put("\n");
+        }
+    }
+}
+
+/// Adds what stands before a note below the line of a node.
+pub(crate) fn put_note_margin(page: &mut Page, shown: &Shown<'_>, node: NodeId) {
     let line = match shown.origin(node) {
         Some(origin) => shown.line_column(origin).line,
         None => 0,
     };
-    put_margin(text, line)?;
-    text.push_str(" = ")
+    put_margin(page, line);
+    page.put(" = ");
 }

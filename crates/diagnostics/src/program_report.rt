@@ -7,14 +7,14 @@ ghost use Rattle.scl_graph.specs.Answers.{IsGraph};
 
 use crate::lines::put_marked_line;
 use crate::nodes::{Shown, put_around};
+use crate::page::Page;
 use crate::program_words::in_words;
 use crate::report::put_help;
-use crate::told::{Told, put_filled};
 use crate::walks::{first_node, put_conflict, put_place, put_walk};
 use compiler::{CompileFault, LinkedProgram, graph_of_scl};
 use conflict_edges::ConflictFault;
 use extended_nodes::AuthorNode;
-use node_sources::{label_origin, line_column_of, origins_in};
+use node_sources::{LineColumn, label_origin, line_column_of, origins_in};
 use priority_weights::TablesFault;
 use sc_graph::NodeId;
 use sc_values::Name;
@@ -55,48 +55,51 @@ pub fn program_fault_told(
     ensures { IfOk result (λ report. Tells name.now (fault_text fault.now) (string_bytes report)) }
 {
     let mut report = Report::nowhere(alloc);
-    put_shown(alloc, &mut report, source, fault)?;
-    reported(alloc, name, &report, fault)
-}
-
-/// The report of a fault, of which this is shown. Err: memory was refused.
-pub(crate) fn reported(
-    alloc: Global,
-    name: &str,
-    shown: &Report,
-    fault: &CompileFault,
-) -> Result<String, AllocError>
-    ensures { IfOk result (λ report. Tells name.now (fault_text fault.now) (string_bytes report)) }
-{
-    let told = in_words(fault);
-    let cause = told.cause;
-    let place = shown.place.as_str();
-    let mut rest = String::new(alloc);
-    put_rest(&mut rest, shown, told)?;
-    format!(in alloc; "{name}{place}: {fault}: {cause}\n{rest}")
-}
-
-// Adds the lines behind the first of a report.
-fn put_rest(text: &mut String, shown: &Report, told: Told) -> Result<(), AllocError> {
-    text.push_str(shown.body.as_str())?;
-    put_help(text, told.cure)
+    if put_shown(alloc, &mut report, source, fault).is_err() {
+        report.refuse();
+    }
+    let told = reported(alloc, name, &mut report, fault);
+    drop(report);
+    told
 }
 
 /// What a report says of places: that of the whole, and the lines behind its first.
 #[derive(Drop)]
 pub(crate) struct Report {
-    place: String,
-    body: String,
+    place: Page,
+    body: Page,
 }
 
 impl Report {
     /// A report without places.
     pub(crate) fn nowhere(alloc: Global) -> Report {
         Report {
-            place: String::new(alloc),
-            body: String::new(alloc),
+            place: Page::new(alloc),
+            body: Page::new(alloc),
         }
     }
+
+    /// Notes that memory was refused to what it shows.
+    pub(crate) fn refuse(&mut self) {
+        self.body.refuse();
+    }
+}
+
+/// The report of a fault, of which this is shown. Err: memory was refused.
+pub(crate) fn reported(
+    alloc: Global,
+    name: &str,
+    shown: &mut Report,
+    fault: &CompileFault,
+) -> Result<String, AllocError>
+    ensures { IfOk result (λ report. Tells name.now (fault_text fault.now) (string_bytes report)) }
+{
+    let told = in_words(fault);
+    let cause = told.cause;
+    put_help(&mut shown.body, told.cure);
+    let place = shown.place.written()?;
+    let rest = shown.body.written()?;
+    format!(in alloc; "{name}{place}: {fault}: {cause}\n{rest}")
 }
 
 // Shows a fault, where its text was read.
@@ -121,10 +124,10 @@ fn put_fault(
 ) -> Result<(), AllocError> {
     match fault {
         CompileFault::Graph(GraphFault::EmptyLoop(label)) => {
-            match label_origin(alloc, source, *label)? {
-                Some(origin) => put_label(report, source.text(), *label, AuthorNode::own(origin)),
-                None => Ok(()),
+            if let Some(origin) = label_origin(alloc, source, *label)? {
+                put_label(report, source.text(), *label, AuthorNode::own(origin));
             }
+            Ok(())
         }
         CompileFault::Expansion(_) | CompileFault::Graph(_) => Ok(()),
         CompileFault::Conflict(_) | CompileFault::Tables(_) | CompileFault::Rule(_) => {
@@ -133,41 +136,31 @@ fn put_fault(
     }
 }
 
-// Adds the place of a byte of a text, with what stands before it.
-fn put_place_of(text: &mut String, source: &str, at: usize) -> Result<(), AllocError> {
-    let line_column = line_column_of(source, at);
-    let line = line_column.line;
-    let column = line_column.column;
-    write!(text, ":{line}:{column}")
+// Adds a place, with what stands before it.
+fn put_first_place(page: &mut Page, line_column: LineColumn) {
+    page.put(":");
+    page.put_place(line_column);
 }
 
-/// Shows a label, at the place of what it comes from. Err: memory was refused.
-pub(crate) fn put_label(
-    report: &mut Report,
-    text: &str,
-    label: Name,
-    found: AuthorNode,
-) -> Result<(), AllocError> {
+/// Shows a label, at the place of what it comes from.
+pub(crate) fn put_label(report: &mut Report, text: &str, label: Name, found: AuthorNode) {
     let at = found.origin.at;
-    put_place_of(&mut report.place, text, at)?;
-    put_filled(&mut report.body, "label @", label.as_str())?;
-    put_around(&mut report.body, text, found)?;
-    put_marked_line(&mut report.body, text, at, line_column_of(text, at))
+    let line_column = line_column_of(text, at);
+    put_first_place(&mut report.place, line_column);
+    report.body.put("label ");
+    report.body.put(label.as_str());
+    put_around(&mut report.body, text, found);
+    put_marked_line(&mut report.body, text, at, line_column);
 }
 
-/// Shows the nodes of a fault. Err: memory was refused.
-pub(crate) fn put_shown_nodes(
-    report: &mut Report,
-    shown: &Shown<'_>,
-    fault: &CompileFault,
-) -> Result<(), AllocError> {
-    put_nodes_of(&mut report.body, shown, fault)?;
+/// Shows the nodes of a fault.
+pub(crate) fn put_shown_nodes(report: &mut Report, shown: &Shown<'_>, fault: &CompileFault) {
+    put_nodes_of(&mut report.body, shown, fault);
     let Some(first) = first_of(shown, fault) else {
-        return Ok(());
+        return;
     };
-    match shown.origin(first) {
-        Some(origin) => put_place_of(&mut report.place, shown.text, origin.at),
-        None => Ok(()),
+    if let Some(origin) = shown.origin(first) {
+        put_first_place(&mut report.place, line_column_of(shown.text, origin.at));
     }
 }
 
@@ -216,26 +209,22 @@ fn put_nodes_in(
     let shown = Shown::of(alloc, source.text(), graph, origins.as_slice());
     drop(origins);
     let shown = shown?;
-    let put = put_shown_nodes(report, &shown, fault);
+    put_shown_nodes(report, &shown, fault);
     drop(shown);
-    put
+    Ok(())
 }
 
 // Adds the lines of the nodes of a fault.
-fn put_nodes_of(
-    text: &mut String,
-    shown: &Shown<'_>,
-    fault: &CompileFault,
-) -> Result<(), AllocError> {
+fn put_nodes_of(page: &mut Page, shown: &Shown<'_>, fault: &CompileFault) {
     match fault {
         CompileFault::Conflict(ConflictFault::WriteWrite(first, second)) => {
-            put_conflict(text, shown, *first, *second)
+            put_conflict(page, shown, *first, *second)
         }
         CompileFault::Tables(TablesFault::InstantLoop(walk) | TablesFault::Cyclic(walk)) => {
-            put_walk(text, shown, walk.as_slice())
+            put_walk(page, shown, walk.as_slice())
         }
-        CompileFault::Rule(Refusal::Broken(broken)) => put_place(text, shown, broken.place),
-        _ => Ok(()),
+        CompileFault::Rule(Refusal::Broken(broken)) => put_place(page, shown, broken.place),
+        _ => {}
     }
 }
 

@@ -6,8 +6,8 @@ ghost use Rattle.sc_text.specs.FaultText.{broken_number};
 ghost use Rattle.diagnostics.specs.Reports.{Tells, TellsAt, TellsPlace, place_shown, text_fault};
 
 use crate::lines::put_marked_line;
-use crate::told::put_filled;
-use crate::words::{Words, words_of};
+use crate::page::Page;
+use crate::words::{Words, put_fault};
 use node_sources::{LineColumn, line_column_of};
 use sc_text::{FaultKind, ReadFault};
 use std::alloc::{AllocError, Global};
@@ -22,30 +22,23 @@ pub fn line_column_text(alloc: Global, line_column: LineColumn) -> Result<String
     format!(in alloc; ":{line}:{column}")
 }
 
-/// Adds the line of what helps, where something does. Err: memory was refused.
-pub(crate) fn put_help(text: &mut String, cure: &str) -> Result<(), AllocError> {
-    if cure.is_empty() {
-        Ok(())
-    } else {
-        put_filled(text, "help: @\n", cure)
+/// Adds the line of what helps, where something does.
+pub(crate) fn put_help(page: &mut Page, cure: &str) {
+    if !cure.is_empty() {
+        page.put_filled("help: @\n", cure);
     }
 }
 
-// Adds what is wrong, the line of the text with a mark under the place, and what helps.
-fn put_words(
-    said: &mut String,
-    words: &Words,
-    text: &str,
-    at: usize,
-    line_column: LineColumn,
-) -> Result<(), AllocError> {
-    said.push_str(words.cause.as_str())?;
-    said.push('\n')?;
-    put_marked_line(said, text, at, line_column)?;
-    put_help(said, words.cure.as_str())
+// The same of what is written on another page.
+fn put_help_of(page: &mut Page, cure: &Page) {
+    match cure.written() {
+        Ok(cure) => put_help(page, cure),
+        Err(_) => page.refuse(),
+    }
 }
 
-// What stands behind the number of a fault of a reader.
+// What stands behind the number of a fault of a reader: what is wrong, the line of the text with a mark under the place,
+// and what helps.
 fn said(
     alloc: Global,
     text: &str,
@@ -53,10 +46,14 @@ fn said(
     at: usize,
     line_column: LineColumn,
 ) -> Result<String, AllocError> {
-    let words = words_of(alloc, text, broken, at)?;
-    let mut said = String::new(alloc);
-    put_words(&mut said, &words, text, at, line_column)?;
-    Ok(said)
+    let mut words = Words::none(alloc);
+    put_fault(alloc, &mut words, text, broken, at);
+    let Words { mut cause, cure } = words;
+    cause.put("\n");
+    put_marked_line(&mut cause, text, at, line_column);
+    put_help_of(&mut cause, &cure);
+    drop(cure);
+    cause.finish()
 }
 
 /// A fault of a reader for people: the name of the file with line and column, the number of the fault and what is

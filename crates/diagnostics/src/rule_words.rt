@@ -101,14 +101,13 @@ fn told_of_name(alloc: Global, text: &str, at: usize, name: &str) -> Result<Told
     }
 }
 
-/// The words for a byte of a text at which a rule is broken. Err: memory was refused.
-pub(crate) fn rule_words(alloc: Global, text: &str, at: usize) -> Result<Words, AllocError> {
+/// Says which rule is broken at a byte of a text.
+pub(crate) fn put_rule(alloc: Global, words: &mut Words, text: &str, at: usize) {
     let name = name_in(text, at);
-    let told = match Word::of(name.as_bytes()) {
-        Some(word) => told_of_transition(word),
-        None => told_of_name(alloc, text, at, name)?,
-    };
-    Words::told(alloc, told, name)
+    match Word::of(name.as_bytes()) {
+        Some(word) => words.tell(told_of_transition(word), name),
+        None => words.tell_made(told_of_name(alloc, text, at, name), name),
+    }
 }
 
 // That a second name like it is given to what a name is of that stands behind this token.
@@ -125,12 +124,12 @@ fn repeated(before: Option<TokenKind>) -> &'static str {
     }
 }
 
-/// The words for a name at a byte of a text that stands twice. Err: memory was refused.
-pub(crate) fn repeated_words(alloc: Global, text: &str, at: usize) -> Result<Words, AllocError> {
+/// Says of the name at a byte of a text that it stands twice.
+pub(crate) fn put_repeated(alloc: Global, words: &mut Words, text: &str, at: usize) {
     let before = last_token(alloc, Grammar::of(text).tokens(), front_of(text, at));
     let told = Told {
         cause: repeated(before),
         cure: "rename one of them",
     };
-    Words::told(alloc, told, name_in(text, at))
+    words.tell(told, name_in(text, at));
 }

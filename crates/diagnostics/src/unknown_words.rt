@@ -2,12 +2,11 @@
 
 use crate::fronts::{front_of, last_token};
 use crate::near_names::nearest;
-use crate::told::{Told, filled};
+use crate::told::Told;
 use crate::words::Words;
 use node_sources::name_in;
 use sc_text::{Sign, TokenKind, Word};
-use sc_values::Name;
-use std::alloc::{AllocError, Global};
+use std::alloc::Global;
 use text_continuations::Grammar;
 
 const VARIABLE: Told = Told {
@@ -42,27 +41,18 @@ fn told_behind(before: &TokenKind) -> Told {
     }
 }
 
-// What helps: the name that is meant, where one is near.
-fn cure(alloc: Global, near: Option<Name>, cure: &str) -> Result<String, AllocError> {
-    match near {
-        Some(near) => {
-            let near = near.as_str();
-            format!(in alloc; "did you mean `{near}`? Else {cure}")
-        }
-        None => String::from_str(alloc, cure),
-    }
-}
-
-/// The words for a name at a byte of a text that is not declared. Err: memory was refused.
-pub(crate) fn unknown_words(alloc: Global, text: &str, at: usize) -> Result<Words, AllocError> {
+/// Says of the name at a byte of a text that it is not declared, and which name is meant, where one is near.
+pub(crate) fn put_unknown(alloc: Global, words: &mut Words, text: &str, at: usize) {
     let language = Grammar::of(text).tokens();
     let name = name_in(text, at);
     let told = match last_token(alloc, language, front_of(text, at)) {
         Some(before) => told_behind(&before),
         None => VARIABLE,
     };
-    let near = nearest(alloc, language, text, name);
-    let cause = filled(alloc, told.cause, name)?;
-    let cure = cure(alloc, near, told.cure)?;
-    Ok(Words { cause, cure })
+    if let Some(near) = nearest(alloc, language, text, name) {
+        words
+            .cure
+            .put_filled("did you mean `@`? Else ", near.as_str());
+    }
+    words.tell(told, name);
 }

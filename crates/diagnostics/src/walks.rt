@@ -2,28 +2,24 @@
 
 use crate::edges::{name_of, reason};
 use crate::nodes::{Shown, put_node, put_note_margin, written_name};
-use crate::told::put_filled;
-use sc_graph::{NodeId, Place};
+use crate::page::Page;
+use sc_graph::{NodeId, Place, VariableId};
 use sqlite_items::at;
-use std::alloc::AllocError;
 
 // Adds the note of why a node has to come before another.
-fn put_before(
-    text: &mut String,
-    shown: &Shown<'_>,
-    from: NodeId,
-    to: NodeId,
-) -> Result<(), AllocError> {
+fn put_before(page: &mut Page, shown: &Shown<'_>, from: NodeId, to: NodeId) {
     let Some(words) = reason(shown.program, shown.links, from, to) else {
-        return Ok(());
+        return;
     };
-    put_note_margin(text, shown, from)?;
-    write!(text, "before node {to}: ")?;
+    put_note_margin(page, shown, from);
+    page.put("before node ");
+    page.put_number(to as usize);
+    page.put(": ");
     match written_name(shown.program, from) {
-        Some(name) => put_filled(text, words, name.as_str())?,
-        None => text.push_str(words)?,
+        Some(name) => page.put_filled(words, name.as_str()),
+        None => page.put(words),
     }
-    text.push('\n')
+    page.put("\n");
 }
 
 // The node of a walk that comes behind the one of this number; the first one behind the last.
@@ -38,59 +34,43 @@ fn next_of(walk: &[NodeId], number: usize) -> Option<NodeId> {
 }
 
 // Adds a node of a walk, and why it has to come before the next one.
-fn put_step(
-    text: &mut String,
-    shown: &Shown<'_>,
-    walk: &[NodeId],
-    number: usize,
-    node: NodeId,
-) -> Result<(), AllocError> {
-    put_node(text, shown, node, number)?;
-    match next_of(walk, number) {
-        Some(next) => put_before(text, shown, node, next),
-        None => Ok(()),
+fn put_step(page: &mut Page, shown: &Shown<'_>, walk: &[NodeId], number: usize, node: NodeId) {
+    put_node(page, shown, node, number);
+    if let Some(next) = next_of(walk, number) {
+        put_before(page, shown, node, next);
     }
 }
 
-/// Adds the nodes of a closed walk, each of which has to come before the next, and the last before the first. Err:
-/// memory was refused.
-pub(crate) fn put_walk(
-    text: &mut String,
-    shown: &Shown<'_>,
-    walk: &[NodeId],
-) -> Result<(), AllocError> {
+/// Adds the nodes of a closed walk, each of which has to come before the next, and the last before the first.
+pub(crate) fn put_walk(page: &mut Page, shown: &Shown<'_>, walk: &[NodeId]) {
     for (number, node) in walk.iter().enumerate() {
-        put_step(text, shown, walk, number, *node)?;
+        put_step(page, shown, walk, number, *node);
     }
-    Ok(())
 }
 
-/// Adds two nodes that are in conflict. Err: memory was refused.
-pub(crate) fn put_conflict(
-    text: &mut String,
-    shown: &Shown<'_>,
-    first: NodeId,
-    second: NodeId,
-) -> Result<(), AllocError> {
-    put_node(text, shown, first, 0)?;
-    put_node(text, shown, second, 0)?;
-    put_note_margin(text, shown, second)?;
+/// Adds two nodes that are in conflict.
+pub(crate) fn put_conflict(page: &mut Page, shown: &Shown<'_>, first: NodeId, second: NodeId) {
+    put_node(page, shown, first, 0);
+    put_node(page, shown, second, 0);
+    put_note_margin(page, shown, second);
     if let Some(name) = written_name(shown.program, first) {
-        put_filled(text, "both write `@`, and ", name.as_str())?;
+        page.put_filled("both write `@`, and ", name.as_str());
     }
-    text.push_str("neither comes before the other\n")
+    page.put("neither comes before the other\n");
 }
 
 // Adds a node, and why it has to come before another.
-fn put_pair(
-    text: &mut String,
-    shown: &Shown<'_>,
-    first: NodeId,
-    second: NodeId,
-) -> Result<(), AllocError> {
-    put_node(text, shown, first, 0)?;
-    put_before(text, shown, first, second)?;
-    put_node(text, shown, second, 0)
+fn put_pair(page: &mut Page, shown: &Shown<'_>, first: NodeId, second: NodeId) {
+    put_node(page, shown, first, 0);
+    put_before(page, shown, first, second);
+    put_node(page, shown, second, 0);
+}
+
+// Adds the name of a variable.
+fn put_variable(page: &mut Page, shown: &Shown<'_>, variable: VariableId) {
+    if let Some(name) = name_of(shown.program, variable) {
+        page.put_filled("variable `@`\n", name.as_str());
+    }
 }
 
 /// The first node of a place: of a thread that where it begins.
@@ -102,23 +82,15 @@ pub(crate) fn first_node(shown: &Shown<'_>, place: Place) -> Option<NodeId> {
     }
 }
 
-/// Adds the nodes of a place at which a rule is broken. Err: memory was refused.
-pub(crate) fn put_place(
-    text: &mut String,
-    shown: &Shown<'_>,
-    place: Place,
-) -> Result<(), AllocError> {
-    if let Place::Pair(first, second) = place {
-        return put_pair(text, shown, first, second);
-    }
-    if let Place::Variable(variable) = place {
-        return match name_of(shown.program, variable) {
-            Some(name) => put_filled(text, "variable `@`\n", name.as_str()),
-            None => Ok(()),
-        };
-    }
-    match first_node(shown, place) {
-        Some(node) => put_node(text, shown, node, 0),
-        None => Ok(()),
+/// Adds the nodes of a place at which a rule is broken.
+pub(crate) fn put_place(page: &mut Page, shown: &Shown<'_>, place: Place) {
+    match place {
+        Place::Pair(first, second) => put_pair(page, shown, first, second),
+        Place::Variable(variable) => put_variable(page, shown, variable),
+        _ => {
+            if let Some(node) = first_node(shown, place) {
+                put_node(page, shown, node, 0);
+            }
+        }
     }
 }

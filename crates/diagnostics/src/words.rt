@@ -1,14 +1,15 @@
 //! The faults of readers in words.
 
 use crate::extended_rules::{has_double_underscore, told_of_extended_kind};
-use crate::found::{found, stands_at};
+use crate::found::{Piece, found, stands_at};
 use crate::fronts::front_of;
-use crate::grammar_words::grammar_words;
-use crate::limit_words::limit_words;
-use crate::rule_words::{repeated_words, rule_words};
+use crate::grammar_words::put_stop;
+use crate::limit_words::put_limit;
+use crate::page::Page;
+use crate::rule_words::{put_repeated, put_rule};
 use crate::spellings::for_sign;
-use crate::told::{Told, filled};
-use crate::unknown_words::unknown_words;
+use crate::told::Told;
+use crate::unknown_words::put_unknown;
 use block_comments::without_comments;
 use node_sources::name_in;
 use sc_text::FaultKind;
@@ -18,24 +19,37 @@ use text_continuations::Grammar;
 /// A fault of a text in words: what is wrong, and what helps, which is empty where nothing is known to.
 #[derive(Drop)]
 pub(crate) struct Words {
-    pub(crate) cause: String,
-    pub(crate) cure: String,
+    pub(crate) cause: Page,
+    pub(crate) cure: Page,
 }
 
 impl Words {
     /// No words.
     pub(crate) fn none(alloc: Global) -> Words {
         Words {
-            cause: String::new(alloc),
-            cure: String::new(alloc),
+            cause: Page::new(alloc),
+            cure: Page::new(alloc),
         }
     }
 
-    /// What is said of this piece of a text. Err: memory was refused.
-    pub(crate) fn told(alloc: Global, told: Told, piece: &str) -> Result<Words, AllocError> {
-        let cause = filled(alloc, told.cause, piece)?;
-        let cure = String::from_str(alloc, told.cure)?;
-        Ok(Words { cause, cure })
+    /// Says this of a piece of a text.
+    pub(crate) fn tell(&mut self, told: Told, piece: &str) {
+        self.cause.put_filled(told.cause, piece);
+        self.cure.put(told.cure);
+    }
+
+    /// Says this of what was found at a place of a text.
+    pub(crate) fn tell_found(&mut self, told: Told, found: Piece<'_>) {
+        found.put_into(&mut self.cause, told.cause);
+        self.cure.put(told.cure);
+    }
+
+    /// Says this of a piece of a text, if memory was not refused to what finds it.
+    pub(crate) fn tell_made(&mut self, told: Result<Told, AllocError>, piece: &str) {
+        match told {
+            Ok(told) => self.tell(told, piece),
+            Err(_) => self.cause.refuse(),
+        }
     }
 }
 
@@ -77,12 +91,6 @@ fn told_of_token(text: &str, at: usize) -> Told {
     }
 }
 
-// The words for a place where no token stands.
-fn token_words(alloc: Global, text: &str, at: usize) -> Result<Words, AllocError> {
-    let found = found(alloc, text, at)?;
-    Words::told(alloc, told_of_token(text, at), found.as_str())
-}
-
 const KIND: Told = Told {
     cause: "the expression that begins here has another kind than its place wants, or an operator has an operand of the wrong one",
     cure: "truth values and numbers do not mix: write `x != 0` for a test of a number",
@@ -99,40 +107,37 @@ fn told_of_kind(alloc: Global, text: &str, at: usize) -> Result<Told, AllocError
     }
 }
 
-// The words for an expression of another kind.
-fn kind_words(alloc: Global, text: &str, at: usize) -> Result<Words, AllocError> {
-    Words::told(alloc, told_of_kind(alloc, text, at)?, name_in(text, at))
-}
-
-// The fault of a text at a byte in words, by what stands before and at that byte. What stands there is no block comment
+// Says the fault of a text at a byte, by what stands before and at that byte. What stands there is no block comment
 // that the tokens of the text leave out, but for one that is not closed.
-fn plain_words(
-    alloc: Global,
-    text: &str,
-    broken: FaultKind,
-    at: usize,
-) -> Result<Words, AllocError> {
+fn put_plain(alloc: Global, words: &mut Words, text: &str, broken: FaultKind, at: usize) {
     match broken {
-        FaultKind::Token => token_words(alloc, text, at),
-        FaultKind::Grammar => grammar_words(alloc, text, at),
-        FaultKind::Unknown => unknown_words(alloc, text, at),
-        FaultKind::Repeated => repeated_words(alloc, text, at),
-        FaultKind::Kind => kind_words(alloc, text, at),
-        FaultKind::Rule => rule_words(alloc, text, at),
-        FaultKind::Limit => limit_words(alloc, text, at),
+        FaultKind::Token => words.tell_found(told_of_token(text, at), found(text, at)),
+        FaultKind::Grammar => put_stop(alloc, words, text, at),
+        FaultKind::Unknown => put_unknown(alloc, words, text, at),
+        FaultKind::Repeated => put_repeated(alloc, words, text, at),
+        FaultKind::Kind => words.tell_made(told_of_kind(alloc, text, at), name_in(text, at)),
+        FaultKind::Rule => put_rule(alloc, words, text, at),
+        FaultKind::Limit => put_limit(alloc, words, text, at),
     }
 }
 
-/// The fault of a text at a byte in words. Err: memory was refused.
-pub(crate) fn words_of(
+/// Says the fault of a text at a byte.
+pub(crate) fn put_fault(
     alloc: Global,
+    words: &mut Words,
     text: &str,
     broken: FaultKind,
     at: usize,
-) -> Result<Words, AllocError> {
+) {
     if broken == FaultKind::Token || Grammar::of(text) != Grammar::ExtendedChart {
-        return plain_words(alloc, text, broken, at);
+        put_plain(alloc, words, text, broken, at);
+        return;
     }
-    let plain = without_comments(alloc, text)?;
-    plain_words(alloc, plain.as_str(), broken, at)
+    match without_comments(alloc, text) {
+        Ok(plain) => {
+            put_plain(alloc, words, plain.as_str(), broken, at);
+            drop(plain);
+        }
+        Err(_) => words.cause.refuse(),
+    }
 }
