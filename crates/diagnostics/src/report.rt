@@ -37,8 +37,8 @@ fn put_help_of(page: &mut Page, cure: &Page) {
     }
 }
 
-// What stands behind the number of a fault of a reader: what is wrong, the line of the text with a mark under the place,
-// and what helps.
+// What stands behind the number of a fault of a reader: what is wrong, the line of the text with a mark below the
+// place, and what helps.
 fn said(
     alloc: Global,
     text: &str,

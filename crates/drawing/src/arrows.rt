@@ -116,7 +116,7 @@ fn is_shared(state: &DrawnState, from: u32, arrow: &Arrow) -> bool {
     arrow.target == from && !arrow.immediate && !state.is_superstate()
 }
 
-// Puts the words of the transitions of a state, and the arrows to them and from them, but for those that share an arrow.
+// Puts the words of the transitions of a state, and the arrows to them and from them, but for those that share one.
 fn put_unshared(sheet: &mut Sheet, states: &[DrawnState], from: u32, state: &DrawnState) {
     let mut number: u32 = 1;
     for arrow in state.arrows.as_slice() {
