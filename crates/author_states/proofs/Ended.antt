@@ -13,9 +13,9 @@ use Rattle.extended_charts.specs.declared.extended.ExtendedRegion.TheFolds.{fold
 use Rattle.extended_charts.specs.Making.{always, one, passing, region}
 use Rattle.extended_charts.specs.Durings.{immediate_ones, steps}
 use Rattle.extended_charts.specs.Holds.{condition, ended}
-use Rattle.value_passes.specs.Endings.{EndingRegion, EndingState, all_at_once, all_regions, all_states, beginning, body, body_region, ending_in_region}
-use Rattle.value_passes.specs.Endings.{ending_in_state, ending_states, first_states, inside, is_ending, left_durings, left_transitions, region_step}
-use Rattle.value_passes.specs.Endings.{state_step, telling, tested}
+use Rattle.chart_reduction.specs.Endings.{EndingRegion, EndingState, all_at_once, all_regions, all_states, beginning, body, body_region, ending_in_region}
+use Rattle.chart_reduction.specs.Endings.{ending_in_state, ending_states, first_states, inside, is_ending, left_durings, left_transitions, region_step}
+use Rattle.chart_reduction.specs.Endings.{state_step, telling, tested}
 use Rattle.sc_text.proofs.EachItem.{Each}
 use Rattle.author_states.specs.Own.{own_in_region, own_in_state}
 use Rattle.author_states.proofs.Folded.{ended_silent, steps_silent}

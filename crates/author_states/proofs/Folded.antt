@@ -13,15 +13,15 @@ use Rattle.extended_charts.specs.declared.extended.ExtendedRegion.TheFolds.{fold
 use Rattle.extended_charts.specs.declared.extended.ExtendedRegion.TheFolds.{fold-roll-ExtendedState}
 use Rattle.extended_charts.specs.declared.reading.Reading.{Reading}
 use Rattle.extended_charts.specs.declared.reading.Reading.TheVariants as reading
-use Rattle.value_passes.specs.Clocks.{timed_by}
+use Rattle.chart_reduction.specs.Clocks.{timed_by}
 use Rattle.extended_charts.specs.Making.{always, passing, region}
-use Rattle.value_passes.specs.Constants as constants
-use Rattle.value_passes.specs.Counts as counts
+use Rattle.chart_reduction.specs.Constants as constants
+use Rattle.chart_reduction.specs.Counts as counts
 use Rattle.extended_charts.specs.Durings as durings
 use Rattle.extended_charts.specs.Holds as holds
 use Rattle.sc_text.proofs.EachItem.{Each}
 use Rattle.author_states.specs.Own.{among, own_in_region, own_in_state}
-use Rattle.chart_elements.specs.Paths.{beside}
+use Rattle.core_charts.specs.Paths.{beside}
 use Rattle.author_states.proofs.Made.{made_silent, one_silent, passing_silent, silent_region}
 use Rattle.author_states.proofs.Walking.{each_region, SameRegion, SameState, SameRegions, Silent, mapped_regions, mapped_states, region_parts}
 use Rattle.author_states.proofs.Walking.{region_same, silent_append, state_parts, state_same}

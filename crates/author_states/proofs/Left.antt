@@ -8,12 +8,12 @@ use Rattle.extended_charts.specs.declared.extended.ExtendedState.{ExtendedState}
 use Rattle.extended_charts.specs.declared.extended.ExtendedRegion.TheOpen.{ExtendedState-F}
 use Rattle.extended_charts.specs.declared.extended.ExtendedRegion.TheViews.{roll-ExtendedRegion, roll-ExtendedState}
 use Rattle.extended_charts.specs.declared.extended.ExtendedRegion.TheFolds.{fold-roll-ExtendedRegion, fold-roll-ExtendedState}
-use Rattle.entry_passes.specs.declared.leaving.Leaving.{Leaving}
+use Rattle.chart_reduction.specs.declared.entries.leaving.Leaving.{Leaving}
 use Rattle.extended_charts.specs.Making.{always, has_some, one}
-use Rattle.entry_passes.specs.Exits.{LeftRegion, LeftState, all_behind, all_regions, all_states, behind, departures, left_behind, left_region}
-use Rattle.entry_passes.specs.Exits.{left_in}
-use Rattle.entry_passes.specs.Exits.{left_state, left_transitions, leavings_in, noted, notes, outer_regions, own_note, parting, region_step, state_step}
-use Rattle.entry_passes.specs.Exits.{way_out, ways_out, with_behind}
+use Rattle.chart_reduction.specs.Exits.{LeftRegion, LeftState, all_behind, all_regions, all_states, behind, departures, left_behind, left_region}
+use Rattle.chart_reduction.specs.Exits.{left_in}
+use Rattle.chart_reduction.specs.Exits.{left_state, left_transitions, leavings_in, noted, notes, outer_regions, own_note, parting, region_step, state_step}
+use Rattle.chart_reduction.specs.Exits.{way_out, ways_out, with_behind}
 use Rattle.sc_text.proofs.EachItem.{Each}
 use Rattle.author_states.specs.Own.{among, own_in_region, own_in_state}
 use Rattle.author_states.proofs.Made.{made_silent, one_silent}

@@ -7,3 +7,4 @@ mod Past
 mod Staying
 mod Timed
 mod Walking
+pub mod Reduced

@@ -6,7 +6,7 @@ use Rattle.sc_text.specs.MadeNames.{numbered}
 use Rattle.extended_charts.specs.declared.extended.ExtendedRegion.{ExtendedRegion}
 use Rattle.extended_charts.specs.declared.extended.ExtendedState.{ExtendedState}
 use Rattle.extended_charts.specs.Making.{all_passing, always, made_state, passing, region}
-use Rattle.chart_elements.specs.Paths.{beside}
+use Rattle.core_charts.specs.Paths.{beside}
 use Rattle.author_states.specs.Own.{own_in_region, own_in_state}
 use Rattle.author_states.proofs.Walking.{SameRegions, Silent, beside_append, region_parts, silent_append, state_parts}
 

@@ -1,7 +1,7 @@
 -- Each own state is marked once, in its order, and so numbered.
 use Rattle.std.proofs.Common.{◌≡◌, ℕ, suc, Bool, true, false, List, [], ◌∷◌, ◌++◌, map, length, codes, refl, ap, sym, ◌∙◌}
 use Rattle.std.specs.Prelude.{if◌then◌else◌}
-use Rattle.chart_elements.specs.Elements.{row}
+use Rattle.core_charts.specs.Elements.{row}
 use Rattle.core_charts.specs.declared.region.Effect.{Effect}
 use Rattle.extended_charts.specs.declared.extended.ExtendedChart.{ExtendedChart}
 use Rattle.extended_charts.specs.declared.extended.ExtendedRegion.{ExtendedRegion}
@@ -10,7 +10,7 @@ use Rattle.extended_charts.specs.declared.extended.ExtendedRegion.TheViews.{roll
 use Rattle.extended_charts.specs.declared.extended.ExtendedRegion.TheFolds.{fold-roll-ExtendedRegion, fold-roll-ExtendedState}
 use Rattle.chart_reduction.specs.Reduction.{with_entry}
 use Rattle.chart_reduction.specs.Rows.{Marks, before, numbers, region_marks, rows_of, state_marks, states_in_region, states_in_state}
-use Rattle.chart_elements.specs.Paths.{Paths, beside}
+use Rattle.core_charts.specs.Paths.{Paths, beside}
 use Rattle.sc_text.proofs.EachItem.{Each}
 use Rattle.author_states.specs.Own.{among, numbers_from, own_in_region, own_in_state, own_paths, present}
 use Rattle.author_states.proofs.Staying.{authors_stay}

@@ -1,16 +1,16 @@
 -- The pass of histories keeps own paths: the state in which a region may begin is silent.
 use Rattle.std.proofs.Common.{◌≡◌, ℕ, suc, ◌+◌, Bool, true, Option, Some, None, List, [], ◌∷◌, ◌++◌, map, length, codes, refl, ap, ◌∙◌}
 use Rattle.sc_text.specs.MadeNames.{numbered}
-use Rattle.entry_passes.specs.declared.histories.Past.{Past}
-use Rattle.entry_passes.specs.declared.histories.EnclosingRegion.{EnclosingRegion}
+use Rattle.chart_reduction.specs.declared.entries.histories.Past.{Past}
+use Rattle.chart_reduction.specs.declared.entries.histories.EnclosingRegion.{EnclosingRegion}
 use Rattle.extended_charts.specs.declared.extended.ExtendedRegion.{ExtendedRegion}
 use Rattle.extended_charts.specs.declared.extended.ExtendedState.{ExtendedState}
 use Rattle.extended_charts.specs.declared.extended.ExtendedRegion.TheViews.{roll-ExtendedRegion, roll-ExtendedState}
 use Rattle.extended_charts.specs.declared.extended.ExtendedRegion.TheFolds.{fold-roll-ExtendedRegion, fold-roll-ExtendedState}
 use Rattle.extended_charts.specs.Making.{always}
-use Rattle.entry_passes.specs.Histories.{PastRegion, PastState, all_regions, all_states, asking, begins, entering, history_of, initial_among, is_recalled}
-use Rattle.entry_passes.specs.Histories.{led, made_region, noted, own_past, past_own, past_region, past_state, recalled_among, region_step, resuming}
-use Rattle.entry_passes.specs.Histories.{resumptions, state_step}
+use Rattle.chart_reduction.specs.Histories.{PastRegion, PastState, all_regions, all_states, asking, begins, entering, history_of, initial_among, is_recalled}
+use Rattle.chart_reduction.specs.Histories.{led, made_region, noted, own_past, past_own, past_region, past_state, recalled_among, region_step, resuming}
+use Rattle.chart_reduction.specs.Histories.{resumptions, state_step}
 use Rattle.sc_text.proofs.EachItem.{Each}
 use Rattle.author_states.specs.Own.{among, own_in_region, own_in_state}
 use Rattle.author_states.proofs.Made.{made_silent}

@@ -7,21 +7,21 @@ use Rattle.core_charts.specs.declared.region.Effect.{Effect}
 use Rattle.extended_charts.specs.declared.extended.ExtendedChart.{ExtendedChart}
 use Rattle.extended_charts.specs.declared.extended.ExtendedRegion.{ExtendedRegion}
 use Rattle.extended_charts.specs.declared.extended.ExtendedState.{ExtendedState}
-use Rattle.entry_passes.specs.declared.recalls.Kept.{Kept}
+use Rattle.chart_reduction.specs.declared.entries.recalls.Kept.{Kept}
 use Rattle.extended_charts.specs.declared.reading.Reading.TheVariants as reading
 use Rattle.sc_text.specs.MadeNames.{numbered}
 use Rattle.extended_charts.specs.Making.{all_passing, always, has_some, made_state, passing, region}
-use Rattle.value_passes.specs.Clocks as clocks
-use Rattle.value_passes.specs.Constants.{named_values, without_constants}
-use Rattle.value_passes.specs.Counts as counts
+use Rattle.chart_reduction.specs.Clocks as clocks
+use Rattle.chart_reduction.specs.Constants.{named_values, without_constants}
+use Rattle.chart_reduction.specs.Counts as counts
 use Rattle.extended_charts.specs.Durings.{with_durings}
-use Rattle.value_passes.specs.Endings as endings
-use Rattle.entry_passes.specs.Exits.{with_exits}
-use Rattle.entry_passes.specs.Histories as histories
+use Rattle.chart_reduction.specs.Endings as endings
+use Rattle.chart_reduction.specs.Exits.{with_exits}
+use Rattle.chart_reduction.specs.Histories as histories
 use Rattle.extended_charts.specs.Holds.{with_holds}
-use Rattle.value_passes.specs.Initial as initial
+use Rattle.chart_reduction.specs.Initial as initial
 use Rattle.chart_reduction.specs.Reduction.{with_entry, with_variables}
-use Rattle.value_passes.specs.Registers as registers
+use Rattle.chart_reduction.specs.Registers as registers
 use Rattle.extended_charts.specs.Signals as signals
 use Rattle.author_states.specs.Own.{among, own_in_region, own_in_state, own_paths}
 use Rattle.author_states.proofs.Ended.{endings_kept}

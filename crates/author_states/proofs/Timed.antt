@@ -5,8 +5,8 @@ use Rattle.extended_charts.specs.declared.extended.ExtendedRegion.{ExtendedRegio
 use Rattle.extended_charts.specs.declared.extended.ExtendedState.{ExtendedState}
 use Rattle.extended_charts.specs.declared.extended.ExtendedRegion.TheViews.{roll-ExtendedRegion, roll-ExtendedState}
 use Rattle.extended_charts.specs.declared.extended.ExtendedRegion.TheFolds.{fold-roll-ExtendedRegion, fold-roll-ExtendedState}
-use Rattle.value_passes.specs.Clocks.{TimedRegion, TimedState, all_regions, all_states, ask_time, noting, region_step, state_step}
-use Rattle.value_passes.specs.Clocks.{timed_by, timed_region, timed_state}
+use Rattle.chart_reduction.specs.Clocks.{TimedRegion, TimedState, all_regions, all_states, ask_time, noting, region_step, state_step}
+use Rattle.chart_reduction.specs.Clocks.{timed_by, timed_region, timed_state}
 use Rattle.extended_charts.specs.Making.{one}
 use Rattle.sc_text.proofs.EachItem.{Each}
 use Rattle.author_states.specs.Own.{own_in_region, own_in_state}

@@ -1,3 +1,5 @@
 pub mod Paths
 pub mod Own
 pub mod Author
+pub mod Authored
+pub mod Inside

@@ -1,7 +1,7 @@
 -- The author's states in a chart that has others too: what is made adds nothing to a path, neither a state nor a region in
 -- which it stands. So the own path of a state is the one that it has in the author's text.
 use Rattle.std.specs.Prelude.{ℕ, zero, suc, ◌≡◌, Option, Some, None, List, [], ◌∷◌, ◌++◌, length, map, codes, if◌then◌else◌}
-use Rattle.chart_elements.specs.Paths.{Paths, beside}
+use Rattle.core_charts.specs.Paths.{Paths, beside}
 use Rattle.extended_charts.specs.declared.extended.ExtendedChart.{ExtendedChart}
 use Rattle.extended_charts.specs.declared.extended.ExtendedRegion.{ExtendedRegion}
 use Rattle.extended_charts.specs.declared.extended.ExtendedState.{ExtendedState}

@@ -1,7 +1,7 @@
 -- The path of each state of an extended chart, in the order of its text, as those of a chart's states are: the name of its
 -- region and its own, with a full stop between; inside a superstate behind that one's path and a slash.
 use Rattle.std.specs.Prelude.{ℕ, List, [], ◌∷◌, ◌++◌, map, codes}
-use Rattle.chart_elements.specs.Paths.{Paths, beside}
+use Rattle.core_charts.specs.Paths.{Paths, beside}
 use Rattle.extended_charts.specs.declared.extended.ExtendedChart.{ExtendedChart}
 use Rattle.extended_charts.specs.declared.extended.ExtendedRegion.{ExtendedRegion}
 use Rattle.extended_charts.specs.declared.extended.ExtendedState.{ExtendedState}

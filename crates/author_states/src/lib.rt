@@ -5,7 +5,9 @@
 mod author;
 mod laws;
 mod paths;
+mod texts;
 
 pub use author::{AuthorStates, author_states};
 pub use laws::authors_stay;
 pub use paths::paths_of;
+pub use texts::{Authored, authored_source};

@@ -1,10 +1,10 @@
 //! The paths of an extended chart's states.
 
 ghost use Rattle.std.specs.Prelude.{◌≡◌, ◌++◌, IfOk, codes, map, string_bytes};
-ghost use Rattle.chart_elements.specs.Paths.{beside};
+ghost use Rattle.core_charts.specs.Paths.{beside};
 ghost use Rattle.author_states.specs.Paths.{paths_of, paths_of_region, paths_of_state};
 
-use chart_elements::joined;
+use core_charts::joined;
 use extended_charts::{ExtendedChart, ExtendedRegion, ExtendedState};
 use std::alloc::{AllocError, Global};
 

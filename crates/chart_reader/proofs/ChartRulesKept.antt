@@ -1,17 +1,17 @@
 -- The chart of a draft of the grammar, in which nothing is wrong, keeps the rules and limits of charts.
 use Rattle.std.proofs.Common.{◌≡◌, ◌≢◌, ℕ, List, [], ◌∷◌, refl}
 use Rattle.sc_text.specs.declared.language.Language.TheVariants as language
-use Rattle.drafts.specs.declared.flaw.Flaw.{Flaw}
-use Rattle.drafts.specs.declared.parts.Declaration.{Declaration}
-use Rattle.drafts.specs.Flaws.{variable_names, variable_flaws}
-use Rattle.drafts.proofs.Unflawed.{none_first, none_second}
-use Rattle.drafts.proofs.Declared.{variables_are}
+use Rattle.sc_text.specs.declared.drafts.flaw.Flaw.{Flaw}
+use Rattle.sc_text.specs.declared.drafts.parts.Declaration.{Declaration}
+use Rattle.sc_text.specs.Flaws.{variable_names, variable_flaws}
+use Rattle.sc_text.proofs.Unflawed.{none_first, none_second}
+use Rattle.sc_text.proofs.Declared.{variables_are}
 use Rattle.core_charts.specs.declared.features.Features.TheVariants as features
 use Rattle.core_charts.specs.Rules.{IsChart, depth_limit}
-use Rattle.chart_drafts.specs.declared.draft.DraftRegion.{DraftRegion}
-use Rattle.chart_drafts.specs.declared.draft.DraftChart.{DraftChart}
-use Rattle.chart_drafts.specs.Flaws.{nested_flaws, chart_flaws}
-use Rattle.chart_drafts.specs.Shape.{IsShaped}
+use Rattle.chart_reader.specs.declared.text_drafts.draft.DraftRegion.{DraftRegion}
+use Rattle.chart_reader.specs.declared.text_drafts.draft.DraftChart.{DraftChart}
+use Rattle.chart_reader.specs.Flaws.{nested_flaws, chart_flaws}
+use Rattle.chart_reader.specs.Shape.{IsShaped}
 use Rattle.chart_reader.specs.Resolved.{regions_of, chart_of}
 use Rattle.chart_reader.proofs.KeptRegions.{levels_keep}
 

@@ -5,7 +5,7 @@ use Rattle.sc_text.specs.declared.read_fault.FaultKind.{FaultKind}
 use Rattle.sc_text.specs.declared.read_fault.ReadFault.{ReadFault}
 use Rattle.sc_text.specs.declared.read_fault.ReadFault.TheVariants as fault
 use Rattle.core_charts.specs.Chart.{Chart}
-use Rattle.chart_drafts.specs.Checked.{IsTextFault}
+use Rattle.chart_reader.specs.Checked.{IsTextFault}
 use Rattle.chart_reader.specs.Read.{IsRead}
 use Rattle.chart_reader.specs.Resolved.{chart_of}
 use Rattle.chart_reader.specs.Laws.{IsExact}

@@ -6,24 +6,24 @@ use Rattle.std.proofs.lemmas.List.{length-map}
 use Rattle.grammar.proofs.Each.{Every, every_at}
 use Rattle.sc_text.specs.declared.language.Language.TheVariants as language
 use Rattle.sc_text.specs.Parts.{IsNameIn, are_distinct}
-use Rattle.drafts.specs.declared.flaw.Flaw.{Flaw}
-use Rattle.drafts.specs.declared.parts.Declaration.{Declaration}
-use Rattle.drafts.specs.Flaws.{place_among, variable_names}
-use Rattle.drafts.specs.Resolved.{variables_of}
-use Rattle.drafts.proofs.Unflawed.{none_first, none_second, no_flaw, not_false}
-use Rattle.drafts.proofs.Distinct.{all_first, first_distinct, AreFirstBehind, no_more_names, one_more_name}
-use Rattle.drafts.proofs.Declared.{room_for_one, room_for_more, is_first}
+use Rattle.sc_text.specs.declared.drafts.flaw.Flaw.{Flaw}
+use Rattle.sc_text.specs.declared.drafts.parts.Declaration.{Declaration}
+use Rattle.sc_text.specs.Flaws.{place_among, variable_names}
+use Rattle.sc_text.specs.Resolved.{variables_of}
+use Rattle.sc_text.proofs.Unflawed.{none_first, none_second, no_flaw, not_false}
+use Rattle.sc_text.proofs.Distinct.{all_first, first_distinct, AreFirstBehind, no_more_names, one_more_name}
+use Rattle.sc_text.proofs.Declared.{room_for_one, room_for_more, is_first}
 use Rattle.core_charts.specs.declared.features.Features.TheVariants as features
 use Rattle.core_charts.specs.declared.region.Region.{Region}
 use Rattle.core_charts.specs.declared.region.Region.TheOpen.{Region-F}
 use Rattle.core_charts.specs.declared.region.Region.TheViews.{out-Region, out-State}
 use Rattle.core_charts.specs.declared.region.State.{State}
 use Rattle.core_charts.specs.Rules.{IsState, IsRegion, AreRegions}
-use Rattle.chart_drafts.specs.declared.draft.DraftRegion.{DraftRegion}
-use Rattle.chart_drafts.specs.declared.draft.DraftRegion.TheViews.{out-DraftRegion, out-DraftState}
-use Rattle.chart_drafts.specs.declared.draft.DraftState.{DraftState}
-use Rattle.chart_drafts.specs.Flaws.{state_names, region_names, state_flaws, initial_flaws, region_flaws, nested_flaws}
-use Rattle.chart_drafts.specs.Shape.{IsRegionShaped, AreRegionsShaped}
+use Rattle.chart_reader.specs.declared.text_drafts.draft.DraftRegion.{DraftRegion}
+use Rattle.chart_reader.specs.declared.text_drafts.draft.DraftRegion.TheViews.{out-DraftRegion, out-DraftState}
+use Rattle.chart_reader.specs.declared.text_drafts.draft.DraftState.{DraftState}
+use Rattle.chart_reader.specs.Flaws.{state_names, region_names, state_flaws, initial_flaws, region_flaws, nested_flaws}
+use Rattle.chart_reader.specs.Shape.{IsRegionShaped, AreRegionsShaped}
 use Rattle.chart_reader.specs.Resolved.{region_of, regions_of, state_of}
 use Rattle.chart_reader.proofs.Looking.{region_out}
 use Rattle.chart_reader.proofs.KeptStates.{States, states_are, state_names_same, initial_same}

@@ -6,13 +6,13 @@ use Rattle.std.proofs.lemmas.List.Sums.{sum_by-cons}
 use Rattle.grammar.proofs.Each.{Every, every_at}
 use Rattle.sc_text.specs.declared.language.Language.TheVariants as language
 use Rattle.sc_text.specs.Parts.{IsNameIn}
-use Rattle.drafts.specs.declared.flaw.Flaw.{Flaw}
-use Rattle.drafts.specs.declared.parts.Declaration.{Declaration}
-use Rattle.drafts.specs.Flaws.{place_among, variable_names}
-use Rattle.drafts.specs.Resolved.{variables_of}
-use Rattle.drafts.proofs.Unflawed.{none_first, none_second, no_flaw, or_first, or_second}
-use Rattle.drafts.proofs.Distinct.{AreFirstBehind, no_more_names, one_more_name}
-use Rattle.drafts.proofs.Declared.{room_for_one, room_for_more, is_first}
+use Rattle.sc_text.specs.declared.drafts.flaw.Flaw.{Flaw}
+use Rattle.sc_text.specs.declared.drafts.parts.Declaration.{Declaration}
+use Rattle.sc_text.specs.Flaws.{place_among, variable_names}
+use Rattle.sc_text.specs.Resolved.{variables_of}
+use Rattle.sc_text.proofs.Unflawed.{none_first, none_second, no_flaw, or_first, or_second}
+use Rattle.sc_text.proofs.Distinct.{AreFirstBehind, no_more_names, one_more_name}
+use Rattle.sc_text.proofs.Declared.{room_for_one, room_for_more, is_first}
 use Rattle.core_charts.specs.declared.features.Features.TheVariants as features
 use Rattle.core_charts.specs.declared.region.Region.{Region}
 use Rattle.core_charts.specs.declared.region.Region.TheOpen.{State-F}
@@ -21,12 +21,12 @@ use Rattle.core_charts.specs.declared.region.State.{State}
 use Rattle.core_charts.specs.declared.region.Transition.{Transition}
 use Rattle.core_charts.specs.Rules.{IsTransition, IsState, has_regions}
 use Rattle.core_charts.specs.Tests.{is_join}
-use Rattle.chart_drafts.specs.declared.draft.DraftRegion.{DraftRegion}
-use Rattle.chart_drafts.specs.declared.draft.DraftRegion.TheViews.{out-DraftState}
-use Rattle.chart_drafts.specs.declared.draft.DraftState.{DraftState}
-use Rattle.chart_drafts.specs.declared.draft.DraftTransition.{DraftTransition}
-use Rattle.chart_drafts.specs.Flaws.{transition_flaws, is_filled, state_names, final_flaws, state_flaws}
-use Rattle.chart_drafts.specs.Shape.{IsStateShaped}
+use Rattle.chart_reader.specs.declared.text_drafts.draft.DraftRegion.{DraftRegion}
+use Rattle.chart_reader.specs.declared.text_drafts.draft.DraftRegion.TheViews.{out-DraftState}
+use Rattle.chart_reader.specs.declared.text_drafts.draft.DraftState.{DraftState}
+use Rattle.chart_reader.specs.declared.text_drafts.draft.DraftTransition.{DraftTransition}
+use Rattle.chart_reader.specs.Flaws.{transition_flaws, is_filled, state_names, final_flaws, state_flaws}
+use Rattle.chart_reader.specs.Shape.{IsStateShaped}
 use Rattle.chart_reader.specs.Resolved.{transition_of, region_of, state_of}
 use Rattle.chart_reader.proofs.Looking.{state_parts, state_out}
 use Rattle.chart_reader.proofs.KeptTransitions.{Transitions, transitions_are}

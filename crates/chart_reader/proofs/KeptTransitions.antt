@@ -8,24 +8,24 @@ use Rattle.grammar.proofs.Each.{Every, every_at}
 use Rattle.sc_values.specs.declared.value.Kind.TheVariants as of_kind
 use Rattle.sc_values.specs.declared.expression.Expr.{Expr}
 use Rattle.sc_text.specs.Parts.{IsExpression}
-use Rattle.drafts.specs.declared.parts.TextExpression.{TextExpression}
-use Rattle.drafts.specs.declared.parts.Declaration.{Declaration}
-use Rattle.drafts.specs.Flaws.{is_among, variable_names, variable_named, assigned_flaws}
-use Rattle.drafts.specs.Resolved.{expression_of, variables_of}
-use Rattle.drafts.proofs.Kinded.{kinds_of}
-use Rattle.drafts.proofs.Declared.{room_for_one, room_for_more}
-use Rattle.drafts.proofs.Assigned.{IsAssigned, assigned_is}
-use Rattle.drafts.proofs.Unflawed.{none_first, none_second, no_flaw, not_false, or_first, or_second, expression_is}
+use Rattle.sc_text.specs.declared.drafts.parts.TextExpression.{TextExpression}
+use Rattle.sc_text.specs.declared.drafts.parts.Declaration.{Declaration}
+use Rattle.sc_text.specs.Flaws.{is_among, variable_names, variable_named, assigned_flaws}
+use Rattle.sc_text.specs.Resolved.{expression_of, variables_of}
+use Rattle.sc_text.proofs.Kinded.{kinds_of}
+use Rattle.sc_text.proofs.Declared.{room_for_one, room_for_more}
+use Rattle.sc_text.proofs.Assigned.{IsAssigned, assigned_is}
+use Rattle.sc_text.proofs.Unflawed.{none_first, none_second, no_flaw, not_false, or_first, or_second, expression_is}
 use Rattle.core_charts.specs.declared.features.Features.TheVariants as features
 use Rattle.core_charts.specs.declared.region.Transition.{Transition}
 use Rattle.core_charts.specs.declared.region.TransitionKind.{TransitionKind}
 use Rattle.core_charts.specs.declared.region.TransitionKind.TheVariants as kind
 use Rattle.core_charts.specs.Rules.{IsEffect, IsTransition, allows, fits_state}
 use Rattle.core_charts.specs.Tests.{is_join}
-use Rattle.chart_drafts.specs.declared.draft.DraftEffect.{DraftEffect}
-use Rattle.chart_drafts.specs.declared.draft.DraftTransition.{DraftTransition}
-use Rattle.chart_drafts.specs.Flaws.{effect_flaws, trigger_flaws, transition_flaws}
-use Rattle.chart_drafts.specs.Shape.{IsWritable, IsTransitionShaped}
+use Rattle.chart_reader.specs.declared.text_drafts.draft.DraftEffect.{DraftEffect}
+use Rattle.chart_reader.specs.declared.text_drafts.draft.DraftTransition.{DraftTransition}
+use Rattle.chart_reader.specs.Flaws.{effect_flaws, trigger_flaws, transition_flaws}
+use Rattle.chart_reader.specs.Shape.{IsWritable, IsTransitionShaped}
 use Rattle.chart_reader.specs.Resolved.{effect_of, transition_of}
 use Rattle.chart_reader.proofs.Names.{number_below}
 

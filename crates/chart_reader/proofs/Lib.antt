@@ -11,3 +11,15 @@ pub mod Whole
 pub mod Reading
 pub mod OneChartAnswer
 pub mod Exactly
+pub mod Shapes
+pub mod Deepens
+pub mod Parts
+pub mod Same
+pub mod RowReading
+pub mod Filling
+pub mod Pieces
+pub mod Nesting
+pub mod Drafting
+pub mod ShapedDrafts
+pub mod Flawed
+pub mod Checking

@@ -4,11 +4,11 @@ use Rattle.core_charts.specs.declared.region.Region.{Region}
 use Rattle.core_charts.specs.declared.region.Region.TheOpen.{Region-F, State-F}
 use Rattle.core_charts.specs.declared.region.Region.TheViews.{roll-Region, roll-State, out-Region, out-State, out-roll-Region, out-roll-State}
 use Rattle.core_charts.specs.declared.region.State.{State}
-use Rattle.chart_drafts.specs.declared.draft.DraftRegion.{DraftRegion}
-use Rattle.chart_drafts.specs.declared.draft.DraftRegion.TheViews.{out-DraftRegion, out-DraftState}
-use Rattle.chart_drafts.specs.declared.draft.DraftRegion.TheFolds.{fold_out-DraftRegion, fold_out-DraftState}
-use Rattle.chart_drafts.specs.declared.draft.DraftState.{DraftState}
-use Rattle.chart_drafts.specs.Flaws.{state_names}
+use Rattle.chart_reader.specs.declared.text_drafts.draft.DraftRegion.{DraftRegion}
+use Rattle.chart_reader.specs.declared.text_drafts.draft.DraftRegion.TheViews.{out-DraftRegion, out-DraftState}
+use Rattle.chart_reader.specs.declared.text_drafts.draft.DraftRegion.TheFolds.{fold_out-DraftRegion, fold_out-DraftState}
+use Rattle.chart_reader.specs.declared.text_drafts.draft.DraftState.{DraftState}
+use Rattle.chart_reader.specs.Flaws.{state_names}
 use Rattle.chart_reader.specs.Resolved.{StatePiece, transition_of, state_piece, region_over, region_of, regions_of, piece_of_state, state_of, states_of}
 
 module _ (variables : List (List ℕ)) where

@@ -2,9 +2,9 @@
 use Rattle.std.proofs.Common.{◌≡◌, ℕ, ◌<◌, true, Option, Some, None, List, length, refl}
 use Rattle.std.specs.Prelude.{unwrap_or}
 use Rattle.std.specs.Option.{is_some}
-use Rattle.drafts.specs.Flaws.{place_among, is_among}
-use Rattle.drafts.specs.Resolved.{number_of}
-use Rattle.drafts.proofs.Resolving.{place_below}
+use Rattle.sc_text.specs.Flaws.{place_among, is_among}
+use Rattle.sc_text.specs.Resolved.{number_of}
+use Rattle.sc_text.proofs.Resolving.{place_below}
 
 pub number_below : (names : List (List ℕ)) (name : List ℕ) → is_among names name ≡ true → number_of names name < length names
 number_below names name e = by_place (place_among names name) refl e

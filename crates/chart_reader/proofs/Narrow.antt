@@ -6,15 +6,15 @@ use Rattle.std.proofs.lemmas.Option.{slice_get-map}
 use Rattle.core_charts.specs.declared.features.Features.TheVariants as features
 use Rattle.core_charts.specs.declared.region.Region.TheViews.{out-Region, out-State}
 use Rattle.core_charts.specs.Rules.{IsRegion, AreRegions, depth_limit}
-use Rattle.drafts.specs.declared.parts.Declaration.{Declaration}
-use Rattle.drafts.specs.Flaws.{variable_names}
-use Rattle.drafts.specs.Resolved.{variables_of}
-use Rattle.chart_drafts.specs.declared.draft.DraftRegion.{DraftRegion}
-use Rattle.chart_drafts.specs.declared.draft.DraftRegion.TheViews.{out-DraftRegion, out-DraftState}
-use Rattle.chart_drafts.specs.declared.draft.DraftState.{DraftState}
-use Rattle.chart_drafts.specs.declared.draft.DraftChart.{DraftChart}
-use Rattle.chart_drafts.specs.Flaws.{state_names, chart_flaws}
-use Rattle.chart_drafts.specs.Shape.{IsShaped}
+use Rattle.sc_text.specs.declared.drafts.parts.Declaration.{Declaration}
+use Rattle.sc_text.specs.Flaws.{variable_names}
+use Rattle.sc_text.specs.Resolved.{variables_of}
+use Rattle.chart_reader.specs.declared.text_drafts.draft.DraftRegion.{DraftRegion}
+use Rattle.chart_reader.specs.declared.text_drafts.draft.DraftRegion.TheViews.{out-DraftRegion, out-DraftState}
+use Rattle.chart_reader.specs.declared.text_drafts.draft.DraftState.{DraftState}
+use Rattle.chart_reader.specs.declared.text_drafts.draft.DraftChart.{DraftChart}
+use Rattle.chart_reader.specs.Flaws.{state_names, chart_flaws}
+use Rattle.chart_reader.specs.Shape.{IsShaped}
 use Rattle.chart_reader.specs.Narrow.{AreStatesFew, AreNarrow}
 use Rattle.chart_reader.specs.Resolved.{region_of, regions_of, state_of, states_of}
 use Rattle.chart_reader.proofs.Looking.{state_out, region_out}

@@ -6,14 +6,14 @@ use Rattle.sc_text.specs.declared.read_fault.ReadFault.TheVariants as fault
 use Rattle.sc_text.specs.Reading.{broken_by, place_of}
 use Rattle.sc_text.proofs.OneCut as cut
 use Rattle.sc_text.proofs.OneReading.{one_phrase, no_stop, one_stop}
-use Rattle.drafts.specs.First.{IsFirst}
-use Rattle.drafts.proofs.OneFirst.{one_first, no_first}
-use Rattle.chart_drafts.specs.declared.draft.DraftChart.{DraftChart}
-use Rattle.chart_drafts.specs.ChartText.{chart_text}
-use Rattle.chart_drafts.specs.Reading.{IsDraft, IsDraftFault}
-use Rattle.chart_drafts.specs.Flaws.{chart_flaws}
-use Rattle.chart_drafts.specs.Checked.{IsTextFault}
-use Rattle.chart_drafts.proofs.Deepens.{is_language}
+use Rattle.sc_text.specs.First.{IsFirst}
+use Rattle.sc_text.proofs.OneFirst.{one_first, no_first}
+use Rattle.chart_reader.specs.declared.text_drafts.draft.DraftChart.{DraftChart}
+use Rattle.chart_reader.specs.ChartText.{chart_text}
+use Rattle.chart_reader.specs.Reading.{IsDraft, IsDraftFault}
+use Rattle.chart_reader.specs.Flaws.{chart_flaws}
+use Rattle.chart_reader.specs.Checked.{IsTextFault}
+use Rattle.chart_reader.proofs.Deepens.{is_language}
 
 pub one_draft : (text : List ℕ) (d e : DraftChart) → IsDraft text d → IsDraft text e → d ≡ e
 one_draft text d e a b = one_phrase language.Chart chart_text is_language text a.tokens b.tokens a.cut b.cut d e a.spelled b.spelled

@@ -1,11 +1,11 @@
 -- A text whose draft is flawless spells the chart of that draft.
 use Rattle.std.proofs.Common.{◌≡◌, ℕ, List, []}
 use Rattle.core_charts.specs.Chart.{Chart}
-use Rattle.chart_drafts.specs.declared.draft.DraftChart.{DraftChart}
-use Rattle.chart_drafts.specs.Checked.{IsSound}
-use Rattle.chart_drafts.specs.Flaws.{chart_flaws}
-use Rattle.chart_drafts.specs.Shape.{IsShaped}
-use Rattle.chart_drafts.proofs.ShapedDrafts.{draft_is_shaped}
+use Rattle.chart_reader.specs.declared.text_drafts.draft.DraftChart.{DraftChart}
+use Rattle.chart_reader.specs.Checked.{IsSound}
+use Rattle.chart_reader.specs.Flaws.{chart_flaws}
+use Rattle.chart_reader.specs.Shape.{IsShaped}
+use Rattle.chart_reader.proofs.ShapedDrafts.{draft_is_shaped}
 use Rattle.chart_reader.specs.Resolved.{chart_of}
 use Rattle.chart_reader.specs.Read.{IsRead}
 

@@ -2,17 +2,17 @@
 use Rattle.std.proofs.Common.{◌≡◌, ◌≤◌, List, [], length, ap, sym, subst, ◌∙◌}
 use Rattle.sc_graph.specs.declared.program.Variable.{Variable}
 use Rattle.sc_graph.specs.Limits.{variable_limit}
-use Rattle.drafts.specs.declared.parts.Declaration.{Declaration}
-use Rattle.drafts.specs.Flaws.{variable_names, variable_flaws}
-use Rattle.drafts.specs.Resolved.{variables_of}
-use Rattle.drafts.proofs.Unflawed.{none_first}
-use Rattle.drafts.proofs.Declared.{few_variables}
+use Rattle.sc_text.specs.declared.drafts.parts.Declaration.{Declaration}
+use Rattle.sc_text.specs.Flaws.{variable_names, variable_flaws}
+use Rattle.sc_text.specs.Resolved.{variables_of}
+use Rattle.sc_text.proofs.Unflawed.{none_first}
+use Rattle.sc_text.proofs.Declared.{few_variables}
 use Rattle.core_charts.specs.declared.features.Features.TheVariants as features
 use Rattle.core_charts.specs.declared.region.Region.{Region}
 use Rattle.core_charts.specs.Rules.{IsChart, depth_limit}
-use Rattle.chart_drafts.specs.declared.draft.DraftChart.{DraftChart}
-use Rattle.chart_drafts.specs.Flaws.{nested_flaws, chart_flaws}
-use Rattle.chart_drafts.specs.Shape.{IsShaped}
+use Rattle.chart_reader.specs.declared.text_drafts.draft.DraftChart.{DraftChart}
+use Rattle.chart_reader.specs.Flaws.{nested_flaws, chart_flaws}
+use Rattle.chart_reader.specs.Shape.{IsShaped}
 use Rattle.chart_reader.specs.Resolved.{regions_of, chart_of}
 use Rattle.chart_reader.proofs.ChartRulesKept.{chart_kept}
 

@@ -1,9 +1,10 @@
 -- What private functions make: what is put into a state whose name and marks stand already.
+pub mod TextDrafts
 use Rattle.std.specs.Prelude.{ℕ, List, ◌++◌, map}
 use Rattle.core_charts.specs.declared.region.Region.TheViews.{out-State, roll-State}
 use Rattle.core_charts.specs.declared.region.State.{State}
-use Rattle.chart_drafts.specs.declared.draft.DraftRegion.TheViews.{out-DraftState}
-use Rattle.chart_drafts.specs.declared.draft.DraftState.{DraftState}
+use Rattle.chart_reader.specs.declared.text_drafts.draft.DraftRegion.TheViews.{out-DraftState}
+use Rattle.chart_reader.specs.declared.text_drafts.draft.DraftState.{DraftState}
 use Rattle.chart_reader.specs.Resolved.{regions_of, transition_of}
 
 abbrev pub fill_state : (variables states : List (List ℕ)) → DraftState → State → State

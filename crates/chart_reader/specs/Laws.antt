@@ -4,7 +4,7 @@ use Rattle.core_charts.specs.Chart.{Chart}
 use Rattle.sc_text.specs.declared.read_fault.FaultKind.{FaultKind}
 use Rattle.sc_text.specs.declared.read_fault.ReadFault.{ReadFault}
 use Rattle.sc_text.specs.declared.read_fault.ReadFault.TheVariants as fault
-use Rattle.chart_drafts.specs.Checked.{IsTextFault}
+use Rattle.chart_reader.specs.Checked.{IsTextFault}
 use Rattle.chart_reader.specs.Read.{IsRead}
 
 -- each text has one answer: the chart that it spells, or its fault, and not both

@@ -3,3 +3,12 @@ pub mod Read
 pub mod Narrow
 pub mod Laws
 pub mod Inside
+pub mod Draft
+pub mod ChartText
+pub mod Flaws
+pub mod PartsRead
+pub mod Phrase
+pub mod DraftLaws
+pub mod Reading
+pub mod Shape
+pub mod Checked

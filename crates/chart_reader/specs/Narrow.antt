@@ -1,9 +1,9 @@
 -- Regions that nest a few levels deep at most, none of which has more states than a text may have.
 use Rattle.std.specs.Prelude.{ℕ, zero, suc, ◌≡◌, ◌≤◌, Some, List, [], length, slice_get}
 use Rattle.core_charts.specs.Rules.{state_text_limit}
-use Rattle.chart_drafts.specs.declared.draft.DraftRegion.{DraftRegion}
-use Rattle.chart_drafts.specs.declared.draft.DraftRegion.TheViews.{out-DraftRegion, out-DraftState}
-use Rattle.chart_drafts.specs.declared.draft.DraftState.{DraftState}
+use Rattle.chart_reader.specs.declared.text_drafts.draft.DraftRegion.{DraftRegion}
+use Rattle.chart_reader.specs.declared.text_drafts.draft.DraftRegion.TheViews.{out-DraftRegion, out-DraftState}
+use Rattle.chart_reader.specs.declared.text_drafts.draft.DraftState.{DraftState}
 
 -- no more states of one region than a text may have, of which the own regions keep this
 pub record AreStatesFew (AreInside : List DraftRegion → Type 0) (states : List DraftState) : Type 0 where

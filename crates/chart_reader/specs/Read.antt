@@ -1,9 +1,9 @@
 -- What a text is read into: the chart that it spells.
 use Rattle.std.specs.Prelude.{ℕ, ◌≡◌, List, []}
 use Rattle.core_charts.specs.Chart.{Chart}
-use Rattle.chart_drafts.specs.declared.draft.DraftChart.{DraftChart}
-use Rattle.chart_drafts.specs.Reading.{IsDraft}
-use Rattle.chart_drafts.specs.Flaws.{chart_flaws}
+use Rattle.chart_reader.specs.declared.text_drafts.draft.DraftChart.{DraftChart}
+use Rattle.chart_reader.specs.Reading.{IsDraft}
+use Rattle.chart_reader.specs.Flaws.{chart_flaws}
 use Rattle.chart_reader.specs.Resolved.{chart_of}
 
 -- the text is one of the grammar that keeps the rules, and spells this chart: it has a draft, in which nothing is wrong

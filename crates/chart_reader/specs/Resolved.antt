@@ -1,21 +1,21 @@
 -- Which chart a draft is once its names are looked up. A variable is named by its place among the declarations, and the
 -- target of a transition by its place among the states of the region.
 use Rattle.std.specs.Prelude.{ℕ, List, map, option_map}
-use Rattle.drafts.specs.Flaws.{variable_names}
-use Rattle.drafts.specs.Resolved.{number_of, expression_of, variables_of}
+use Rattle.sc_text.specs.Flaws.{variable_names}
+use Rattle.sc_text.specs.Resolved.{number_of, expression_of, variables_of}
 use Rattle.core_charts.specs.declared.region.Effect.{Effect}
 use Rattle.core_charts.specs.declared.region.Transition.{Transition}
 use Rattle.core_charts.specs.declared.region.Region.{Region}
 use Rattle.core_charts.specs.declared.region.Region.TheViews.{roll-Region, roll-State}
 use Rattle.core_charts.specs.declared.region.State.{State}
 use Rattle.core_charts.specs.Chart.{Chart}
-use Rattle.chart_drafts.specs.declared.draft.DraftEffect.{DraftEffect}
-use Rattle.chart_drafts.specs.declared.draft.DraftTransition.{DraftTransition}
-use Rattle.chart_drafts.specs.declared.draft.DraftRegion.{DraftRegion}
-use Rattle.chart_drafts.specs.declared.draft.DraftRegion.TheOpen.{DraftRegion-F, DraftState-F}
-use Rattle.chart_drafts.specs.declared.draft.DraftRegion.TheFolds.{fold-DraftRegion, fold-DraftState}
-use Rattle.chart_drafts.specs.declared.draft.DraftState.{DraftState}
-use Rattle.chart_drafts.specs.declared.draft.DraftChart.{DraftChart}
+use Rattle.chart_reader.specs.declared.text_drafts.draft.DraftEffect.{DraftEffect}
+use Rattle.chart_reader.specs.declared.text_drafts.draft.DraftTransition.{DraftTransition}
+use Rattle.chart_reader.specs.declared.text_drafts.draft.DraftRegion.{DraftRegion}
+use Rattle.chart_reader.specs.declared.text_drafts.draft.DraftRegion.TheOpen.{DraftRegion-F, DraftState-F}
+use Rattle.chart_reader.specs.declared.text_drafts.draft.DraftRegion.TheFolds.{fold-DraftRegion, fold-DraftState}
+use Rattle.chart_reader.specs.declared.text_drafts.draft.DraftState.{DraftState}
+use Rattle.chart_reader.specs.declared.text_drafts.draft.DraftChart.{DraftChart}
 
 -- ---- transitions, over variables of these names
 

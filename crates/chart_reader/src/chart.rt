@@ -1,15 +1,15 @@
 //! The chart of a draft.
 
 ghost use Rattle.std.specs.Prelude.{◌≡◌, [], IfOk};
-ghost use Rattle.drafts.specs.Flaws.{variable_names};
-ghost use Rattle.chart_drafts.specs.Flaws.{chart_flaws};
-ghost use Rattle.chart_drafts.specs.Shape.{IsShaped};
+ghost use Rattle.sc_text.specs.Flaws.{variable_names};
+ghost use Rattle.chart_reader.specs.Flaws.{chart_flaws};
+ghost use Rattle.chart_reader.specs.Shape.{IsShaped};
 ghost use Rattle.chart_reader.specs.Resolved.{chart_of, regions_of};
 
 use crate::regions::regions;
-use chart_drafts::DraftChart;
+use crate::text_drafts::DraftChart;
 use core_charts::{Chart, DEPTH_LIMIT, Region};
-use drafts::{Scope, variables};
+use sc_text::{Scope, variables};
 use sqlite_items::Items;
 use std::alloc::{AllocError, Global};
 

@@ -1,12 +1,12 @@
 //! Reading a text of a chart.
 
 ghost use Rattle.std.specs.Prelude.{IfErr, IfOk};
-ghost use Rattle.chart_drafts.specs.Checked.{IsTextFault};
+ghost use Rattle.chart_reader.specs.Checked.{IsTextFault};
 ghost use Rattle.chart_reader.specs.Laws.{IsExact};
 ghost use Rattle.chart_reader.specs.Read.{IsRead};
 
 use crate::chart::chart_of;
-use chart_drafts::read_checked;
+use crate::text_drafts::read_checked;
 use core_charts::Chart;
 use sc_text::ReadFault;
 use std::alloc::Global;

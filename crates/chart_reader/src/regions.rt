@@ -2,18 +2,18 @@
 
 ghost use Rattle.std.specs.Prelude.{◌≡◌, ◌≤◌, [], ◌∷◌, ◌++◌, IfOk, OnOk, length};
 ghost use Rattle.sc_graph.specs.Limits.{variable_limit};
-ghost use Rattle.drafts.specs.Flaws.{variable_names};
-ghost use Rattle.chart_drafts.specs.declared.draft.DraftRegion.TheViews.{out-DraftRegion, out-DraftState};
-ghost use Rattle.chart_drafts.specs.Flaws.{state_names};
+ghost use Rattle.sc_text.specs.Flaws.{variable_names};
+ghost use Rattle.chart_reader.specs.declared.text_drafts.draft.DraftRegion.TheViews.{out-DraftRegion, out-DraftState};
+ghost use Rattle.chart_reader.specs.Flaws.{state_names};
 ghost use Rattle.chart_reader.specs.Narrow.{AreNarrow, AreStatesFew};
 ghost use Rattle.chart_reader.specs.Resolved.{region_of, regions_of, state_of, states_of};
 ghost use Rattle.chart_reader.specs.Inside.{fill_state};
 
 use crate::states::StateScope;
+use crate::text_drafts::{DraftRegion, DraftState};
 use crate::transitions::put_transitions;
-use chart_drafts::{DraftRegion, DraftState};
 use core_charts::{Region, State};
-use drafts::Scope;
+use sc_text::Scope;
 use sqlite_items::Items;
 use std::alloc::{AllocError, Global};
 

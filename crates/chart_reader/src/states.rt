@@ -2,12 +2,12 @@
 
 ghost use Rattle.std.specs.Prelude.{◌≡◌, ◌≤◌, IfOk, length};
 ghost use Rattle.core_charts.specs.Rules.{state_text_limit};
-ghost use Rattle.drafts.specs.Index.{IsIndex};
-ghost use Rattle.drafts.specs.Resolved.{number_of};
-ghost use Rattle.chart_drafts.specs.Flaws.{state_names};
+ghost use Rattle.sc_text.specs.Index.{IsIndex};
+ghost use Rattle.sc_text.specs.Resolved.{number_of};
+ghost use Rattle.chart_reader.specs.Flaws.{state_names};
 
-use chart_drafts::{DraftState, state_names};
-use drafts::Index;
+use crate::text_drafts::{DraftState, state_names};
+use sc_text::Index;
 use sc_values::Name;
 use std::alloc::{AllocError, Global};
 

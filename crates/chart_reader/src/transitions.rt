@@ -2,15 +2,15 @@
 
 ghost use Rattle.std.specs.Prelude.{◌≡◌, ◌≤◌, [], ◌∷◌, ◌++◌, IfOk, OnOk, length, map, option_map};
 ghost use Rattle.sc_graph.specs.Limits.{variable_limit};
-ghost use Rattle.drafts.specs.Flaws.{variable_names};
-ghost use Rattle.drafts.specs.Resolved.{expression_of};
-ghost use Rattle.chart_drafts.specs.Flaws.{state_names};
+ghost use Rattle.sc_text.specs.Flaws.{variable_names};
+ghost use Rattle.sc_text.specs.Resolved.{expression_of};
+ghost use Rattle.chart_reader.specs.Flaws.{state_names};
 ghost use Rattle.chart_reader.specs.Resolved.{effect_of, transition_of};
 
 use crate::states::StateScope;
-use chart_drafts::{DraftEffect, DraftTransition};
+use crate::text_drafts::{DraftEffect, DraftTransition};
 use core_charts::{Effect, Transition};
-use drafts::{Scope, TextExpression};
+use sc_text::{Scope, TextExpression};
 use sc_values::Expr;
 use sqlite_items::Items;
 use std::alloc::{AllocError, Global};

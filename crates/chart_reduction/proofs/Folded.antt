@@ -6,7 +6,7 @@ use Rattle.extended_charts.specs.declared.extended.ExtendedRegion.{ExtendedRegio
 use Rattle.extended_charts.specs.declared.extended.ExtendedState.{ExtendedState}
 use Rattle.extended_charts.specs.declared.extended.ExtendedRegion.TheViews.{out-ExtendedState}
 use Rattle.extended_charts.specs.declared.extended.ExtendedRegion.TheFolds.{fold_out-ExtendedState}
-use Rattle.chart_elements.specs.Elements.{row}
+use Rattle.core_charts.specs.Elements.{row}
 use Rattle.chart_reduction.specs.Rows.{Marks, before, region_marks, state_marks, transition_marks}
 use Rattle.chart_reduction.specs.Rows.{states_in_region, states_in_state, transitions_in_region, transitions_in_state}
 

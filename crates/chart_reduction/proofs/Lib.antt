@@ -11,3 +11,12 @@ pub mod PlainHolds
 pub mod PlainEntry
 pub mod Plain
 mod ReductionRows
+pub mod ValueFolded
+pub mod EndingStates
+pub mod CountedStates
+pub mod Handed
+pub mod EntryFolded
+pub mod Left
+pub mod PastStates
+mod ExitRows
+mod HistoryRows

@@ -11,17 +11,17 @@ use Rattle.extended_charts.specs.declared.extended.ExtendedChart.{ExtendedChart}
 use Rattle.extended_charts.specs.declared.extended.ExtendedRegion.{ExtendedRegion}
 use Rattle.extended_charts.specs.Making.{has_some, integers}
 use Rattle.extended_charts.specs.Reading.{elapsed}
-use Rattle.value_passes.specs.Constants.{named_values, without_constants}
-use Rattle.value_passes.specs.Registers.{with_registers}
+use Rattle.chart_reduction.specs.Constants.{named_values, without_constants}
+use Rattle.chart_reduction.specs.Registers.{with_registers}
 use Rattle.extended_charts.specs.Signals.{with_signals}
-use Rattle.value_passes.specs.Counts.{with_counts}
-use Rattle.value_passes.specs.Clocks.{clocked, with_clocks}
-use Rattle.entry_passes.specs.Exits.{left_region, outer_regions, with_exits}
-use Rattle.entry_passes.specs.Histories.{recalling, with_histories}
-use Rattle.value_passes.specs.Endings.{ending, with_endings}
+use Rattle.chart_reduction.specs.Counts.{with_counts}
+use Rattle.chart_reduction.specs.Clocks.{clocked, with_clocks}
+use Rattle.chart_reduction.specs.Exits.{left_region, outer_regions, with_exits}
+use Rattle.chart_reduction.specs.Histories.{recalling, with_histories}
+use Rattle.chart_reduction.specs.Endings.{ending, with_endings}
 use Rattle.extended_charts.specs.Durings.{acting_region, with_durings}
 use Rattle.extended_charts.specs.Holds.{held_region, with_holds}
-use Rattle.value_passes.specs.Initial.{framed, with_settings}
+use Rattle.chart_reduction.specs.Initial.{framed, with_settings}
 use Rattle.chart_reduction.specs.Reduction.{with_entry, chart_of, reduced}
 use Rattle.chart_reduction.specs.Laws.{of_region, of_variable, of_chart}
 use Rattle.chart_reduction.proofs.ByRules.{each_region}

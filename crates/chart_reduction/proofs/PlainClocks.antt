@@ -25,8 +25,8 @@ use Rattle.core_charts.specs.declared.region.State.{State}
 use Rattle.core_charts.specs.declared.region.Region.TheViews.{out-Region, out-State}
 use Rattle.extended_charts.specs.Making.{one}
 use Rattle.extended_charts.specs.Reading.{elapsed}
-use Rattle.value_passes.specs.Clocks.{TimedRegion, TimedState, asks_time, ask_time, clocks_in, clocks_among, region_step, state_step, timed_region}
-use Rattle.value_passes.specs.Clocks.{timed_state}
+use Rattle.chart_reduction.specs.Clocks.{TimedRegion, TimedState, asks_time, ask_time, clocks_in, clocks_among, region_step, state_step, timed_region}
+use Rattle.chart_reduction.specs.Clocks.{timed_state}
 use Rattle.chart_reduction.specs.Laws.{of_region, of_state}
 use Rattle.chart_reduction.proofs.ByRules.{Cases, Keeps}
 use Rattle.extended_charts.proofs.Walks.{none_counted}

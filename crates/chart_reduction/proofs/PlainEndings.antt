@@ -5,7 +5,7 @@ use Rattle.sc_text.proofs.EachItem.{Each, each_map}
 use Rattle.core_charts.specs.declared.region.Region.{Region}
 use Rattle.core_charts.specs.declared.region.State.{State}
 use Rattle.core_charts.specs.declared.region.Region.TheViews.{out-Region, out-State}
-use Rattle.value_passes.specs.Endings.{EndingRegion, EndingState, endings_in, endings_among, region_step, state_step, ending_in_region, ending_in_state}
+use Rattle.chart_reduction.specs.Endings.{EndingRegion, EndingState, endings_in, endings_among, region_step, state_step, ending_in_region, ending_in_state}
 use Rattle.chart_reduction.specs.Laws.{of_region, of_state}
 use Rattle.chart_reduction.proofs.ByRules.{Cases}
 use Rattle.extended_charts.proofs.Walks.{none_counted}

@@ -7,7 +7,7 @@ use Rattle.core_charts.specs.declared.region.Transition.{Transition}
 use Rattle.core_charts.specs.declared.region.Region.{Region}
 use Rattle.core_charts.specs.declared.region.State.{State}
 use Rattle.core_charts.specs.declared.region.Region.TheViews.{out-Region, out-State, roll-Region, roll-State, roll-out-Region, roll-out-State}
-use Rattle.entry_passes.specs.Entry.{Entered, entrances, nowhere, led, standing, all_laid, region_step, state_step, without_entry, entered}
+use Rattle.chart_reduction.specs.Entry.{Entered, entrances, nowhere, led, standing, all_laid, region_step, state_step, without_entry, entered}
 use Rattle.chart_reduction.specs.Laws.{of_region, of_state}
 use Rattle.chart_reduction.proofs.ByRules.{Cases, Keeps}
 use Rattle.chart_reduction.proofs.PlainParts.{state_folded, region_folded, from_zero}

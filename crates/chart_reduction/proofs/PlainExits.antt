@@ -7,14 +7,14 @@ use Rattle.core_charts.specs.declared.region.Transition.{Transition}
 use Rattle.core_charts.specs.declared.region.Region.{Region}
 use Rattle.core_charts.specs.declared.region.State.{State}
 use Rattle.core_charts.specs.declared.region.Region.TheViews.{out-Region, out-State}
-use Rattle.entry_passes.specs.declared.leaving.Leaving.{Leaving}
+use Rattle.chart_reduction.specs.declared.entries.leaving.Leaving.{Leaving}
 use Rattle.extended_charts.specs.declared.extended.ExtendedRegion.{ExtendedRegion}
 use Rattle.extended_charts.specs.declared.extended.ExtendedState.{ExtendedState}
 use Rattle.extended_charts.specs.declared.extended.ExtendedRegion.TheViews.{roll-ExtendedRegion, roll-ExtendedState}
 use Rattle.extended_charts.specs.Making.{has_some, one}
-use Rattle.entry_passes.specs.Exits.{LeftRegion, LeftState, left_region, left_state, region_step, state_step, left_by, left_transitions, left_behind}
-use Rattle.entry_passes.specs.Exits.{notes, notes_in, notes_among, exits_of, leavings_in, leavings_among, own_leaving, own_note, all_regions, all_states}
-use Rattle.entry_passes.specs.Exits.{all_behind, all_inside, outer_regions}
+use Rattle.chart_reduction.specs.Exits.{LeftRegion, LeftState, left_region, left_state, region_step, state_step, left_by, left_transitions, left_behind}
+use Rattle.chart_reduction.specs.Exits.{notes, notes_in, notes_among, exits_of, leavings_in, leavings_among, own_leaving, own_note, all_regions, all_states}
+use Rattle.chart_reduction.specs.Exits.{all_behind, all_inside, outer_regions}
 use Rattle.chart_reduction.specs.Laws.{of_region, of_state}
 use Rattle.chart_reduction.proofs.ByRules.{Cases}
 use Rattle.extended_charts.proofs.Walks.{walked, none_counted}

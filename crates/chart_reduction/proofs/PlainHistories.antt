@@ -9,9 +9,9 @@ use Rattle.core_charts.specs.declared.region.Transition.{Transition}
 use Rattle.core_charts.specs.declared.region.Region.{Region}
 use Rattle.core_charts.specs.declared.region.State.{State}
 use Rattle.core_charts.specs.declared.region.Region.TheViews.{out-Region, out-State}
-use Rattle.entry_passes.specs.declared.recalls.Kept.{Kept}
-use Rattle.entry_passes.specs.Histories.{PastRegion, PastState, recalled_by, asking, kept_in, kept_among, recalled_among, region_step, state_step}
-use Rattle.entry_passes.specs.Histories.{past_region, past_state}
+use Rattle.chart_reduction.specs.declared.entries.recalls.Kept.{Kept}
+use Rattle.chart_reduction.specs.Histories.{PastRegion, PastState, recalled_by, asking, kept_in, kept_among, recalled_among, region_step, state_step}
+use Rattle.chart_reduction.specs.Histories.{past_region, past_state}
 use Rattle.chart_reduction.specs.Laws.{of_region, of_state}
 use Rattle.chart_reduction.proofs.ByRules.{Cases, Keeps}
 use Rattle.chart_reduction.proofs.PlainParts.{state_folded, region_folded}

@@ -21,8 +21,8 @@ use Rattle.extended_charts.specs.declared.extended.ExtendedRegion.TheViews.{roll
 use Rattle.extended_charts.specs.declared.reading.Reading.{Reading}
 use Rattle.extended_charts.specs.declared.reading.Reading.TheVariants as reading
 use Rattle.extended_charts.specs.Reading.{valued, replaced_step, replaced, replaced_trigger}
-use Rattle.value_passes.specs.Constants.{named_values, valued_effect, valued_transition, valued_region, valued_state, state_step}
-use Rattle.value_passes.specs.Initial.{settings}
+use Rattle.chart_reduction.specs.Constants.{named_values, valued_effect, valued_transition, valued_region, valued_state, state_step}
+use Rattle.chart_reduction.specs.Initial.{settings}
 use Rattle.chart_reduction.specs.Laws.{of_region, of_state, of_variable}
 use Rattle.chart_reduction.proofs.ByRules.{Cases}
 use Rattle.chart_reduction.proofs.PlainParts.{both_same, over_state, over_region, state_is, region_is, state_folded, region_folded}

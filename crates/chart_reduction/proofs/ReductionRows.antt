@@ -17,15 +17,15 @@ use Rattle.extended_charts.specs.declared.extended.ExtendedState.{ExtendedState}
 use Rattle.extended_charts.specs.declared.reading.Reading.{Reading}
 use Rattle.extended_charts.specs.declared.reading.Reading.TheVariants as reading
 use Rattle.extended_charts.specs.Reading.{elapsed, replaced_step}
-use Rattle.value_passes.specs.Counts.{counting, count_region}
-use Rattle.value_passes.specs.Clocks.{all_states}
+use Rattle.chart_reduction.specs.Counts.{counting, count_region}
+use Rattle.chart_reduction.specs.Clocks.{all_states}
 use Rattle.sc_text.specs.MadeNames.{numbered}
 use Rattle.extended_charts.specs.Making.{always, passing, region}
-use Rattle.value_passes.specs.Registers.{register_region}
+use Rattle.chart_reduction.specs.Registers.{register_region}
 use Rattle.extended_charts.specs.Signals.{reset, signal_region}
-use Rattle.value_passes.specs.Initial.{settings}
-use Rattle.entry_passes.specs.Entry.{Entered}
-use Rattle.entry_passes.specs.Entry as entry
+use Rattle.chart_reduction.specs.Initial.{settings}
+use Rattle.chart_reduction.specs.Entry.{Entered}
+use Rattle.chart_reduction.specs.Entry as entry
 use Rattle.chart_reduction.specs.Rows.{numbers}
 
 abbrev to : Expr → (target : ℕ) → Transition

@@ -2,3 +2,13 @@ pub mod Rows
 pub mod Reduction
 pub mod FaultText
 pub mod Laws
+pub mod Constants
+pub mod Registers
+pub mod Counts
+pub mod Clocks
+pub mod Endings
+pub mod Initial
+pub mod Inside
+pub mod Exits
+pub mod Histories
+pub mod Entry

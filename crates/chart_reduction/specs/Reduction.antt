@@ -9,18 +9,18 @@ use Rattle.extended_charts.specs.declared.extended.ExtendedChart.{ExtendedChart}
 use Rattle.chart_reduction.specs.declared.rows.AuthorRows.{AuthorRows}
 use Rattle.chart_reduction.specs.declared.fault.ReduceFault.{ReduceFault}
 use Rattle.chart_reduction.specs.declared.fault.ReduceFault.TheVariants as fault
-use Rattle.value_passes.specs.Constants.{without_constants}
+use Rattle.chart_reduction.specs.Constants.{without_constants}
 use Rattle.extended_charts.specs.Signals.{with_signals}
-use Rattle.value_passes.specs.Registers.{with_registers}
-use Rattle.entry_passes.specs.Histories.{with_histories}
-use Rattle.value_passes.specs.Endings.{with_endings}
+use Rattle.chart_reduction.specs.Registers.{with_registers}
+use Rattle.chart_reduction.specs.Histories.{with_histories}
+use Rattle.chart_reduction.specs.Endings.{with_endings}
 use Rattle.extended_charts.specs.Durings.{with_durings}
-use Rattle.value_passes.specs.Counts.{with_counts}
-use Rattle.value_passes.specs.Clocks.{with_clocks}
-use Rattle.entry_passes.specs.Exits.{with_exits}
+use Rattle.chart_reduction.specs.Counts.{with_counts}
+use Rattle.chart_reduction.specs.Clocks.{with_clocks}
+use Rattle.chart_reduction.specs.Exits.{with_exits}
 use Rattle.extended_charts.specs.Holds.{with_holds}
-use Rattle.value_passes.specs.Initial.{with_settings}
-use Rattle.entry_passes.specs.Entry.{without_entry}
+use Rattle.chart_reduction.specs.Initial.{with_settings}
+use Rattle.chart_reduction.specs.Entry.{without_entry}
 use Rattle.chart_reduction.specs.Rows.{rows_of}
 
 -- the chart whose triggers and effects name nothing but variables, ticks and counts

@@ -2,7 +2,7 @@
 -- of his: both are numbered from 0 in the order of the text, where a state's own transitions come before those in it.
 use Rattle.std.specs.Prelude.{ℕ, suc, Bool, true, false, Option, Some, None, List, [], ◌∷◌, ◌++◌, map, if◌then◌else◌}
 use Rattle.core_charts.specs.declared.region.Effect.{Effect}
-use Rattle.chart_elements.specs.Elements.{row}
+use Rattle.core_charts.specs.Elements.{row}
 use Rattle.chart_reduction.specs.declared.rows.AuthorRows.{AuthorRows}
 use Rattle.extended_charts.specs.declared.extended.ExtendedRegion.{ExtendedRegion}
 use Rattle.extended_charts.specs.declared.extended.ExtendedState.{ExtendedState}

@@ -5,17 +5,17 @@ ghost use Rattle.core_charts.specs.declared.features.Features.TheVariants as fea
 ghost use Rattle.core_charts.specs.Rules.{IsChart};
 ghost use Rattle.chart_reduction.specs.Reduction.{with_variables, with_entry, chart_of, IsReduction, LacksChart};
 
+use crate::entries::{with_exits, with_histories, without_entry};
 use crate::fault::ReduceFault;
 use crate::rows::{AuthorRows, rows_of};
+use crate::values::{
+    with_clocks, with_counts, with_endings, with_registers, with_settings, without_constants,
+};
 use core_charts::Chart;
-use entry_passes::{with_exits, with_histories, without_entry};
 use extended_charts::{Declared, ExtendedChart, with_durings, with_holds, with_signals};
 use sc_graph::Variable;
 use sqlite_items::Items;
 use std::alloc::{AllocError, Global};
-use value_passes::{
-    with_clocks, with_counts, with_endings, with_registers, with_settings, without_constants,
-};
 
 /// The chart to which an extended chart is reduced, and which of its parts are the author's. `Limit`: it would break a
 /// rule or a limit of charts.

@@ -1,12 +1,11 @@
 //! Which states and transitions of a reduced chart are the author's.
 
 ghost use Rattle.std.specs.Prelude.{◌≡◌, IfOk, map};
-ghost use Rattle.chart_elements.specs.Elements.{row};
+ghost use Rattle.core_charts.specs.Elements.{row};
 ghost use Rattle.chart_reduction.specs.Rows.{before, states_in_region, states_in_state, transitions_in_region};
 ghost use Rattle.chart_reduction.specs.Rows.{transitions_in_state, numbers, rows_of};
 
-use chart_elements::next;
-use core_charts::{Effect, Transition};
+use core_charts::{Effect, Transition, next};
 use extended_charts::{ExtendedRegion, ExtendedState, alone, has_some};
 use sqlite_items::Items;
 use std::alloc::{AllocError, Global};

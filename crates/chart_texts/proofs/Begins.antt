@@ -12,9 +12,9 @@ use Rattle.sc_text.proofs.Faces.{face, blank_only, comment_only}
 use Rattle.sc_text.proofs.FirstToken.{lettered, begins_behind, begins_past, begins_next, next_begins, none_begin, word_ends, word_goes_on}
 use Rattle.std.proofs.Math.Seq.{take-append_seam, drop-append_seam}
 use Rattle.sc_text.proofs.Rows.{Stops, no_longer}
-use Rattle.block_comments.specs.declared.part.Part.TheVariants as part
-use Rattle.block_comments.specs.Comments as clear
-use Rattle.block_comments.specs.Comments.{unclosed, behind, shown, cleared, without_comments, begins_comment, TakesComment}
+use Rattle.extended_reader.specs.declared.comments.part.Part.TheVariants as part
+use Rattle.extended_reader.specs.Comments as clear
+use Rattle.extended_reader.specs.Comments.{unclosed, behind, shown, cleared, without_comments, begins_comment, TakesComment}
 use Rattle.chart_texts.specs.FirstWord.{extended, BeginsExtended}
 use Rattle.chart_texts.specs.Inside.{PassesFront, PassesNoFront}
 use Rattle.chart_texts.proofs.Clearing.{plain_first, Shown, stays, opening, marked, shown_first, blank_is, line_stays, line_ends, still_stops}

@@ -6,8 +6,8 @@ use Rattle.sc_values.specs.Name.{is_letter}
 use Rattle.sc_text.specs.Pieces.{is_blank, is_word_byte, stays_in_line, line_feed, slash}
 use Rattle.sc_text.proofs.Faces.{letter_above}
 use Rattle.sc_text.proofs.Rows.{Stops}
-use Rattle.block_comments.specs.declared.part.Part.TheVariants as part
-use Rattle.block_comments.specs.Comments.{star, space, unclosed, behind, opens, opened, is_closed, shown, cleared, without_comments, begins_comment}
+use Rattle.extended_reader.specs.declared.comments.part.Part.TheVariants as part
+use Rattle.extended_reader.specs.Comments.{star, space, unclosed, behind, opens, opened, is_closed, shown, cleared, without_comments, begins_comment}
 
 -- ---- the first byte
 

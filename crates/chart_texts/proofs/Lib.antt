@@ -2,3 +2,5 @@ mod Spelling
 mod ReducedSpelling
 mod Clearing
 mod Begins
+mod Pieces
+mod Same

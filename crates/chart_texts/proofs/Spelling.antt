@@ -9,7 +9,7 @@ use Rattle.sc_text.specs.declared.read_fault.ReadFault.TheVariants as fault
 use Rattle.abort_expansion.specs.Expansion.{IsExpandable, expanded}
 use Rattle.chart_reader.specs.Read.{IsRead}
 use Rattle.chart_reader.specs.Laws.{IsExact}
-use Rattle.chart_printer.specs.Renaming.{shown}
+use Rattle.chart_texts.specs.Renaming.{shown}
 use Rattle.chart_texts.specs.CoreText.{Answers, LacksCoreText, Spells}
 
 -- where a text was read into a chart, it spells another one exactly where both are the same

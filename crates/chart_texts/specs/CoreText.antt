@@ -5,8 +5,8 @@ use Rattle.core_charts.specs.Chart.{Chart}
 use Rattle.core_charts.specs.Rules.{IsChart}
 use Rattle.abort_expansion.specs.Expansion.{IsExpandable, expanded}
 use Rattle.chart_reader.specs.Read.{IsRead}
-use Rattle.chart_printer.specs.Layout.{chart_text}
-use Rattle.chart_printer.specs.Renaming.{shown}
+use Rattle.chart_texts.specs.Layout.{chart_text}
+use Rattle.chart_texts.specs.Renaming.{shown}
 
 -- the text of a chart, where it spells that chart, as a reader of texts takes it
 abbrev pub Spells : Chart → Option (List ℕ) → Type 0

@@ -1,6 +1,6 @@
 -- Whether a text is written as that of an extended chart: its first token tells.
 use Rattle.std.specs.Prelude.{ℕ, List, codes}
-use Rattle.block_comments.specs.Comments.{without_comments}
+use Rattle.extended_reader.specs.Comments.{without_comments}
 use Rattle.sc_text.specs.FirstToken.{BeginsWith}
 
 abbrev pub extended : List ℕ

@@ -1,4 +1,5 @@
 -- What private functions alone say of themselves. It is proved, and no public contract rests on what it means.
+pub mod Same
 use Rattle.std.specs.Prelude.{ℕ, ◌<◌, ◌≤◌, ◌↔◌, List, length, drop}
 use Rattle.sc_text.specs.FirstToken.{IsNext}
 use Rattle.chart_texts.specs.FirstWord.{extended, BeginsExtended}

@@ -3,3 +3,5 @@ pub mod ReducedText
 pub mod FirstWord
 pub mod Sources
 pub mod Inside
+pub mod Layout
+pub mod Renaming

@@ -3,7 +3,7 @@ use Rattle.std.specs.Prelude.{ℕ, ◌≡◌, ◌⊎◌, Option, Some, None, Lis
 use Rattle.core_charts.specs.declared.features.Features.TheVariants as features
 use Rattle.core_charts.specs.Rules.{IsChart}
 use Rattle.chart_reader.specs.Read.{IsRead}
-use Rattle.chart_printer.specs.Layout.{chart_text}
+use Rattle.chart_texts.specs.Layout.{chart_text}
 use Rattle.extended_charts.specs.declared.extended.ExtendedChart.{ExtendedChart}
 use Rattle.chart_reduction.specs.Reduction.{reduced}
 

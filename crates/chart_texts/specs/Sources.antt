@@ -5,7 +5,7 @@ use Rattle.sc_text.specs.declared.read_fault.FaultKind.TheVariants as broken
 use Rattle.sc_text.specs.declared.read_fault.ReadFault.{ReadFault}
 use Rattle.sc_text.specs.declared.read_fault.ReadFault.TheVariants as read
 use Rattle.extended_charts.specs.declared.extended.ExtendedChart.{ExtendedChart}
-use Rattle.extended_drafts.specs.Checked.{IsTextFault}
+use Rattle.extended_reader.specs.Checked.{IsTextFault}
 use Rattle.extended_reader.specs.Read.{IsRead}
 use Rattle.chart_texts.specs.ReducedText.{IsReducedText, LacksReducedText}
 use Rattle.chart_texts.specs.declared.sources.Unreduced.{Unreduced}

@@ -5,8 +5,8 @@ ghost use Rattle.abort_expansion.specs.Answers.{LacksCore};
 ghost use Rattle.chart_reader.specs.Read.{IsRead};
 ghost use Rattle.chart_texts.specs.CoreText.{Answers, Spells};
 
+use crate::printer::{are_same_charts, chart_of_core, chart_text};
 use abort_expansion::{ExpandFault, expand};
-use chart_printer::{are_same_charts, chart_of_core, chart_text};
 use chart_reader::read_chart;
 use core_charts::Chart;
 use sc_text::ReadFault;

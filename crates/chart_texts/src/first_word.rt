@@ -4,7 +4,7 @@ ghost use Rattle.std.specs.Prelude.{◌<◌, ◌↔◌, IsTrue, length, MatchOpt
 ghost use Rattle.chart_texts.specs.FirstWord.{BeginsExtended};
 ghost use Rattle.chart_texts.specs.Inside.{PassesFront, PassesNoFront};
 
-use block_comments::comment_length;
+use extended_reader::comment_length;
 use sc_text::{is_next, passed_length};
 
 /// Whether the first token of these bytes is the word `extended`, where their block comments are left out. What stands

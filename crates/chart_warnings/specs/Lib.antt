@@ -2,3 +2,10 @@ pub mod Codes
 pub mod Names
 pub mod Warnings
 pub mod Inside
+pub mod Lines
+pub mod Allowance
+pub mod Places
+pub mod Reports
+pub mod ExtendedPlaces
+pub mod Author
+pub mod ExtendedReports

@@ -3,9 +3,9 @@ use Rattle.std.proofs.Common.{◌≡◌, ℕ, List, Option, Result, Ok, Err, IfO
 use Rattle.std.specs.Str.{IsUtf8}
 use Rattle.scl.specs.declared.program.Scl.{Scl}
 use Rattle.bytecode.specs.Image.{Image}
-use Rattle.source_programs.specs.declared.fault.SourceFault.{SourceFault}
-use Rattle.source_programs.specs.declared.fault.SourceFault.TheVariants as unspelled
-use Rattle.source_programs.specs.Programs.{LacksProgram, SpellsProgram}
+use Rattle.compiler.specs.declared.sources.fault.SourceFault.{SourceFault}
+use Rattle.compiler.specs.declared.sources.fault.SourceFault.TheVariants as unspelled
+use Rattle.compiler.specs.Programs.{LacksProgram, SpellsProgram}
 use Rattle.command_files.specs.declared.fault.LoadFault.{LoadFault}
 use Rattle.command_files.specs.Files.{Contents}
 use Rattle.command_files.specs.Standing.{HasSource}

@@ -2,7 +2,7 @@
 use Rattle.std.proofs.Common.{◌≡◌, ℕ, Bool, true, false, List, MatchBool, IsTrue, refl, subst, inr}
 use Rattle.std.specs.Prelude.{◌↔◌}
 use Rattle.sc_graph.specs.Program.{Program}
-use Rattle.source_programs.specs.Graphs.{Makes}
+use Rattle.compiler.specs.Graphs.{Makes}
 use Rattle.command_files.specs.Making.{IsUnmade}
 
 -- it makes one, and this is compared

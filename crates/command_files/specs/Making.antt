@@ -1,7 +1,7 @@
 -- Whether a text makes a program of nodes, and why it does not.
 use Rattle.std.specs.Prelude.{ℕ, ◌≢◌, ◌⊎◌, List}
 use Rattle.sc_graph.specs.Program.{Program}
-use Rattle.source_programs.specs.Graphs.{Makes, MakesNone}
+use Rattle.compiler.specs.Graphs.{Makes, MakesNone}
 
 -- the text makes another program
 pub record MakesOther (text : List ℕ) (p : Program) : Type 0 where

@@ -7,9 +7,9 @@ use Rattle.scl.specs.declared.program.Scl.{Scl}
 use Rattle.bytecode.specs.Image.{Image}
 use Rattle.compiler.specs.declared.fault.CompileFault.TheVariants as compiling
 use Rattle.compiler.specs.Texts.{IsImageOf, SclLacksImage}
-use Rattle.source_programs.specs.declared.fault.SourceFault.{SourceFault}
-use Rattle.source_programs.specs.declared.fault.SourceFault.TheVariants as unspelled
-use Rattle.source_programs.specs.Programs.{LacksProgram, SpellsProgram}
+use Rattle.compiler.specs.declared.sources.fault.SourceFault.{SourceFault}
+use Rattle.compiler.specs.declared.sources.fault.SourceFault.TheVariants as unspelled
+use Rattle.compiler.specs.Programs.{LacksProgram, SpellsProgram}
 use Rattle.command_files.specs.declared.fault.LoadFault.{LoadFault}
 use Rattle.command_files.specs.declared.fault.LoadFault.TheVariants as fault
 use Rattle.command_files.specs.Files.{Contents}

@@ -5,7 +5,7 @@ ghost use Rattle.command_files.specs.Sources.{BytesLackCompiled, SpellsImage};
 
 use crate::fault::LoadFault;
 use crate::source::read_bytes;
-use source_programs::{ReadSource, compile_source};
+use compiler::{ReadSource, compile_source};
 use sqlite_items::Boxed;
 use std::alloc::Global;
 use verifier::Verified;

@@ -4,9 +4,8 @@ ghost use Rattle.std.specs.Prelude.{◌≡◌};
 ghost use Rattle.command_files.specs.declared.fault.LoadFault.TheVariants.{Memory};
 
 use bytecode::DecodeFault;
-use compiler::CompileFault;
+use compiler::{CompileFault, SourceFault};
 use sc_text::ReadFault;
-use source_programs::SourceFault;
 use std::alloc::{AllocError, AllocFailed};
 use verifier::Refusal;
 

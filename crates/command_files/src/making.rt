@@ -2,10 +2,10 @@
 
 ghost use Rattle.std.specs.Prelude.{IfOk, MatchBool};
 ghost use Rattle.command_files.specs.Making.{IsUnmade};
-ghost use Rattle.source_programs.specs.Graphs.{Makes};
+ghost use Rattle.compiler.specs.Graphs.{Makes};
 
+use compiler::graph_of_text;
 use sc_graph::{Program, are_same};
-use source_programs::graph_of_text;
 use std::alloc::{AllocError, Global};
 
 /// Whether a text makes this program: it spells an SCL program, or a chart that has one, whose graph this is. Err:

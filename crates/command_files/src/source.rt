@@ -3,15 +3,15 @@
 ghost use Rattle.std.specs.Prelude.{◌≡◌, ◌+◌, IfErr, IfOk, OnOk};
 ghost use Rattle.command_files.specs.Counting.{files_failed};
 ghost use Rattle.command_files.specs.Sources.{FileLacksProgram, BytesLackProgram, IsSource};
-ghost use Rattle.source_programs.specs.Programs.{SpellsProgram};
+ghost use Rattle.compiler.specs.Programs.{SpellsProgram};
 ghost use Rattle.std.specs.Str.{IsUtf8};
 
 use crate::fault::LoadFault;
 use crate::files::Files;
 use crate::standing::source_of;
+use compiler::{ReadSource, read_source};
 use sc_text::{FaultKind, ReadFault};
 use scl::Scl;
-use source_programs::{ReadSource, read_source};
 use sqlite_items::Boxed;
 use std::alloc::Global;
 use std::str;

@@ -9,7 +9,7 @@ use Rattle.command_files.specs.Files.{Contents, HasBytes}
 use Rattle.command_files.specs.Images.{IsLoaded}
 use Rattle.command_files.specs.Standing.{AreAsWritten, AreReduced, FileLacksSource, HasSource}
 use Rattle.command_files.proofs.Sourced.{no_source_in}
-use Rattle.source_programs.specs.Graphs.{Makes}
+use Rattle.compiler.specs.Graphs.{Makes}
 use Rattle.command_texts.specs.Listing.{BytesLackPlaces, FilesLackPlaces, HasPlaces}
 use Rattle.command_texts.specs.Inside.Making.{StandsMaking, StandsWithout}
 

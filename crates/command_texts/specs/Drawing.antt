@@ -10,7 +10,7 @@ use Rattle.scl_reader.specs.Read.{IsRead}
 use Rattle.scl_graph.specs.Answers.{IsGraph, LacksGraph}
 use Rattle.scl_graph.specs.declared.fault.GraphFault.{GraphFault}
 use Rattle.compiler.specs.declared.fault.CompileFault.TheVariants as compiling
-use Rattle.source_programs.specs.Programs.{SpellsIn}
+use Rattle.compiler.specs.Programs.{SpellsIn}
 use Rattle.command_files.specs.declared.fault.LoadFault.{LoadFault}
 use Rattle.command_files.specs.declared.fault.LoadFault.TheVariants as load
 use Rattle.command_files.specs.Files.{Contents}

@@ -1,7 +1,7 @@
 -- Images as lines of JSON, without the states of a chart and with them.
 use Rattle.std.specs.Prelude.{ℕ, ◌≡◌, Option, Some, None, List}
 use Rattle.bytecode.specs.Image.{Image}
-use Rattle.image_json.specs.Json.{image_json}
+use Rattle.image_listing.specs.Json.{image_json}
 use Rattle.image_charts.specs.Charts.{NamedStates}
 use Rattle.image_charts.specs.Files.{HasStates}
 use Rattle.command_files.specs.Files.{Contents}

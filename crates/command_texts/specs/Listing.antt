@@ -9,7 +9,7 @@ use Rattle.command_files.specs.declared.fault.LoadFault.TheVariants as load
 use Rattle.command_files.specs.FaultText.{shown_name}
 use Rattle.command_files.specs.Files.{Contents}
 use Rattle.command_files.specs.Images.{IsLoaded, FileLacksImage}
-use Rattle.source_programs.specs.Graphs.{Makes}
+use Rattle.compiler.specs.Graphs.{Makes}
 use Rattle.command_files.specs.Making.{IsUnmade}
 use Rattle.command_files.specs.Sources.{FileLacksProgram, BytesLackProgram}
 use Rattle.command_files.specs.Standing.{HasSource}

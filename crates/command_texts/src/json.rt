@@ -4,12 +4,12 @@ ghost use Rattle.command_files.specs.Counting.{files_failed};
 ghost use Rattle.command_files.specs.Images.{FileLacksImage};
 ghost use Rattle.command_texts.specs.Json.{IsJsonIn, IsJsonWithStates};
 ghost use Rattle.image_charts.specs.Files.{FilesLackStates};
-ghost use Rattle.image_json.specs.Json.{image_json};
+ghost use Rattle.image_listing.specs.Json.{image_json};
 ghost use Rattle.std.specs.Prelude.{◌≡◌, ◌+◌, Some, IfErr, IfOk, OnOk, string_bytes};
 
 use command_files::{Files, LoadFault, load_verified};
 use image_charts::{ChartStates, load_states};
-use image_json::image_json;
+use image_listing::image_json;
 use simulation::States;
 use std::alloc::{AllocError, Global};
 use verifier::Verified;

@@ -5,13 +5,12 @@ ghost use Rattle.std.specs.Str.{IsUtf8};
 ghost use Rattle.command_files.specs.Counting as files_count;
 ghost use Rattle.command_texts.specs.Inside.Making.{StandsMaking, StandsWithout};
 ghost use Rattle.command_texts.specs.Listing.{BytesLackPlaces, FilesLackPlaces, HasPlaces};
-ghost use Rattle.source_programs.specs.Graphs.{Makes};
+ghost use Rattle.compiler.specs.Graphs.{Makes};
 
 use command_files::{
     Files, LoadFault, bytes_of, load_verified, makes_program, reduced_source, shown_name, text_of,
 };
-use extended_nodes::image_text_with_author;
-use node_sources::image_text_with;
+use node_sources::{image_text_with, image_text_with_author};
 use std::alloc::Global;
 use std::str;
 use verifier::Verified;

@@ -36,8 +36,8 @@ use Rattle.compiled_charts_laws.proofs.Ticks.{one_reaction}
 use Rattle.compiled_charts_laws.proofs.Told.{nodes_stand}
 use Rattle.abort_expansion_laws.specs.Preemption.{HasImage}
 use Rattle.abort_expansion_laws.specs.Ticks.{AllOf}
-use Rattle.reaction_laws.proofs.RanksOfCharts.{charts_react}
-use Rattle.reaction_laws.specs.Reacts.{ReactsInOneWay}
+use Rattle.preemption_laws.proofs.RanksOfCharts.{charts_react}
+use Rattle.preemption_laws.specs.Reacts.{ReactsInOneWay}
 use Rattle.preemption_laws.proofs.Proved.{kept as kept_by_core}
 use Rattle.compiled_charts.specs.Ticks.{AreTicks}
 use Rattle.compiled_charts.specs.Compiled.{CompiledChart}

@@ -21,7 +21,7 @@ use Rattle.compiled_charts_laws.specs.Reactions.{AreSeenAlike as AreSeenAlikeBy}
 use Rattle.abort_expansion_laws.specs.Ticks.{Reactive, Reaction, EachAlike, AllOf, HasAlike, Keeps}
 use Rattle.abort_expansion_laws.specs.Preemption.{chart_machine, IsActiveInCore, SeenAlike}
 use Rattle.abort_expansion_laws.proofs.StatesMapped.{states_mapped_all}
-use Rattle.reaction_laws.specs.Reacts.{ReactsInOneWay}
+use Rattle.preemption_laws.specs.Reacts.{ReactsInOneWay}
 use Rattle.compiled_charts.specs.Kept.{AreSeenAlike, Reacts}
 use Rattle.compiled_charts.proofs.ActiveStates.{same_numbers, same_truth, IsActiveBehind, active_behind, active_past, has_entry}
 use Rattle.compiled_charts.proofs.StateTotals.{as_many_states}

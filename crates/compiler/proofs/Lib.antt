@@ -1,3 +1,5 @@
 mod Refused
 pub mod Texts
 pub mod Charts
+pub mod Making
+pub mod Spelling

@@ -4,3 +4,6 @@ mod Listed
 mod Replayed
 mod Stem
 pub mod Tested
+mod Named
+mod Tried
+mod Verdicts

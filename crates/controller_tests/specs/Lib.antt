@@ -4,3 +4,7 @@ pub mod Told
 pub mod Outcome
 pub mod Replay
 pub mod Inside
+pub mod Naming
+pub mod States
+pub mod Verdict
+pub mod Run

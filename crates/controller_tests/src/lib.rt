@@ -1,7 +1,8 @@
 //! A maker's own tests of a program: the inputs of its ticks and the trace that is wanted, which stand in files beside
-//! its text, and how the trace that its image makes differs from that.
+//! its text, how the trace that its image makes differs from that, and what a command tells of it.
 #![tactic(auto)]
 
+mod command;
 mod difference;
 mod folders;
 mod lines;
@@ -14,6 +15,7 @@ mod silent;
 mod told;
 mod trace;
 
+pub use command::try_tests;
 pub use difference::{Difference, compare};
 pub use folders::tests_in;
 pub use names::beside;

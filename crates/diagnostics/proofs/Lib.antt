@@ -1,1 +1,5 @@
 pub mod Nowhere
+pub mod Answered
+pub mod Following
+mod Joining
+mod Drafted

@@ -1,1 +1,4 @@
 pub mod Reports
+pub mod Continuations
+pub mod Inside
+pub mod ListReports

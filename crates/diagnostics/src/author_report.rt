@@ -7,7 +7,7 @@ ghost use Rattle.diagnostics.specs.Reports.{Tells};
 use crate::nodes::Shown;
 use crate::program_report::{Report, put_label, put_shown_nodes, reported};
 use compiler::CompileFault;
-use extended_nodes::{AuthorSources, author_label, author_sources};
+use node_sources::{AuthorSources, author_label, author_sources};
 use scl_graph::GraphFault;
 use std::alloc::{AllocError, Global};
 

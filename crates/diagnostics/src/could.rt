@@ -1,9 +1,9 @@
 //! What could stand at a place of a text. In an extended chart some words are names to the grammar: there it is said
 //! which of them could.
 
+use crate::could_follow::{Continuations, Grammar, continuations_of};
 use sc_text::{Sign, TokenKind, Word};
 use std::alloc::{AllocError, Global};
-use text_continuations::{Continuations, Grammar, continuations_of};
 
 /// What could stand at a place of a text.
 #[derive(Drop)]

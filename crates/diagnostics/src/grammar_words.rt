@@ -1,6 +1,7 @@
 //! A place where a text cannot go on, in words.
 
 use crate::could::Could;
+use crate::could_follow::Grammar;
 use crate::expected::put_expected;
 use crate::extended_words::{misuse_at, near_own_word};
 use crate::found::{found, one_at, stands_at};
@@ -14,7 +15,6 @@ use crate::words::Words;
 use node_sources::{LineColumn, line_column_of, name_in};
 use sc_text::{Sign, TokenKind, Word};
 use std::alloc::Global;
-use text_continuations::Grammar;
 
 // How many bytes may stand before a place of which is told what could stand there: they are read some fifty times.
 const LONGEST: usize = 262_144;

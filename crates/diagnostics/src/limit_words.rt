@@ -1,12 +1,12 @@
 //! A limit that is passed, in words.
 
+use crate::could_follow::Grammar;
 use crate::fronts::{front_of, last_token};
 use crate::told::Told;
 use crate::words::Words;
 use node_sources::name_in;
 use sc_text::{ReadFault, TokenKind, Word, tokens};
 use std::alloc::{AllocError, Global};
-use text_continuations::Grammar;
 
 const ANY: &str =
     "a limit is passed: what begins here is one too many or too large, or it nests one level too deep";

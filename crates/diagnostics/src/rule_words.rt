@@ -1,5 +1,6 @@
 //! A rule of the language that is broken, and a name that stands twice, in words.
 
+use crate::could_follow::Grammar;
 use crate::extended_rules::{INPUT_ASSIGNED, told_of_extended};
 use crate::fronts::{front_of, last_token};
 use crate::told::Told;
@@ -7,7 +8,6 @@ use crate::words::Words;
 use node_sources::name_in;
 use sc_text::{Sign, Token, TokenKind, Word, tokens};
 use std::alloc::{AllocError, Global};
-use text_continuations::Grammar;
 
 // How many states of a region are initial whose tokens begin here, behind its name.
 fn initial_states(tokens: &[Token]) -> usize {

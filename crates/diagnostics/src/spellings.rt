@@ -1,7 +1,7 @@
 //! What other languages spell otherwise.
 
+use crate::could_follow::Grammar;
 use crate::found::stands_at;
-use text_continuations::Grammar;
 
 /// What to write for a piece of another language that stands at a byte of a text.
 pub(crate) fn for_sign(text: &str, at: usize) -> Option<&'static str> {

@@ -1,5 +1,6 @@
 //! A name that is not declared, in words.
 
+use crate::could_follow::Grammar;
 use crate::fronts::{front_of, last_token};
 use crate::near_names::nearest;
 use crate::told::Told;
@@ -7,7 +8,6 @@ use crate::words::Words;
 use node_sources::name_in;
 use sc_text::{Sign, TokenKind, Word};
 use std::alloc::Global;
-use text_continuations::Grammar;
 
 const VARIABLE: Told = Told {
     cause: "no variable is named `@`",

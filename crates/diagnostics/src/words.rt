@@ -1,5 +1,6 @@
 //! The faults of readers in words.
 
+use crate::could_follow::Grammar;
 use crate::extended_rules::{has_double_underscore, told_of_extended_kind};
 use crate::found::{Piece, found, stands_at};
 use crate::fronts::front_of;
@@ -10,11 +11,10 @@ use crate::rule_words::{put_repeated, put_rule};
 use crate::spellings::for_sign;
 use crate::told::Told;
 use crate::unknown_words::put_unknown;
-use block_comments::without_comments;
+use extended_reader::without_comments;
 use node_sources::name_in;
 use sc_text::FaultKind;
 use std::alloc::{AllocError, Global};
-use text_continuations::Grammar;
 
 /// A fault of a text in words: what is wrong, and what helps, which is empty where nothing is known to.
 #[derive(Drop)]

@@ -3,3 +3,5 @@ pub mod Held
 mod Accepted
 mod Resting
 mod Uneven
+mod Refused
+mod Told

@@ -6,3 +6,4 @@ pub mod Ticks
 pub mod Refusals
 pub mod Held
 pub mod Inside
+pub mod Texts

@@ -1,4 +1,5 @@
-//! A machine inside another program: machines behind handles, and ticks over cells.
+//! A machine inside another program: machines behind handles, ticks over cells, and what is opened for them
+//! (`texts`).
 #![tactic(auto)]
 
 mod buffers;
@@ -13,6 +14,7 @@ mod machine;
 mod opened;
 mod rows;
 mod states;
+mod texts;
 
 pub use buffers::{put_beginning, put_bytes};
 pub use calls::{close, open_machine, react, reset, restore, save, state_is_active, tell_names};
@@ -24,3 +26,4 @@ pub use machine::Machine;
 pub use opened::Opened;
 pub use rows::{VariableRow, names_of, put_rows};
 pub use states::StateTable;
+pub use texts::{image_of_text, opened_image, opened_text, verified_image};

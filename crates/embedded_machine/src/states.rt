@@ -5,12 +5,11 @@ ghost use Rattle.std.specs.List.{list_any};
 ghost use Rattle.abort_expansion.specs.Answers.{LacksCore};
 ghost use Rattle.node_states.specs.Active.{is_active, is_number, rests_at, rests_in};
 ghost use Rattle.node_states.specs.StandsFor.{stands_for};
-ghost use Rattle.chart_elements.specs.Paths.{paths_of};
+ghost use Rattle.core_charts.specs.Paths.{paths_of};
 ghost use Rattle.embedded_machine.specs.Opened.{ended_by_zero, no_states};
 
 use abort_expansion::{ExpandFault, expand};
-use chart_elements::paths_of;
-use core_charts::Chart;
+use core_charts::{Chart, paths_of};
 use node_states::stands_for;
 use sc_graph::{Control, Status};
 use sqlite_items::Items;

@@ -6,8 +6,7 @@ ghost use Rattle.extended_charts.specs.Making.{has_some, one, literal, local, in
 ghost use Rattle.extended_charts.specs.Making.{bare, passing, all_passing};
 
 use crate::extended::{Declared, ExtendedRegion, ExtendedState};
-use chart_elements::next;
-use core_charts::{Effect, Transition, TransitionKind};
+use core_charts::{Effect, Transition, TransitionKind, next};
 use sc_graph::{Role, Variable, VariableId};
 use sc_text::numbered;
 use sc_values::{Expr, Kind, Name, UnaryOperator, Value};

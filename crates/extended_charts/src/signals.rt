@@ -5,8 +5,7 @@ ghost use Rattle.extended_charts.specs.Signals.{emission, reset, resets, signal_
 
 use crate::extended::{ExtendedChart, ExtendedRegion, ExtendedState};
 use crate::making::{count, has_some, passing, put_all_passing};
-use chart_elements::next;
-use core_charts::Effect;
+use core_charts::{Effect, next};
 use sc_graph::VariableId;
 use sc_text::plain;
 use sc_values::{BinaryOperator, Expr, Value};

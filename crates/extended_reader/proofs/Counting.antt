@@ -1,7 +1,7 @@
 -- How many counts are left behind a transition.
 use Rattle.std.proofs.Common.{◌≡◌, ◌≤◌, ◌+◌, ℕ, List, ◌∷◌, length, arith}
 use Rattle.std.proofs.lemmas.List.{length-append}
-use Rattle.extended_drafts.specs.declared.draft.DraftWay.{DraftWay}
+use Rattle.extended_reader.specs.declared.text_drafts.draft.DraftWay.{DraftWay}
 use Rattle.extended_reader.specs.Counts.{HaveCounts, own_counts, counts_of}
 
 module _ (w : DraftWay) (ways : List DraftWay) (counts : ℕ) (h : HaveCounts (w ∷ ways) counts) where

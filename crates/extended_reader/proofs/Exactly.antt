@@ -5,7 +5,7 @@ use Rattle.sc_text.specs.declared.read_fault.FaultKind.{FaultKind}
 use Rattle.sc_text.specs.declared.read_fault.ReadFault.{ReadFault}
 use Rattle.sc_text.specs.declared.read_fault.ReadFault.TheVariants as fault
 use Rattle.extended_charts.specs.declared.extended.ExtendedChart.{ExtendedChart}
-use Rattle.extended_drafts.specs.Checked.{IsTextFault}
+use Rattle.extended_reader.specs.Checked.{IsTextFault}
 use Rattle.extended_reader.specs.Read.{IsRead, IsExact}
 use Rattle.extended_reader.specs.Resolved.{extended_of}
 use Rattle.extended_reader.proofs.OneAnswer as one

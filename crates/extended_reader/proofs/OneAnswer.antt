@@ -1,26 +1,26 @@
 -- A text has one answer: one draft, or one fault, and not both.
 use Rattle.std.proofs.Common.{◌≡◌, ℕ, List, [], length, sym, ◌∙◌, ap, subst, inl, inr}
-use Rattle.block_comments.specs.Comments.{without_comments}
+use Rattle.extended_reader.specs.Comments.{without_comments}
 use Rattle.grammar.specs.Read.{Got, Failed, read_all}
 use Rattle.grammar.proofs.Told.{told_spelled, told_fault}
 use Rattle.sc_text.specs.declared.language.Language.TheVariants as language
 use Rattle.sc_text.specs.declared.token.Token.{Token}
 use Rattle.sc_text.specs.Tokens.{AreTokens}
-use Rattle.chart_modules.specs.Answer.{Answer, Good, Bad}
-use Rattle.chart_modules.specs.Modules.{plain_text}
+use Rattle.extended_reader.specs.Answer.{Answer, Good, Bad}
+use Rattle.extended_reader.specs.Modules.{plain_text}
 use Rattle.sc_text.specs.declared.read_fault.FaultKind.{FaultKind}
 use Rattle.sc_text.specs.declared.read_fault.ReadFault.TheVariants as fault
 use Rattle.sc_text.specs.Reading.{broken_by, place_of}
 use Rattle.sc_text.proofs.OneCut as cut
 use Rattle.sc_text.proofs.OneCut.{one_list}
-use Rattle.drafts.specs.First.{IsFirst}
-use Rattle.drafts.proofs.OneFirst.{one_first, no_first}
-use Rattle.extended_drafts.specs.declared.draft.ExtendedDraft.{ExtendedDraft}
-use Rattle.extended_drafts.specs.ExtendedText.{extended_text}
-use Rattle.extended_drafts.specs.Reading.{IsExtendedDraft, IsModuleFault, IsGrammarFault, IsDraftFault}
-use Rattle.extended_drafts.specs.Flaws.{extended_flaws}
-use Rattle.extended_drafts.specs.Checked.{IsTextFault}
-use Rattle.extended_drafts.proofs.Deepens.{is_language}
+use Rattle.sc_text.specs.First.{IsFirst}
+use Rattle.sc_text.proofs.OneFirst.{one_first, no_first}
+use Rattle.extended_reader.specs.declared.text_drafts.draft.ExtendedDraft.{ExtendedDraft}
+use Rattle.extended_reader.specs.ExtendedText.{extended_text}
+use Rattle.extended_reader.specs.Reading.{IsExtendedDraft, IsModuleFault, IsGrammarFault, IsDraftFault}
+use Rattle.extended_reader.specs.Flaws.{extended_flaws}
+use Rattle.extended_reader.specs.Checked.{IsTextFault}
+use Rattle.extended_reader.proofs.Deepens.{is_language}
 
 module _ (text : List ℕ) where
   abbrev Cut : List Token → Type 0

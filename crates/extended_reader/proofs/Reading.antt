@@ -1,11 +1,11 @@
 -- A text whose draft is flawless spells the extended chart of that draft.
 use Rattle.std.proofs.Common.{◌≡◌, ℕ, List, []}
 use Rattle.extended_charts.specs.declared.extended.ExtendedChart.{ExtendedChart}
-use Rattle.extended_drafts.specs.declared.draft.ExtendedDraft.{ExtendedDraft}
-use Rattle.extended_drafts.specs.Checked.{IsSound}
-use Rattle.extended_drafts.specs.Flaws.{extended_flaws}
-use Rattle.extended_drafts.specs.Shape.{IsExtendedShaped}
-use Rattle.extended_drafts.proofs.ShapedDrafts.{draft_is_shaped}
+use Rattle.extended_reader.specs.declared.text_drafts.draft.ExtendedDraft.{ExtendedDraft}
+use Rattle.extended_reader.specs.Checked.{IsSound}
+use Rattle.extended_reader.specs.Flaws.{extended_flaws}
+use Rattle.extended_reader.specs.Shape.{IsExtendedShaped}
+use Rattle.extended_reader.proofs.ShapedDrafts.{draft_is_shaped}
 use Rattle.extended_reader.specs.Resolved.{extended_of}
 use Rattle.extended_reader.specs.Read.{IsRead}
 

@@ -3,8 +3,8 @@ use Rattle.std.proofs.Common.{◌≡◌, ℕ, ◌+◌, Bool, true, false, Option
 use Rattle.std.specs.Prelude.{not}
 use Rattle.std.specs.Str.{bytes_eq}
 use Rattle.std.proofs.lemmas.List.{length-append, length-map, map-append}
-use Rattle.drafts.specs.declared.parts.Named.{Named}
-use Rattle.extended_drafts.specs.declared.draft.DraftItem.{DraftItem}
+use Rattle.sc_text.specs.declared.drafts.parts.Named.{Named}
+use Rattle.extended_reader.specs.declared.text_drafts.draft.DraftItem.{DraftItem}
 use Rattle.extended_reader.specs.declared.sorts.Sort.{Sort}
 use Rattle.extended_reader.specs.declared.sorts.Sort.TheVariants as sort
 use Rattle.extended_reader.specs.Items.{is_of, one_if, all_of, sorted, declarations}

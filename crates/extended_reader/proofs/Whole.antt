@@ -2,18 +2,18 @@
 use Rattle.std.proofs.Common.{◌≡◌, ◌≤◌, List, [], length, refl, ap, sym, subst, ◌∙◌}
 use Rattle.std.proofs.lemmas.List.{length-map}
 use Rattle.sc_graph.specs.Limits.{variable_limit}
-use Rattle.drafts.specs.declared.parts.Declaration.{Declaration}
-use Rattle.drafts.specs.Flaws.{variable_names}
-use Rattle.drafts.proofs.Unflawed.{none_first}
+use Rattle.sc_text.specs.declared.drafts.parts.Declaration.{Declaration}
+use Rattle.sc_text.specs.Flaws.{variable_names}
+use Rattle.sc_text.proofs.Unflawed.{none_first}
 use Rattle.core_charts.specs.Rules.{depth_limit}
-use Rattle.chart_drafts.specs.Flaws.{chart_flaws}
+use Rattle.chart_reader.specs.Flaws.{chart_flaws}
 use Rattle.chart_reader.specs.Narrow.{AreNarrow}
 use Rattle.chart_reader.proofs.Whole as core
 use Rattle.chart_reader.proofs.Narrow as core_regions
-use Rattle.extended_drafts.specs.declared.draft.DraftItem.{DraftItem}
-use Rattle.extended_drafts.specs.declared.draft.ExtendedDraft.{ExtendedDraft}
-use Rattle.extended_drafts.specs.Flaws.{new_flaws, extended_flaws}
-use Rattle.extended_drafts.specs.Shape.{IsExtendedShaped}
+use Rattle.extended_reader.specs.declared.text_drafts.draft.DraftItem.{DraftItem}
+use Rattle.extended_reader.specs.declared.text_drafts.draft.ExtendedDraft.{ExtendedDraft}
+use Rattle.extended_reader.specs.Flaws.{new_flaws, extended_flaws}
+use Rattle.extended_reader.specs.Shape.{IsExtendedShaped}
 use Rattle.extended_reader.specs.Items.{sorted, declarations, names_of}
 use Rattle.extended_reader.proofs.Sorted.{sorted_length}
 

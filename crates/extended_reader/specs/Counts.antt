@@ -4,10 +4,10 @@ use Rattle.sc_values.specs.declared.value.Value.TheVariants as value
 use Rattle.sc_values.specs.declared.operator.BinaryOperator.TheVariants as operator
 use Rattle.sc_values.specs.declared.expression.Expr.{Expr}
 use Rattle.sc_values.specs.declared.expression.Expr.TheVariants as expr
-use Rattle.drafts.specs.Resolved.{expression_of}
-use Rattle.extended_drafts.specs.declared.draft.DraftCount.{DraftCount}
-use Rattle.extended_drafts.specs.declared.draft.DraftDelay.{DraftDelay}
-use Rattle.extended_drafts.specs.declared.draft.DraftWay.{DraftWay}
+use Rattle.sc_text.specs.Resolved.{expression_of}
+use Rattle.extended_reader.specs.declared.text_drafts.draft.DraftCount.{DraftCount}
+use Rattle.extended_reader.specs.declared.text_drafts.draft.DraftDelay.{DraftDelay}
+use Rattle.extended_reader.specs.declared.text_drafts.draft.DraftWay.{DraftWay}
 use Rattle.extended_charts.specs.Reading.{elapsed}
 
 abbrev pub listed_count : Option DraftCount → List DraftCount

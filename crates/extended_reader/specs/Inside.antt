@@ -1,14 +1,17 @@
 -- What private functions alone ask for and make: the rows that are left, what is put into a state whose name and marks stand
 -- already, and into a chart that has a name alone. It is proved, and no public contract rests on what it means.
+pub mod Comments
+pub mod Modules
+pub mod TextDrafts
 use Rattle.std.specs.Prelude.{ℕ, List, ◌++◌, map, codes}
-use Rattle.chart_drafts.specs.declared.draft.DraftRegion.TheViews.{out-DraftState}
-use Rattle.chart_drafts.specs.declared.draft.DraftState.{DraftState}
-use Rattle.extended_drafts.specs.declared.draft.DraftEntry.{DraftEntry}
-use Rattle.extended_drafts.specs.declared.draft.ExtendedDraft.{ExtendedDraft}
+use Rattle.chart_reader.specs.declared.text_drafts.draft.DraftRegion.TheViews.{out-DraftState}
+use Rattle.chart_reader.specs.declared.text_drafts.draft.DraftState.{DraftState}
+use Rattle.extended_reader.specs.declared.text_drafts.draft.DraftEntry.{DraftEntry}
+use Rattle.extended_reader.specs.declared.text_drafts.draft.ExtendedDraft.{ExtendedDraft}
 use Rattle.extended_charts.specs.declared.extended.ExtendedChart.{ExtendedChart}
 use Rattle.extended_charts.specs.declared.extended.ExtendedState.{ExtendedState}
 use Rattle.extended_charts.specs.declared.extended.ExtendedRegion.TheViews.{out-ExtendedState, roll-ExtendedState}
-use Rattle.extended_drafts.specs.declared.draft.DraftRows.{DraftRows}
+use Rattle.extended_reader.specs.declared.text_drafts.draft.DraftRows.{DraftRows}
 use Rattle.extended_reader.specs.declared.rows.RowsLeft.{RowsLeft}
 use Rattle.extended_reader.specs.declared.sorts.Sort.TheVariants as sort
 use Rattle.extended_reader.specs.Counts.{conditions}

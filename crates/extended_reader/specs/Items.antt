@@ -9,13 +9,13 @@ use Rattle.sc_values.specs.Operator.{unary_value}
 use Rattle.sc_text.specs.declared.operation.TextOperation.{TextOperation}
 use Rattle.sc_text.specs.declared.operation.TextOperation.TheVariants as text
 use Rattle.sc_text.specs.Phrases.{Phrase}
-use Rattle.drafts.specs.declared.parts.Named.{Named}
-use Rattle.drafts.specs.declared.parts.TextExpression.{TextExpression}
-use Rattle.drafts.specs.declared.parts.Declaration.{Declaration}
-use Rattle.drafts.specs.Flaws.{variable_names}
-use Rattle.drafts.specs.Resolved.{number_of, variable_of}
-use Rattle.extended_drafts.specs.declared.draft.DraftItem.{DraftItem}
-use Rattle.extended_drafts.specs.Flaws.{signals}
+use Rattle.sc_text.specs.declared.drafts.parts.Named.{Named}
+use Rattle.sc_text.specs.declared.drafts.parts.TextExpression.{TextExpression}
+use Rattle.sc_text.specs.declared.drafts.parts.Declaration.{Declaration}
+use Rattle.sc_text.specs.Flaws.{variable_names}
+use Rattle.sc_text.specs.Resolved.{number_of, variable_of}
+use Rattle.extended_reader.specs.declared.text_drafts.draft.DraftItem.{DraftItem}
+use Rattle.extended_reader.specs.Flaws.{signals}
 use Rattle.extended_charts.specs.declared.extended.Declared.{Declared}
 use Rattle.extended_charts.specs.declared.extended.Constant.{Constant}
 use Rattle.extended_reader.specs.declared.sorts.Sort.{Sort}

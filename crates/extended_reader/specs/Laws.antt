@@ -3,7 +3,7 @@ use Rattle.std.specs.Prelude.{ℕ, ◌≡◌, List}
 use Rattle.sc_text.specs.declared.read_fault.FaultKind.{FaultKind}
 use Rattle.sc_text.specs.declared.read_fault.ReadFault.TheVariants as fault
 use Rattle.extended_charts.specs.declared.extended.ExtendedChart.{ExtendedChart}
-use Rattle.extended_drafts.specs.Checked.{IsTextFault}
+use Rattle.extended_reader.specs.Checked.{IsTextFault}
 use Rattle.extended_reader.specs.Read.{IsRead}
 
 -- each text has one answer: the extended chart that it spells, or its fault, and not both

@@ -4,10 +4,10 @@ use Rattle.sc_text.specs.declared.read_fault.FaultKind.{FaultKind}
 use Rattle.sc_text.specs.declared.read_fault.ReadFault.{ReadFault}
 use Rattle.sc_text.specs.declared.read_fault.ReadFault.TheVariants as fault
 use Rattle.extended_charts.specs.declared.extended.ExtendedChart.{ExtendedChart}
-use Rattle.extended_drafts.specs.declared.draft.ExtendedDraft.{ExtendedDraft}
-use Rattle.extended_drafts.specs.Reading.{IsExtendedDraft}
-use Rattle.extended_drafts.specs.Flaws.{extended_flaws}
-use Rattle.extended_drafts.specs.Checked.{IsTextFault}
+use Rattle.extended_reader.specs.declared.text_drafts.draft.ExtendedDraft.{ExtendedDraft}
+use Rattle.extended_reader.specs.Reading.{IsExtendedDraft}
+use Rattle.extended_reader.specs.Flaws.{extended_flaws}
+use Rattle.extended_reader.specs.Checked.{IsTextFault}
 use Rattle.extended_reader.specs.Resolved.{extended_of}
 
 -- the text is one of the grammar of extended charts that keeps the rules, and spells this chart: it has a draft, in which

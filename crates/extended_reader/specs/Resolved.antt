@@ -8,24 +8,24 @@ use Rattle.std.specs.Str.{bytes_eq}
 use Rattle.sc_values.specs.declared.operator.BinaryOperator.TheVariants as operator
 use Rattle.sc_values.specs.declared.expression.Expr.{Expr}
 use Rattle.sc_values.specs.declared.expression.Expr.TheVariants as expr
-use Rattle.drafts.specs.declared.parts.Named.{Named}
-use Rattle.drafts.specs.declared.parts.TextExpression.{TextExpression}
-use Rattle.drafts.specs.Resolved.{expression_of, number_of}
+use Rattle.sc_text.specs.declared.drafts.parts.Named.{Named}
+use Rattle.sc_text.specs.declared.drafts.parts.TextExpression.{TextExpression}
+use Rattle.sc_text.specs.Resolved.{expression_of, number_of}
 use Rattle.core_charts.specs.declared.region.Effect.{Effect}
 use Rattle.core_charts.specs.declared.region.Transition.{Transition}
-use Rattle.chart_drafts.specs.declared.draft.DraftTransition.{DraftTransition}
-use Rattle.chart_drafts.specs.declared.draft.DraftRegion.{DraftRegion}
-use Rattle.chart_drafts.specs.declared.draft.DraftRegion.TheOpen.{DraftRegion-F, DraftState-F}
-use Rattle.chart_drafts.specs.declared.draft.DraftRegion.TheFolds.{fold-DraftRegion, fold-DraftState}
-use Rattle.chart_drafts.specs.declared.draft.DraftState.{DraftState}
+use Rattle.chart_reader.specs.declared.text_drafts.draft.DraftTransition.{DraftTransition}
+use Rattle.chart_reader.specs.declared.text_drafts.draft.DraftRegion.{DraftRegion}
+use Rattle.chart_reader.specs.declared.text_drafts.draft.DraftRegion.TheOpen.{DraftRegion-F, DraftState-F}
+use Rattle.chart_reader.specs.declared.text_drafts.draft.DraftRegion.TheFolds.{fold-DraftRegion, fold-DraftState}
+use Rattle.chart_reader.specs.declared.text_drafts.draft.DraftState.{DraftState}
 use Rattle.chart_reader.specs.Resolved.{effect_of, transition_of}
-use Rattle.extended_drafts.specs.declared.draft.DraftEntry.{DraftEntry}
-use Rattle.extended_drafts.specs.declared.draft.StateActions.{StateActions}
-use Rattle.extended_drafts.specs.declared.draft.DraftCount.{DraftCount}
-use Rattle.extended_drafts.specs.declared.draft.DraftDelay.{DraftDelay}
-use Rattle.extended_drafts.specs.declared.draft.DraftWay.{DraftWay}
-use Rattle.extended_drafts.specs.declared.draft.DraftRows.{DraftRows}
-use Rattle.extended_drafts.specs.declared.draft.ExtendedDraft.{ExtendedDraft}
+use Rattle.extended_reader.specs.declared.text_drafts.draft.DraftEntry.{DraftEntry}
+use Rattle.extended_reader.specs.declared.text_drafts.draft.StateActions.{StateActions}
+use Rattle.extended_reader.specs.declared.text_drafts.draft.DraftCount.{DraftCount}
+use Rattle.extended_reader.specs.declared.text_drafts.draft.DraftDelay.{DraftDelay}
+use Rattle.extended_reader.specs.declared.text_drafts.draft.DraftWay.{DraftWay}
+use Rattle.extended_reader.specs.declared.text_drafts.draft.DraftRows.{DraftRows}
+use Rattle.extended_reader.specs.declared.text_drafts.draft.ExtendedDraft.{ExtendedDraft}
 use Rattle.extended_charts.specs.declared.extended.During.{During}
 use Rattle.extended_charts.specs.declared.extended.ExtendedChart.{ExtendedChart}
 use Rattle.extended_charts.specs.declared.extended.ExtendedRegion.{ExtendedRegion}

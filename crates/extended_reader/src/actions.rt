@@ -2,15 +2,15 @@
 
 ghost use Rattle.std.specs.Prelude.{◌≡◌, ◌≤◌, [], ◌∷◌, ◌++◌, OnOk, length};
 ghost use Rattle.sc_graph.specs.Limits.{variable_limit};
-ghost use Rattle.drafts.specs.Flaws.{variable_names};
+ghost use Rattle.sc_text.specs.Flaws.{variable_names};
 ghost use Rattle.extended_reader.specs.Inside.{fill_actions};
 ghost use Rattle.extended_reader.specs.Resolved.{actions_of, during_of, durings_of};
 
+use crate::text_drafts::DraftEntry;
 use chart_reader::{effects, put_effects, trigger};
 use core_charts::Effect;
-use drafts::Scope;
 use extended_charts::{During, ExtendedState};
-use extended_drafts::DraftEntry;
+use sc_text::Scope;
 use sqlite_items::Items;
 use std::alloc::{AllocError, Global};
 

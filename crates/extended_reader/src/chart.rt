@@ -2,11 +2,11 @@
 
 ghost use Rattle.std.specs.Prelude.{◌≡◌, ◌≤◌, [], ◌++◌, IfOk, OnOk, length, map};
 ghost use Rattle.sc_graph.specs.Limits.{variable_limit};
-ghost use Rattle.drafts.specs.Flaws.{variable_names};
+ghost use Rattle.sc_text.specs.Flaws.{variable_names};
 ghost use Rattle.core_charts.specs.Rules.{depth_limit};
 ghost use Rattle.chart_reader.specs.Narrow.{AreNarrow};
-ghost use Rattle.extended_drafts.specs.Flaws.{extended_flaws};
-ghost use Rattle.extended_drafts.specs.Shape.{IsExtendedShaped};
+ghost use Rattle.extended_reader.specs.Flaws.{extended_flaws};
+ghost use Rattle.extended_reader.specs.Shape.{IsExtendedShaped};
 ghost use Rattle.extended_reader.specs.Inside.{fill_chart};
 ghost use Rattle.extended_reader.specs.Items.{names_of};
 ghost use Rattle.extended_reader.specs.Resolved.{all_regions, extended_of, region_of};
@@ -16,10 +16,10 @@ use crate::items::{put_befores, put_constants, put_signals, put_variables};
 use crate::regions::put_regions;
 use crate::rows::RowsLeft;
 use crate::sorts::sorted;
+use crate::text_drafts::ExtendedDraft;
 use core_charts::DEPTH_LIMIT;
-use drafts::Scope;
 use extended_charts::{ExtendedChart, ExtendedRegion};
-use extended_drafts::ExtendedDraft;
+use sc_text::Scope;
 use sqlite_items::Items;
 use std::alloc::{AllocError, Global};
 

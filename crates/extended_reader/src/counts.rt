@@ -4,12 +4,12 @@ ghost use Rattle.std.specs.Prelude.{◌≡◌, ◌≤◌, ◌+◌, [], ◌∷◌
 ghost use Rattle.sc_values.specs.declared.expression.Expr.TheVariants as expr;
 ghost use Rattle.sc_values.specs.declared.operator.BinaryOperator.TheVariants as operator;
 ghost use Rattle.sc_graph.specs.Limits.{variable_limit};
-ghost use Rattle.drafts.specs.Flaws.{variable_names};
-ghost use Rattle.drafts.specs.Resolved.{expression_of};
+ghost use Rattle.sc_text.specs.Flaws.{variable_names};
+ghost use Rattle.sc_text.specs.Resolved.{expression_of};
 ghost use Rattle.extended_reader.specs.Counts.{at_least, conditions, counted, counts_of, one_less, with_this};
 
-use drafts::{Scope, TextExpression};
-use extended_drafts::DraftWay;
+use crate::text_drafts::DraftWay;
+use sc_text::{Scope, TextExpression};
 use sc_values::{BinaryOperator, Expr, Value};
 use sqlite_items::{Boxed, Items};
 use std::alloc::{AllocError, Global};

@@ -2,18 +2,17 @@
 
 ghost use Rattle.std.specs.Prelude.{◌≡◌, ◌≤◌, ◌++◌, OnOk, length, map};
 ghost use Rattle.sc_graph.specs.Limits.{variable_limit};
-ghost use Rattle.drafts.specs.Flaws.{variable_names};
+ghost use Rattle.sc_text.specs.Flaws.{variable_names};
 ghost use Rattle.extended_reader.specs.declared.sorts.Sort.TheVariants as sort;
 ghost use Rattle.extended_reader.specs.Items.{all_of, declared_of, signal_numbers, constant_of, variable_alone};
 ghost use Rattle.extended_reader.specs.Items.{before_of};
 
 use crate::sorts::Sort;
+use crate::text_drafts::DraftItem;
 use crate::values::{initial, value_in};
-use drafts::Scope;
 use extended_charts::{Constant, Declared};
-use extended_drafts::DraftItem;
 use sc_graph::{Variable, VariableId};
-use sc_text::TextOperation;
+use sc_text::{Scope, TextOperation};
 use sqlite_items::Items;
 use std::alloc::AllocError;
 

@@ -1,12 +1,12 @@
 //! Reading a text of an extended chart.
 
 ghost use Rattle.std.specs.Prelude.{IfErr, IfOk};
-ghost use Rattle.extended_drafts.specs.Checked.{IsTextFault};
+ghost use Rattle.extended_reader.specs.Checked.{IsTextFault};
 ghost use Rattle.extended_reader.specs.Read.{IsRead, IsExact};
 
 use crate::chart::extended_of;
+use crate::text_drafts::read_checked_extended;
 use extended_charts::ExtendedChart;
-use extended_drafts::read_checked_extended;
 use sc_text::ReadFault;
 use std::alloc::Global;
 

@@ -3,9 +3,9 @@
 
 ghost use Rattle.std.specs.Prelude.{◌≡◌, ◌≤◌, [], ◌∷◌, ◌++◌, OnOk, length, map};
 ghost use Rattle.sc_graph.specs.Limits.{variable_limit};
-ghost use Rattle.drafts.specs.Flaws.{variable_names};
-ghost use Rattle.chart_drafts.specs.declared.draft.DraftRegion.TheViews.{out-DraftRegion, out-DraftState};
-ghost use Rattle.chart_drafts.specs.Flaws.{state_names};
+ghost use Rattle.sc_text.specs.Flaws.{variable_names};
+ghost use Rattle.chart_reader.specs.declared.text_drafts.draft.DraftRegion.TheViews.{out-DraftRegion, out-DraftState};
+ghost use Rattle.chart_reader.specs.Flaws.{state_names};
 ghost use Rattle.chart_reader.specs.Narrow.{AreNarrow, AreStatesFew};
 ghost use Rattle.extended_reader.specs.Inside.{rows_in, fill_state};
 ghost use Rattle.extended_reader.specs.Resolved.{region_of, state_of, all_regions, behind_regions};
@@ -14,10 +14,9 @@ ghost use Rattle.extended_reader.specs.Resolved.{all_states, behind_states};
 use crate::actions::put_actions;
 use crate::rows::RowsLeft;
 use crate::transitions::put_transitions;
-use chart_drafts::{DraftRegion, DraftState};
-use chart_reader::StateScope;
-use drafts::Scope;
+use chart_reader::{DraftRegion, DraftState, StateScope};
 use extended_charts::{ExtendedRegion, ExtendedState};
+use sc_text::Scope;
 use sqlite_items::Items;
 use std::alloc::{AllocError, Global};
 

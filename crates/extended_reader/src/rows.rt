@@ -7,8 +7,8 @@ ghost use Rattle.extended_reader.specs.Resolved.{first_actions, first_delay, is_
 ghost use Rattle.extended_reader.specs.Resolved.{rows_of, behind_state, behind_transition};
 
 use crate::counts::counts_in;
+use crate::text_drafts::{DraftDelay, DraftEntry, DraftWay, StateActions};
 use extended_charts::ELAPSED;
-use extended_drafts::{DraftDelay, DraftEntry, DraftWay, StateActions};
 use std::alloc::AllocError;
 
 /// The rows of the states and the transitions that are left, and how many counts these transitions have.

@@ -3,8 +3,8 @@
 ghost use Rattle.std.specs.Prelude.{◌≡◌, IfOk, OnOk, ◌++◌};
 ghost use Rattle.extended_reader.specs.Items.{is_of, all_of, sorted, declarations};
 
-use drafts::{Declaration, Named};
-use extended_drafts::DraftItem;
+use crate::text_drafts::DraftItem;
+use sc_text::{Declaration, Named};
 use sqlite_items::Items;
 use std::alloc::{AllocError, Global};
 

@@ -1,7 +1,7 @@
 //! What transitions lead to.
 
 ghost use Rattle.std.specs.Prelude.{◌≡◌};
-ghost use Rattle.chart_drafts.specs.Flaws.{state_names};
+ghost use Rattle.chart_reader.specs.Flaws.{state_names};
 ghost use Rattle.extended_reader.specs.Resolved.{target_of};
 
 use chart_reader::StateScope;

@@ -3,8 +3,7 @@
 ghost use Rattle.std.specs.Prelude.{◌≡◌, option_map};
 ghost use Rattle.extended_reader.specs.Items.{literal_of, negated, value_of, value_in};
 
-use drafts::TextExpression;
-use sc_text::TextOperation;
+use sc_text::{TextExpression, TextOperation};
 use sc_values::{UnaryOperator, Value};
 
 /// The value of a literal, or of one under a minus.

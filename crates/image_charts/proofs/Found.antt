@@ -10,7 +10,7 @@ use Rattle.chart_reader.specs.Read.{IsRead}
 use Rattle.author_states.specs.Author.{AuthorsStates}
 use Rattle.bytecode.specs.Image.{Image}
 use Rattle.node_states.specs.Active.{active_states}
-use Rattle.chart_elements.specs.Paths.{paths_of}
+use Rattle.core_charts.specs.Paths.{paths_of}
 use Rattle.compiled_charts.specs.Compiled.{CompiledChart, IsCompiledChart}
 use Rattle.command_files.specs.declared.fault.LoadFault.{LoadFault}
 use Rattle.command_files.specs.declared.fault.LoadFault.TheVariants as fault

@@ -1,8 +1,8 @@
 -- From a source that is the chart of an image, or is not, to the text that stands for it.
 use Rattle.std.proofs.Common.{◌≡◌, ℕ, List, None, Some, inl, inr, refl}
 use Rattle.author_states.specs.Author.{AuthorsStates}
-use Rattle.author_texts.proofs.Reduced.{stands_so}
-use Rattle.author_texts.specs.Authored.{IsAuthored}
+use Rattle.author_states.proofs.Reduced.{stands_so}
+use Rattle.author_states.specs.Authored.{IsAuthored}
 use Rattle.bytecode.specs.Image.{Image}
 use Rattle.command_files.specs.declared.fault.LoadFault.{LoadFault}
 use Rattle.command_files.specs.declared.fault.LoadFault.TheVariants as load

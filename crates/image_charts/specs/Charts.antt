@@ -8,13 +8,13 @@ use Rattle.sc_text.specs.declared.read_fault.ReadFault.{ReadFault}
 use Rattle.sc_text.specs.declared.read_fault.ReadFault.TheVariants as read
 use Rattle.sc_graph.specs.declared.control.Control.{Control}
 use Rattle.core_charts.specs.Chart.{Chart}
-use Rattle.chart_drafts.specs.Checked.{IsTextFault}
+use Rattle.chart_reader.specs.Checked.{IsTextFault}
 use Rattle.chart_reader.specs.Read.{IsRead}
 use Rattle.bytecode.specs.Image.{Image}
 use Rattle.compiler.specs.Charts.{ChartLacksImage}
 use Rattle.compiler.specs.declared.fault.CompileFault.{CompileFault}
 use Rattle.node_states.specs.Active.{active_states}
-use Rattle.chart_elements.specs.Paths.{paths_of}
+use Rattle.core_charts.specs.Paths.{paths_of}
 use Rattle.compiled_charts.specs.Compiled.{CompiledChart, IsCompiledChart}
 use Rattle.command_files.specs.declared.fault.LoadFault.{LoadFault}
 use Rattle.command_files.specs.declared.fault.LoadFault.TheVariants as fault

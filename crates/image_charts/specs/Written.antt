@@ -2,7 +2,7 @@
 -- of them, which are those that their authors wrote.
 use Rattle.std.specs.Prelude.{ℕ, ◌≡◌, ◌⊎◌, Option, Some, None, List, length}
 use Rattle.author_states.specs.Author.{AuthorsStates, author_nodes, author_state}
-use Rattle.author_texts.specs.Authored.{IsAuthored}
+use Rattle.author_states.specs.Authored.{IsAuthored}
 use Rattle.bytecode.specs.Image.{Image}
 use Rattle.compiled_charts.specs.Compiled.{CompiledChart}
 use Rattle.command_files.specs.declared.fault.LoadFault.{LoadFault}

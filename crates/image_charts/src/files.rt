@@ -8,8 +8,7 @@ ghost use Rattle.image_charts.specs.Written.{HasNoChart, IsNoTextBeside, IsTextB
 
 use crate::finding::chart_of;
 use crate::states::ChartStates;
-use author_states::AuthorStates;
-use author_texts::{Authored, authored_source};
+use author_states::{AuthorStates, Authored, authored_source};
 use chart_texts::begins_extended;
 use command_files::{Files, LoadFault, bytes_of, load_verified};
 use sc_text::{Language, language_of};

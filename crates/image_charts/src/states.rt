@@ -2,7 +2,7 @@
 
 ghost use Rattle.std.specs.Prelude.{◌≡◌, IfOk};
 ghost use Rattle.image_charts.specs.Written.{told_by};
-ghost use Rattle.chart_elements.specs.Paths.{paths_of};
+ghost use Rattle.core_charts.specs.Paths.{paths_of};
 
 use crate::written::Written;
 use author_states::AuthorStates;

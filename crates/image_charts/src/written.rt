@@ -3,12 +3,11 @@
 
 ghost use Rattle.std.specs.Prelude.{◌≡◌, IfOk, length, map, string_bytes};
 ghost use Rattle.image_charts.specs.Written.{told_by, told_of_author};
-ghost use Rattle.chart_elements.specs.Paths.{paths_of};
+ghost use Rattle.core_charts.specs.Paths.{paths_of};
 
 use author_states::AuthorStates;
-use chart_elements::paths_of;
 use compiled_charts::Compiled;
-use core_charts::Chart;
+use core_charts::{Chart, paths_of};
 use sqlite_items::Items;
 use std::alloc::{AllocError, Global};
 use std::marker::Model;

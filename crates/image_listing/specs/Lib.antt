@@ -3,3 +3,4 @@ pub mod Words
 pub mod Steps
 pub mod Nodes
 pub mod Listing
+pub mod Json

@@ -1,6 +1,8 @@
-//! Images for people: their variables, threads, nodes and protocol edges as text, and cells beside the nodes.
+//! Images for people: their variables, threads, nodes and protocol edges as text, and cells beside the nodes;
+//! and an image as JSON.
 #![tactic(auto)]
 
+mod as_json;
 mod cells;
 mod edges;
 mod listing;
@@ -11,6 +13,7 @@ mod threads;
 mod variables;
 mod words;
 
+pub use as_json::image_json;
 pub use cells::left_cell;
 pub use listing::{image_text, image_text_with_cells};
 pub use steps::step_text;

@@ -9,22 +9,22 @@ use Rattle.scl_graph.specs.Graph.{program_of}
 use Rattle.core_charts.specs.declared.region.Effect.{Effect}
 use Rattle.core_charts.specs.declared.region.Transition.{Transition}
 use Rattle.core_charts.specs.Chart.{Chart}
-use Rattle.chart_elements.specs.declared.element.Element.{Element}
-use Rattle.chart_elements.specs.declared.element.Element.TheVariants as element
-use Rattle.chart_elements.specs.Elements.{Contents, all_effects, contents}
-use Rattle.chart_elements.proofs.Standing.{below}
-use Rattle.graph_origins.specs.declared.origin.NodeOrigin.{NodeOrigin}
-use Rattle.graph_origins.specs.declared.origin.NodeOrigin.TheVariants as node
-use Rattle.graph_origins.specs.Points.{Point, Assigns, Ends, Forks, Jumps, Marks, Pauses, Tests, text_points}
-use Rattle.graph_origins.specs.Laws.{IsDone, IsFirst, IsSecond, OriginsTellNodes, TellsNodes}
-use Rattle.graph_origins.specs.Origins.{node_origins}
+use Rattle.core_charts.specs.declared.elements.element.Element.{Element}
+use Rattle.core_charts.specs.declared.elements.element.Element.TheVariants as element
+use Rattle.core_charts.specs.Elements.{Contents, all_effects, contents}
+use Rattle.core_charts.proofs.Standing.{below}
+use Rattle.node_elements.specs.declared.graph.origin.NodeOrigin.{NodeOrigin}
+use Rattle.node_elements.specs.declared.graph.origin.NodeOrigin.TheVariants as node
+use Rattle.node_elements.specs.Points.{Point, Assigns, Ends, Forks, Jumps, Marks, Pauses, Tests, text_points}
+use Rattle.node_elements.specs.GraphLaws.{IsDone, IsFirst, IsSecond, OriginsTellNodes, TellsNodes}
+use Rattle.node_elements.specs.GraphOrigins.{node_origins}
 use Rattle.chart_lowering.specs.Lowering.{lowered}
-use Rattle.lowering_origins.specs.Laws.{IsFrom, OriginsTellPoints, TellsPoints}
-use Rattle.lowering_origins.specs.Origins.{point_origins}
+use Rattle.node_elements.specs.LoweringLaws.{IsFrom, OriginsTellPoints, TellsPoints}
+use Rattle.node_elements.specs.LoweringOrigins.{point_origins}
 use Rattle.abort_expansion.specs.Expansion.{expanded}
-use Rattle.expansion_origins.specs.declared.origins.Origins.{Origins}
-use Rattle.expansion_origins.specs.Laws.{EffectFrom, OriginsTellExpansion, RegionFrom, StateFrom, Tells, TellsExpansion, TransitionFrom}
-use Rattle.expansion_origins.specs.Origins.{expansion_origins}
+use Rattle.node_elements.specs.declared.expansion.origins.Origins.{Origins}
+use Rattle.node_elements.specs.ExpansionLaws.{EffectFrom, OriginsTellExpansion, RegionFrom, StateFrom, Tells, TellsExpansion, TransitionFrom}
+use Rattle.node_elements.specs.ExpansionOrigins.{expansion_origins}
 use Rattle.node_elements.specs.Laws.{Comes, ElementsTellNodes, Makes, NodeFrom}
 use Rattle.node_elements.specs.Origins.{element_of, point_of, through, through_any}
 

@@ -11,9 +11,9 @@ use Rattle.core_charts.specs.declared.features.Features.TheVariants as features
 use Rattle.core_charts.specs.declared.region.Effect.{Effect}
 use Rattle.core_charts.specs.Chart.{Chart}
 use Rattle.core_charts.specs.Rules.{IsChart}
-use Rattle.chart_elements.specs.declared.element.Element.{Element}
-use Rattle.chart_elements.specs.declared.element.Element.TheVariants as element
-use Rattle.chart_elements.specs.Elements.{Contents, all_effects, contents}
+use Rattle.core_charts.specs.declared.elements.element.Element.{Element}
+use Rattle.core_charts.specs.declared.elements.element.Element.TheVariants as element
+use Rattle.core_charts.specs.Elements.{Contents, all_effects, contents}
 use Rattle.chart_lowering.specs.Lowering.{lowered}
 use Rattle.abort_expansion.specs.Expansion.{expanded}
 use Rattle.node_elements.specs.Origins.{node_elements}

@@ -1,2 +1,9 @@
 pub mod Origins
 pub mod Laws
+pub mod Points
+pub mod GraphOrigins
+pub mod GraphLaws
+pub mod ExpansionOrigins
+pub mod ExpansionLaws
+pub mod LoweringOrigins
+pub mod LoweringLaws

@@ -2,16 +2,16 @@
 -- point the element of the core chart, and of that the element of the chart.
 use Rattle.std.specs.Prelude.{ℕ, Option, Some, None, List, map, slice_get}
 use Rattle.core_charts.specs.Chart.{Chart}
-use Rattle.chart_elements.specs.declared.element.Element.{Element}
-use Rattle.chart_elements.specs.declared.element.Element.TheVariants as element
-use Rattle.graph_origins.specs.declared.origin.NodeOrigin.{NodeOrigin}
-use Rattle.graph_origins.specs.declared.origin.NodeOrigin.TheVariants as node
-use Rattle.graph_origins.specs.Origins.{node_origins}
+use Rattle.core_charts.specs.declared.elements.element.Element.{Element}
+use Rattle.core_charts.specs.declared.elements.element.Element.TheVariants as element
+use Rattle.node_elements.specs.declared.graph.origin.NodeOrigin.{NodeOrigin}
+use Rattle.node_elements.specs.declared.graph.origin.NodeOrigin.TheVariants as node
+use Rattle.node_elements.specs.GraphOrigins.{node_origins}
 use Rattle.chart_lowering.specs.Lowering.{lowered}
-use Rattle.lowering_origins.specs.Origins.{point_origins}
+use Rattle.node_elements.specs.LoweringOrigins.{point_origins}
 use Rattle.abort_expansion.specs.Expansion.{expanded}
-use Rattle.expansion_origins.specs.declared.origins.Origins.{Origins}
-use Rattle.expansion_origins.specs.Origins.{expansion_origins}
+use Rattle.node_elements.specs.declared.expansion.origins.Origins.{Origins}
+use Rattle.node_elements.specs.ExpansionOrigins.{expansion_origins}
 
 abbrev pub point_of : NodeOrigin → ℕ
 point_of (node.First n) = n

@@ -1,16 +1,15 @@
 //! The elements of nodes, by those of points and of core charts.
 
 ghost use Rattle.std.specs.Prelude.{◌≡◌, IfOk, map, slice_get};
-ghost use Rattle.graph_origins.specs.Origins.{node_origins};
-ghost use Rattle.lowering_origins.specs.Origins.{point_origins};
-ghost use Rattle.expansion_origins.specs.Origins.{expansion_origins};
+ghost use Rattle.node_elements.specs.GraphOrigins.{node_origins};
+ghost use Rattle.node_elements.specs.LoweringOrigins.{point_origins};
+ghost use Rattle.node_elements.specs.ExpansionOrigins.{expansion_origins};
 ghost use Rattle.node_elements.specs.Origins.{composed, element_of, point_of, through};
 
-use chart_elements::Element;
-use core_charts::{Chart, CoreChart};
-use expansion_origins::{Origins, expansion_origins};
-use graph_origins::{NodeOrigin, node_origins};
-use lowering_origins::point_origins;
+use crate::expansion::{Origins, expansion_origins};
+use crate::graph::{NodeOrigin, node_origins};
+use crate::lowering::point_origins;
+use core_charts::{Chart, CoreChart, Element};
 use scl::Statement;
 use sqlite_items::{Items, at};
 use std::alloc::{AllocError, Global};

@@ -2,9 +2,9 @@
 
 ghost use Rattle.node_elements.specs.Laws.{ElementsTellNodes};
 
-use expansion_origins::origins_tell_expansion;
-use graph_origins::origins_tell_nodes;
-use lowering_origins::origins_tell_points;
+use crate::expansion::origins_tell_expansion;
+use crate::graph::origins_tell_nodes;
+use crate::lowering::origins_tell_points;
 
 /// Each node of the program of a chart comes from an element of the chart, an assignment from the effect that makes it,
 /// or, where it sets a flag or a counter, from a transition or a state. This function does nothing; its contract is the

@@ -1,6 +1,6 @@
 -- Where a fork begins, seen through the spots of its branches.
 use Rattle.std.proofs.Common.{◌≡◌, ℕ, List, [], ◌∷◌, refl}
-use Rattle.scl_drafts.specs.declared.statement.TextStatement.{TextStatement}
+use Rattle.scl_reader.specs.declared.text_drafts.statement.TextStatement.{TextStatement}
 use Rattle.node_sources.specs.SclOrigins.{branch_spots, opening}
 
 pub opening_of_spots : (branches : List (ℕ × List TextStatement)) → opening (branch_spots branches) ≡ opening branches

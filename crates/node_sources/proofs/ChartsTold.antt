@@ -5,10 +5,10 @@ use Rattle.std.specs.Prelude.{Result, Ok, Err, IfOk}
 use Rattle.core_charts.specs.declared.features.Features.TheVariants as features
 use Rattle.core_charts.specs.Chart.{Chart}
 use Rattle.core_charts.specs.Rules.{IsChart}
-use Rattle.chart_elements.specs.declared.element.Element.{Element}
-use Rattle.chart_elements.specs.declared.element.Element.TheVariants as element
-use Rattle.chart_elements.specs.Elements.{contents, all_effects}
-use Rattle.chart_elements.proofs.Standing.{below}
+use Rattle.core_charts.specs.declared.elements.element.Element.{Element}
+use Rattle.core_charts.specs.declared.elements.element.Element.TheVariants as element
+use Rattle.core_charts.specs.Elements.{contents, all_effects}
+use Rattle.core_charts.proofs.Standing.{below}
 use Rattle.sc_graph.specs.Program.{Program}
 use Rattle.sc_graph.specs.declared.program.Step.{Step}
 use Rattle.scl.specs.declared.program.Scl.{Scl}
@@ -17,16 +17,16 @@ use Rattle.scl_graph.specs.Graph.{program_of}
 use Rattle.scl.specs.Numbering.{numbered}
 use Rattle.abort_expansion.specs.Expansion.{expanded}
 use Rattle.chart_lowering.specs.Lowering.{lowered}
-use Rattle.graph_origins.specs.Origins.{node_origins}
-use Rattle.lowering_origins.specs.Origins.{point_origins}
-use Rattle.expansion_origins.specs.Origins.{expansion_origins}
-use Rattle.chart_drafts.proofs.ShapedDrafts.{draft_is_shaped}
+use Rattle.node_elements.specs.GraphOrigins.{node_origins}
+use Rattle.node_elements.specs.LoweringOrigins.{point_origins}
+use Rattle.node_elements.specs.ExpansionOrigins.{expansion_origins}
+use Rattle.chart_reader.proofs.ShapedDrafts.{draft_is_shaped}
 use Rattle.chart_reader.proofs.ChartRulesKept.{chart_kept}
-use Rattle.chart_places.specs.declared.places.Places.{Places}
-use Rattle.chart_places.specs.Laws.{PlacesTellTexts, TellsPlaces}
-use Rattle.chart_places.specs.Places.{place_of, places_of}
+use Rattle.node_sources.specs.declared.chart_places.places.Places.{Places}
+use Rattle.node_sources.specs.ChartLaws.{PlacesTellTexts, TellsPlaces}
+use Rattle.node_sources.specs.Places.{place_of, places_of}
 use Rattle.chart_reader.specs.Resolved.{chart_of}
-use Rattle.chart_places.specs.Read.{IsPlaced}
+use Rattle.node_sources.specs.Read.{IsPlaced}
 use Rattle.compiler.specs.Charts.{IsSclOf}
 use Rattle.node_elements.specs.Laws.{Comes, ElementsTellNodes, NodeFrom, TellsElements}
 use Rattle.node_elements.specs.Origins.{composed, node_elements}
@@ -36,8 +36,8 @@ use Rattle.node_sources.specs.declared.origin.SourcePart.{SourcePart}
 use Rattle.node_sources.specs.ChartOrigins.{chart_origins, node_origin, origins_from, standing, standing_if}
 use Rattle.node_sources.specs.Parts.{part_of}
 use Rattle.node_sources.specs.Sources.{ChartSources}
-use Rattle.source_programs.specs.declared.reading.ReadChart.{ReadChart}
-use Rattle.source_programs.specs.Kept.{KeepsChart}
+use Rattle.compiler.specs.declared.sources.reading.ReadChart.{ReadChart}
+use Rattle.compiler.specs.Kept.{KeepsChart}
 
 -- as many places as elements
 placed : {A : Type 0} (places : List ℕ) (those : List A) (n : ℕ) → length places ≡ length those → n < length those → Item places n

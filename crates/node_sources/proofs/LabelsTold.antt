@@ -4,20 +4,20 @@ use Rattle.sc_text.specs.declared.language.Language.TheVariants as language
 use Rattle.sc_text.specs.declared.token.Token.{Token}
 use Rattle.sc_text.specs.Tokens.{AreTokens}
 use Rattle.scl.specs.declared.program.Scl.{Scl}
-use Rattle.scl_drafts.specs.declared.draft.Draft.{Draft}
-use Rattle.scl_drafts.specs.Checked.{IsFlawless}
+use Rattle.scl_reader.specs.declared.text_drafts.draft.Draft.{Draft}
+use Rattle.scl_reader.specs.Checked.{IsFlawless}
 use Rattle.scl_reader.specs.Resolved.{IsProgramOf}
 use Rattle.core_charts.specs.Chart.{Chart}
-use Rattle.chart_elements.specs.declared.element.Element.{Element}
-use Rattle.chart_places.specs.declared.places.Places.{Places}
-use Rattle.chart_places.specs.Read.{IsPlaced}
+use Rattle.core_charts.specs.declared.elements.element.Element.{Element}
+use Rattle.node_sources.specs.declared.chart_places.places.Places.{Places}
+use Rattle.node_sources.specs.Read.{IsPlaced}
 use Rattle.abort_expansion.specs.Expansion.{expanded}
 use Rattle.compiler.specs.Charts.{IsSclOf}
 use Rattle.std.proofs.lemmas.List.{map-append}
 use Rattle.scl.specs.declared.statement.Statement.{Statement}
-use Rattle.graph_origins.specs.Points.{Ends, in_row, points_of, text_points}
-use Rattle.lowering_origins.specs.Origins.{point_origins}
-use Rattle.expansion_origins.specs.Origins.{expansion_origins}
+use Rattle.node_elements.specs.Points.{Ends, in_row, points_of, text_points}
+use Rattle.node_elements.specs.LoweringOrigins.{point_origins}
+use Rattle.node_elements.specs.ExpansionOrigins.{expansion_origins}
 use Rattle.node_elements.specs.Origins.{through}
 use Rattle.node_sources.specs.declared.origin.Origin.{Origin}
 use Rattle.node_sources.specs.declared.statements.StatementPlace.{StatementPlace}

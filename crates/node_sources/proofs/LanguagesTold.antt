@@ -3,13 +3,13 @@ use Rattle.std.proofs.Common.{◌≡◌, ℕ, Option, Some, None, IfOk, IfSome, 
 use Rattle.sc_graph.specs.Program.{Program}
 use Rattle.sc_text.specs.declared.language.Language.TheVariants as language
 use Rattle.scl.specs.declared.program.Scl.{Scl}
-use Rattle.scl_drafts.specs.declared.draft.Draft.{Draft}
+use Rattle.scl_reader.specs.declared.text_drafts.draft.Draft.{Draft}
 use Rattle.scl_graph.specs.Answers.{IsGraph}
-use Rattle.source_programs.specs.declared.reading.ReadChart.{ReadChart}
-use Rattle.source_programs.specs.declared.reading.ReadText.{ReadText}
-use Rattle.source_programs.specs.declared.reading.ReadText.TheVariants as reading
-use Rattle.source_programs.specs.Graphs.{MakesNone, SpellsGraphless}
-use Rattle.source_programs.specs.Kept.{Keeps, KeepsChart, KeepsDraft}
+use Rattle.compiler.specs.declared.sources.reading.ReadChart.{ReadChart}
+use Rattle.compiler.specs.declared.sources.reading.ReadText.{ReadText}
+use Rattle.compiler.specs.declared.sources.reading.ReadText.TheVariants as reading
+use Rattle.compiler.specs.Graphs.{MakesNone, SpellsGraphless}
+use Rattle.compiler.specs.Kept.{Keeps, KeepsChart, KeepsDraft}
 use Rattle.node_sources.specs.declared.origin.Origin.{Origin}
 use Rattle.node_sources.specs.declared.sources.Sources.{Sources}
 use Rattle.node_sources.specs.Labels.{ChartLabel, IsLabelOrigin, SclLabel}

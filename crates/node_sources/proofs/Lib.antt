@@ -11,3 +11,15 @@ pub mod Listed
 mod LabelsTold
 mod LanguagesTold
 pub mod LineColumns
+mod ChartParts
+mod Pairing
+mod Placing
+pub mod Words
+mod Spelling
+mod Within
+mod Telling
+mod OnePlacedChart
+mod Told
+mod NodesTold
+mod ExtendedParts
+mod Reading

@@ -1,19 +1,19 @@
 -- At the place of each node's origin stands the token that begins the point from which the node comes.
 use Rattle.std.proofs.Common.{◌≡◌, ℕ, ◌<◌, Some, List, [], ◌∷◌, map, length, slice_get, refl, sym, ap, subst, ◌∙◌, arith}
 use Rattle.std.proofs.lemmas.List.{length-map}
-use Rattle.chart_elements.proofs.Standing.{below}
-use Rattle.drafts.specs.declared.parts.Declaration.{Declaration}
-use Rattle.drafts.specs.Flaws.{variable_names}
-use Rattle.drafts.specs.Resolved.{variables_of}
+use Rattle.core_charts.proofs.Standing.{below}
+use Rattle.sc_text.specs.declared.drafts.parts.Declaration.{Declaration}
+use Rattle.sc_text.specs.Flaws.{variable_names}
+use Rattle.sc_text.specs.Resolved.{variables_of}
 use Rattle.sc_graph.specs.Program.{Program}
 use Rattle.sc_graph.specs.declared.program.Node.{Node}
 use Rattle.sc_graph.specs.declared.program.Step.{Step}
 use Rattle.sc_graph.specs.declared.program.Variable.{Variable}
-use Rattle.graph_origins.specs.declared.origin.NodeOrigin.{NodeOrigin}
-use Rattle.graph_origins.specs.declared.origin.NodeOrigin.TheVariants as node
-use Rattle.graph_origins.specs.Laws.{IsDone, IsSecond, OriginsTellNodes, TellsNodes}
-use Rattle.graph_origins.specs.Origins.{node_origins}
-use Rattle.graph_origins.specs.Points.{Point, Assigns, Marks, Jumps, Pauses, Tests, Forks, Ends, text_points}
+use Rattle.node_elements.specs.declared.graph.origin.NodeOrigin.{NodeOrigin}
+use Rattle.node_elements.specs.declared.graph.origin.NodeOrigin.TheVariants as node
+use Rattle.node_elements.specs.GraphLaws.{IsDone, IsSecond, OriginsTellNodes, TellsNodes}
+use Rattle.node_elements.specs.GraphOrigins.{node_origins}
+use Rattle.node_elements.specs.Points.{Point, Assigns, Marks, Jumps, Pauses, Tests, Forks, Ends, text_points}
 use Rattle.node_elements.proofs.Telling.{get_mapped}
 use Rattle.node_sources.specs.declared.origin.Origin.{Origin}
 use Rattle.node_sources.specs.declared.statements.StatementPlace.{StatementPlace}

@@ -5,8 +5,8 @@ use Rattle.std.proofs.lemmas.Option.{slice_get-get_or}
 use Rattle.std.specs.List.{slice_index_or}
 use Rattle.grammar.specs.Grammar.{spells}
 use Rattle.grammar.proofs.Each.{Every}
-use Rattle.chart_elements.proofs.Standing.{below}
-use Rattle.drafts.specs.Flaws.{variable_names}
+use Rattle.core_charts.proofs.Standing.{below}
+use Rattle.sc_text.specs.Flaws.{variable_names}
 use Rattle.sc_graph.specs.Program.{Program}
 use Rattle.sc_graph.specs.declared.program.Step.{Step}
 use Rattle.sc_text.specs.declared.language.Language.TheVariants as language
@@ -18,19 +18,19 @@ use Rattle.sc_text.proofs.OneCut.{no_fault, one_list}
 use Rattle.scl.specs.declared.program.Scl.{Scl}
 use Rattle.scl.specs.Numbering.{numbered}
 use Rattle.scl.specs.declared.statement.Statement.{Statement}
-use Rattle.scl_drafts.specs.declared.draft.Draft.{Draft}
-use Rattle.scl_drafts.specs.Checked.{IsFlawless}
-use Rattle.scl_drafts.specs.Program.{scl as scl_grammar}
-use Rattle.scl_drafts.specs.Statements.{Statements}
+use Rattle.scl_reader.specs.declared.text_drafts.draft.Draft.{Draft}
+use Rattle.scl_reader.specs.Checked.{IsFlawless}
+use Rattle.scl_reader.specs.Program.{scl as scl_grammar}
+use Rattle.scl_reader.specs.Statements.{Statements}
 use Rattle.scl_reader.specs.Resolved.{IsProgramOf, statements_of}
 use Rattle.scl_reader.proofs.Pieces.{every_of}
 use Rattle.scl_graph.specs.Answers.{IsGraph}
 use Rattle.scl_graph.specs.Graph.{program_of}
-use Rattle.graph_origins.specs.declared.origin.NodeOrigin.{NodeOrigin}
-use Rattle.graph_origins.specs.declared.origin.NodeOrigin.TheVariants as node
-use Rattle.graph_origins.specs.Laws.{IsDone, OriginsTellNodes}
-use Rattle.graph_origins.specs.Origins.{node_origins}
-use Rattle.graph_origins.specs.Points.{Ends, in_row as point_row, points_of, text_points}
+use Rattle.node_elements.specs.declared.graph.origin.NodeOrigin.{NodeOrigin}
+use Rattle.node_elements.specs.declared.graph.origin.NodeOrigin.TheVariants as node
+use Rattle.node_elements.specs.GraphLaws.{IsDone, OriginsTellNodes}
+use Rattle.node_elements.specs.GraphOrigins.{node_origins}
+use Rattle.node_elements.specs.Points.{Ends, in_row as point_row, points_of, text_points}
 use Rattle.node_sources.specs.declared.origin.Origin.{Origin}
 use Rattle.node_sources.specs.declared.statements.StatementPlace.{StatementPlace}
 use Rattle.node_sources.specs.SclLaws.{OpeningStands}

@@ -1,18 +1,18 @@
 -- At the place of each node's origin stands the token that begins the element from which the node comes.
 use Rattle.std.proofs.Common.{◌≡◌, ℕ, zero, suc, ◌+◌, ◌<◌, Option, Some, None, List, [], ◌∷◌, map, length, slice_get, refl, sym, ap, subst, ◌∙◌, arith}
 use Rattle.std.proofs.lemmas.List.{length-map}
-use Rattle.chart_elements.proofs.Standing.{below}
-use Rattle.chart_elements.specs.declared.element.Element.{Element}
-use Rattle.chart_elements.specs.declared.element.Element.TheVariants as element
-use Rattle.chart_elements.specs.Elements.{all_effects, contents}
+use Rattle.core_charts.proofs.Standing.{below}
+use Rattle.core_charts.specs.declared.elements.element.Element.{Element}
+use Rattle.core_charts.specs.declared.elements.element.Element.TheVariants as element
+use Rattle.core_charts.specs.Elements.{all_effects, contents}
 use Rattle.sc_graph.specs.Program.{Program}
 use Rattle.sc_graph.specs.declared.program.Node.{Node}
 use Rattle.sc_graph.specs.declared.program.Step.{Step}
 use Rattle.core_charts.specs.Chart.{Chart}
-use Rattle.chart_places.specs.declared.places.Places.{Places}
-use Rattle.chart_places.specs.declared.states_around.StateAround.{StateAround}
-use Rattle.chart_places.specs.Laws.{EffectStands, NameStands, PlacesTellTexts, Tells, TellsPlaces, TransitionStands}
-use Rattle.chart_places.specs.Places.{place_of, state_around}
+use Rattle.node_sources.specs.declared.chart_places.places.Places.{Places}
+use Rattle.node_sources.specs.declared.chart_places.states_around.StateAround.{StateAround}
+use Rattle.node_sources.specs.ChartLaws.{EffectStands, NameStands, PlacesTellTexts, Tells, TellsPlaces, TransitionStands}
+use Rattle.node_sources.specs.Places.{place_of, state_around}
 use Rattle.node_elements.specs.Laws.{Comes, ElementsTellNodes, NodeFrom, TellsElements}
 use Rattle.node_elements.specs.Origins.{node_elements}
 use Rattle.node_elements.proofs.Telling.{get_mapped}

@@ -3,16 +3,16 @@ use Rattle.std.proofs.Common.{◌≡◌, ℕ, zero, suc, Some, List, [], ◌∷�
 use Rattle.grammar.proofs.Each.{Every}
 use Rattle.sc_text.specs.declared.token.Token.{Token}
 use Rattle.sc_text.specs.declared.word.Word.TheVariants as word
-use Rattle.drafts.specs.declared.parts.TextExpression.{TextExpression}
-use Rattle.drafts.specs.Parts.{expressed, name_of, named}
-use Rattle.drafts.specs.Resolved.{expression_of, number_of}
+use Rattle.sc_text.specs.declared.drafts.parts.TextExpression.{TextExpression}
+use Rattle.sc_text.specs.DraftParts.{expressed, name_of, named}
+use Rattle.sc_text.specs.Resolved.{expression_of, number_of}
 use Rattle.scl.specs.declared.statement.Statement.{Statement}
-use Rattle.scl_drafts.specs.declared.statement.TextStatement.{TextStatement}
-use Rattle.scl_drafts.specs.declared.statement.TextStatement.TheVariants as written
-use Rattle.scl_drafts.specs.Statements.{AfterName, Becomes, IsLabel, Statements, goto_statement, named_statement, pause_statement}
+use Rattle.scl_reader.specs.declared.text_drafts.statement.TextStatement.{TextStatement}
+use Rattle.scl_reader.specs.declared.text_drafts.statement.TextStatement.TheVariants as written
+use Rattle.scl_reader.specs.Statements.{AfterName, Becomes, IsLabel, Statements, goto_statement, named_statement, pause_statement}
 use Rattle.scl_reader.specs.Resolved.{branches_of, statement_of, statements_of}
 use Rattle.scl_reader.proofs.Looking.{of_assign, of_fork, of_goto, of_if, of_label, of_pause}
-use Rattle.graph_origins.specs.Points.{Point, Assigns, Marks, Jumps, Pauses, Tests, Forks, Ends, in_branches as point_branches, in_row as point_row, points_of}
+use Rattle.node_elements.specs.Points.{Point, Assigns, Marks, Jumps, Pauses, Tests, Forks, Ends, in_branches as point_branches, in_row as point_row, points_of}
 use Rattle.node_sources.specs.declared.statements.StatementPlace.{StatementPlace}
 use Rattle.node_sources.specs.SclLaws.{NameStands, OpeningStands, PointStands, WordStands}
 use Rattle.node_sources.specs.SclOrigins.{branch_spots, in_branches, in_row, one_place, spots_in}

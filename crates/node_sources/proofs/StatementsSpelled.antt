@@ -13,12 +13,12 @@ use Rattle.sc_text.specs.Phrases.{Phrase}
 use Rattle.sc_text.specs.Expression.{expression, text_tokens}
 use Rattle.sc_text.specs.Reading.{place_of}
 use Rattle.sc_text.proofs.EachPart.{each_after, each_before}
-use Rattle.drafts.specs.Parts.{expressed, name_of}
-use Rattle.scl_drafts.specs.declared.statement.TextStatement.{TextStatement}
-use Rattle.scl_drafts.specs.Statements.{Statements, branch_of, goto_statement, named_statement, none_or_them, pause_statement}
-use Rattle.scl_drafts.specs.Program.{Grows, Inner, NoMore, Nested, Text, block, branch, choice, fork, forking, forks_within, goto}
-use Rattle.scl_drafts.specs.Program.{ifs_within, name, named, pause, program, scl, simple, statement, test, thread}
-use Rattle.chart_places.proofs.Words.{name_is}
+use Rattle.sc_text.specs.DraftParts.{expressed, name_of}
+use Rattle.scl_reader.specs.declared.text_drafts.statement.TextStatement.{TextStatement}
+use Rattle.scl_reader.specs.Statements.{Statements, branch_of, goto_statement, named_statement, none_or_them, pause_statement}
+use Rattle.scl_reader.specs.Program.{Grows, Inner, NoMore, Nested, Text, block, branch, choice, fork, forking, forks_within, goto}
+use Rattle.scl_reader.specs.Program.{ifs_within, name, named, pause, program, scl, simple, statement, test, thread}
+use Rattle.node_sources.proofs.Words.{name_is}
 use Rattle.node_sources.specs.SclLaws.{NameStands, OpensThread, OpeningStands, TokenStands, WordStands, opens_branch, opens_fork, opens_text}
 use Rattle.node_sources.proofs.StatementsPlaced.{IsBranchPut, IsPut, fork_put, goto_put, if_put, named_put, pause_put}
 

@@ -5,11 +5,11 @@ use Rattle.sc_graph.specs.declared.program.Node.{Node}
 use Rattle.sc_graph.specs.declared.program.Variable.{Variable}
 use Rattle.sc_graph.specs.Program.{Program}
 use Rattle.core_charts.specs.Chart.{Chart}
-use Rattle.chart_elements.specs.declared.element.Element.{Element}
-use Rattle.chart_elements.specs.declared.element.Element.TheVariants as element
-use Rattle.chart_places.specs.declared.places.Places.{Places}
-use Rattle.chart_places.specs.declared.states_around.StateAround.{StateAround}
-use Rattle.chart_places.specs.Places.{place_of, state_around}
+use Rattle.core_charts.specs.declared.elements.element.Element.{Element}
+use Rattle.core_charts.specs.declared.elements.element.Element.TheVariants as element
+use Rattle.node_sources.specs.declared.chart_places.places.Places.{Places}
+use Rattle.node_sources.specs.declared.chart_places.states_around.StateAround.{StateAround}
+use Rattle.node_sources.specs.Places.{place_of, state_around}
 use Rattle.node_elements.specs.Origins.{node_elements}
 use Rattle.node_sources.specs.declared.origin.Origin.{Origin}
 use Rattle.node_sources.specs.declared.origin.SourcePart.{SourcePart}

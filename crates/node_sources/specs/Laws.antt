@@ -4,10 +4,10 @@ use Rattle.std.specs.Prelude.{ℕ, ◌≡◌, Some, List, length, slice_get}
 use Rattle.sc_graph.specs.declared.program.Node.{Node}
 use Rattle.sc_graph.specs.Program.{Program}
 use Rattle.core_charts.specs.Chart.{Chart}
-use Rattle.chart_elements.specs.declared.element.Element.{Element}
-use Rattle.chart_elements.specs.declared.element.Element.TheVariants as element
-use Rattle.chart_elements.specs.Elements.{all_effects, contents}
-use Rattle.chart_places.specs.Laws.{EffectStands, NameStands, TransitionStands}
+use Rattle.core_charts.specs.declared.elements.element.Element.{Element}
+use Rattle.core_charts.specs.declared.elements.element.Element.TheVariants as element
+use Rattle.core_charts.specs.Elements.{all_effects, contents}
+use Rattle.node_sources.specs.ChartLaws.{EffectStands, NameStands, TransitionStands}
 use Rattle.node_elements.specs.Laws.{NodeFrom}
 use Rattle.node_sources.specs.declared.origin.Origin.{Origin}
 use Rattle.node_sources.specs.Sources.{ChartSources}

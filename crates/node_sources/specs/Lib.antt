@@ -7,3 +7,15 @@ pub mod Laws
 pub mod SclLaws
 pub mod Listing
 pub mod LinesColumns
+pub mod StatesAround
+pub mod Places
+pub mod Read
+pub mod ChartLaws
+pub mod Nodes
+pub mod ExtendedSources
+pub mod ExtendedLabels
+pub mod ExtendedLaws
+pub mod EffectRows
+pub mod Origins
+pub mod ExtendedRead
+pub mod Inside

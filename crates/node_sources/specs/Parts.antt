@@ -7,8 +7,8 @@ use Rattle.sc_values.specs.declared.operation.Operation.TheVariants as operation
 use Rattle.sc_graph.specs.declared.program.Variable.{Variable}
 use Rattle.sc_graph.specs.declared.program.Step.{Step}
 use Rattle.sc_graph.specs.declared.program.Step.TheVariants as step
-use Rattle.chart_elements.specs.declared.element.Element.{Element}
-use Rattle.chart_elements.specs.declared.element.Element.TheVariants as element
+use Rattle.core_charts.specs.declared.elements.element.Element.{Element}
+use Rattle.core_charts.specs.declared.elements.element.Element.TheVariants as element
 use Rattle.node_sources.specs.declared.origin.SourcePart.{SourcePart}
 use Rattle.node_sources.specs.declared.origin.SourcePart.TheVariants as part
 

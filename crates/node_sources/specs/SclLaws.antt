@@ -10,13 +10,13 @@ use Rattle.sc_text.specs.declared.token.TokenKind.TheVariants as token
 use Rattle.sc_text.specs.declared.word.Word.{Word}
 use Rattle.sc_text.specs.declared.word.Word.TheVariants as word
 use Rattle.sc_text.specs.Tokens.{AreTokens}
-use Rattle.drafts.specs.Resolved.{number_of}
+use Rattle.sc_text.specs.Resolved.{number_of}
 use Rattle.scl.specs.declared.program.Scl.{Scl}
-use Rattle.graph_origins.specs.declared.origin.NodeOrigin.{NodeOrigin}
-use Rattle.graph_origins.specs.declared.origin.NodeOrigin.TheVariants as node
-use Rattle.graph_origins.specs.Laws.{IsDone}
-use Rattle.graph_origins.specs.Origins.{node_origins}
-use Rattle.graph_origins.specs.Points.{Point, Assigns, Marks, Jumps, Pauses, Tests, Forks, Ends, text_points}
+use Rattle.node_elements.specs.declared.graph.origin.NodeOrigin.{NodeOrigin}
+use Rattle.node_elements.specs.declared.graph.origin.NodeOrigin.TheVariants as node
+use Rattle.node_elements.specs.GraphLaws.{IsDone}
+use Rattle.node_elements.specs.GraphOrigins.{node_origins}
+use Rattle.node_elements.specs.Points.{Point, Assigns, Marks, Jumps, Pauses, Tests, Forks, Ends, text_points}
 use Rattle.node_sources.specs.declared.origin.Origin.{Origin}
 use Rattle.node_sources.specs.Sources.{SclSources}
 

@@ -4,13 +4,13 @@ use Rattle.std.specs.Prelude.{ℕ, Option, Some, None, List, [], ◌∷◌, ◌+
 use Rattle.sc_text.specs.Reading.{place_of}
 use Rattle.sc_text.specs.declared.token.Token.{Token}
 use Rattle.scl.specs.declared.statement.Statement.{Statement}
-use Rattle.scl_drafts.specs.declared.statement.TextStatement.{TextStatement}
-use Rattle.scl_drafts.specs.declared.statement.TextStatement.TheOpen.{TextStatement-F}
-use Rattle.scl_drafts.specs.declared.statement.TextStatement.TheOpen as text
-use Rattle.scl_drafts.specs.declared.statement.TextStatement.TheFolds.{fold-TextStatement}
-use Rattle.graph_origins.specs.declared.origin.NodeOrigin.{NodeOrigin}
-use Rattle.graph_origins.specs.declared.origin.NodeOrigin.TheVariants as node
-use Rattle.graph_origins.specs.Origins.{node_origins}
+use Rattle.scl_reader.specs.declared.text_drafts.statement.TextStatement.{TextStatement}
+use Rattle.scl_reader.specs.declared.text_drafts.statement.TextStatement.TheOpen.{TextStatement-F}
+use Rattle.scl_reader.specs.declared.text_drafts.statement.TextStatement.TheOpen as text
+use Rattle.scl_reader.specs.declared.text_drafts.statement.TextStatement.TheFolds.{fold-TextStatement}
+use Rattle.node_elements.specs.declared.graph.origin.NodeOrigin.{NodeOrigin}
+use Rattle.node_elements.specs.declared.graph.origin.NodeOrigin.TheVariants as node
+use Rattle.node_elements.specs.GraphOrigins.{node_origins}
 use Rattle.node_sources.specs.declared.origin.Origin.{Origin}
 use Rattle.node_sources.specs.declared.origin.SourcePart.TheVariants as part
 use Rattle.node_sources.specs.declared.statements.StatementPlace.{StatementPlace}

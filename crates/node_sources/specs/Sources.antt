@@ -7,13 +7,13 @@ use Rattle.sc_text.specs.declared.token.Token.{Token}
 use Rattle.sc_text.specs.FirstToken.{IsIn}
 use Rattle.sc_text.specs.Tokens.{AreTokens}
 use Rattle.scl.specs.declared.program.Scl.{Scl}
-use Rattle.scl_drafts.specs.declared.draft.Draft.{Draft}
-use Rattle.scl_drafts.specs.Checked as programs
+use Rattle.scl_reader.specs.declared.text_drafts.draft.Draft.{Draft}
+use Rattle.scl_reader.specs.Checked as programs
 use Rattle.scl_reader.specs.Resolved.{IsProgramOf}
 use Rattle.scl_graph.specs.Answers.{IsGraph}
 use Rattle.core_charts.specs.Chart.{Chart}
-use Rattle.chart_places.specs.declared.places.Places.{Places}
-use Rattle.chart_places.specs.Read.{IsPlaced}
+use Rattle.node_sources.specs.declared.chart_places.places.Places.{Places}
+use Rattle.node_sources.specs.Read.{IsPlaced}
 use Rattle.compiler.specs.Charts.{IsSclOf}
 use Rattle.node_sources.specs.declared.origin.Origin.{Origin}
 use Rattle.node_sources.specs.ChartOrigins.{chart_origins}

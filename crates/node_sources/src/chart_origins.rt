@@ -1,13 +1,13 @@
 //! The origins of the nodes of a chart's program.
 
 ghost use Rattle.std.specs.Prelude.{◌≡◌, ℕ, IfOk, IsSome, Option, Some, map, slice_get};
-ghost use Rattle.chart_elements.specs.declared.element.Element.{Element};
+ghost use Rattle.core_charts.specs.declared.elements.element.Element.{Element};
 ghost use Rattle.node_sources.specs.ChartOrigins.{element_origin, in_state_around, node_origin, origins_from, standing};
 
+use crate::chart_places::{Places, StateAround};
 use crate::origin::{Origin, SourcePart};
 use crate::parts::part_of;
-use chart_elements::Element;
-use chart_places::{Places, StateAround};
+use core_charts::Element;
 use sc_graph::Program;
 use sqlite_items::{Items, at};
 use std::alloc::{AllocError, Global};

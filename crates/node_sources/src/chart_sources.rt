@@ -2,23 +2,22 @@
 
 ghost use Rattle.std.specs.Prelude.{◌≡◌, IfOk, Some, map};
 ghost use Rattle.abort_expansion.specs.Expansion.{expanded};
-ghost use Rattle.chart_places.specs.Read.{IsPlaced};
+ghost use Rattle.node_sources.specs.Read.{IsPlaced};
 ghost use Rattle.compiler.specs.Charts.{IsSclOf};
 ghost use Rattle.node_elements.specs.Origins.{node_elements};
 ghost use Rattle.scl_graph.specs.Answers.{IsGraph};
 ghost use Rattle.node_sources.specs.ChartOrigins.{chart_origins};
 ghost use Rattle.node_sources.specs.Sources.{ChartSources};
-ghost use Rattle.source_programs.specs.Kept.{KeepsChart};
+ghost use Rattle.compiler.specs.Kept.{KeepsChart};
 
 use crate::chart_origins::origins_of;
+use crate::chart_places::{Places, places_of, places_tell_texts};
 use crate::origin::Origin;
-use chart_elements::Element;
-use chart_places::{Places, places_of, places_tell_texts};
-use core_charts::{Chart, CoreChart};
+use compiler::ReadChart;
+use core_charts::{Chart, CoreChart, Element};
 use node_elements::elements_tell_nodes;
 use sc_graph::Program;
 use scl::Scl;
-use source_programs::ReadChart;
 use sqlite_items::Items;
 use std::alloc::{AllocError, Global};
 

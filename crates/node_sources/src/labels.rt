@@ -1,22 +1,22 @@
 //! Where a label of a program stands in its source text.
 
 ghost use Rattle.std.specs.Prelude.{◌≡◌, ◌++◌, ◌↔◌, IfOk, IfSome, IsTrue, Some, map, slice_get};
-ghost use Rattle.graph_origins.specs.Points.{in_row, points_of, text_points};
+ghost use Rattle.node_elements.specs.Points.{in_row, points_of, text_points};
 ghost use Rattle.node_sources.specs.Labels.{ChartLabel, IsLabel, IsLabelOrigin, SclLabel};
 ghost use Rattle.node_sources.specs.Labels.{label_at, label_origin, label_part};
-ghost use Rattle.source_programs.specs.Kept.{KeepsChart, KeepsDraft};
+ghost use Rattle.compiler.specs.Kept.{KeepsChart, KeepsDraft};
 
 use crate::chart_origins::element_origin;
+use crate::chart_places::{Places, places_of};
 use crate::origin::{Origin, SourcePart};
 use crate::scl_sources::{first_origin, tokens_of};
 use crate::statements::spots_of;
-use chart_elements::Element;
-use chart_places::{Places, places_of};
+use compiler::{ReadChart, ReadSource, ReadText};
+use core_charts::Element;
 use node_elements::point_elements;
 use sc_values::Name;
 use scl::{Scl, Statement};
-use scl_drafts::Draft;
-use source_programs::{ReadChart, ReadSource, ReadText};
+use scl_reader::Draft;
 use sqlite_items::{Items, at};
 use std::alloc::{AllocError, Global};
 

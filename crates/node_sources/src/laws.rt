@@ -3,9 +3,8 @@
 ghost use Rattle.node_sources.specs.Laws.{SourcesTellCharts};
 ghost use Rattle.node_sources.specs.SclLaws.{SourcesTellScl};
 
-use chart_places::places_tell_texts;
-use graph_origins::origins_tell_nodes;
-use node_elements::elements_tell_nodes;
+use crate::chart_places::places_tell_texts;
+use node_elements::{elements_tell_nodes, origins_tell_nodes};
 
 /// Of the program of a chart there are as many origins as nodes. Each node comes from an element of the chart, an
 /// assignment of the text from the effect that makes it, and at the place of its origin stands the token that begins

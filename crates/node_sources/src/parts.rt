@@ -5,7 +5,7 @@ ghost use Rattle.node_sources.specs.Parts.{added_for, concerned, concerned_for, 
 ghost use Rattle.node_sources.specs.Parts.{of_state, of_transition, part_of};
 
 use crate::origin::SourcePart;
-use chart_elements::Element;
+use core_charts::Element;
 use sc_graph::{Step, Variable, VariableId};
 use sc_values::Operation;
 use sqlite_items::at;

@@ -1,23 +1,23 @@
 //! The origins of the nodes of the program of an SCL text.
 
 ghost use Rattle.std.specs.Prelude.{◌≡◌, ℕ, IfOk, IsSome, Some, map, slice_get};
-ghost use Rattle.graph_origins.specs.declared.origin.NodeOrigin.{NodeOrigin};
+ghost use Rattle.node_elements.specs.declared.graph.origin.NodeOrigin.{NodeOrigin};
 ghost use Rattle.sc_text.specs.Tokens.{AreTokens};
 ghost use Rattle.sc_text.specs.declared.language.Language.TheVariants as language;
-ghost use Rattle.scl_drafts.specs.Checked.{IsFlawless};
+ghost use Rattle.scl_reader.specs.Checked.{IsFlawless};
 ghost use Rattle.scl_reader.specs.Resolved.{IsProgramOf};
 ghost use Rattle.node_sources.specs.SclOrigins.{at_first, point_origin, scl_origins};
 ghost use Rattle.node_sources.specs.Sources.{SclSources};
 ghost use Rattle.sc_graph.specs.Program.{Program};
 ghost use Rattle.scl_graph.specs.Answers.{IsGraph};
-ghost use Rattle.source_programs.specs.Kept.{KeepsDraft};
+ghost use Rattle.compiler.specs.Kept.{KeepsDraft};
 
 use crate::origin::Origin;
 use crate::statements::{StatementPlace, spots_of};
-use graph_origins::{NodeOrigin, node_origins, origins_tell_nodes};
+use node_elements::{NodeOrigin, node_origins, origins_tell_nodes};
 use sc_text::{Language, ReadFault, Token, tokens};
 use scl::Scl;
-use scl_drafts::Draft;
+use scl_reader::Draft;
 use sqlite_items::{Items, at};
 use std::alloc::{AllocError, Global};
 

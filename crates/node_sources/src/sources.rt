@@ -3,13 +3,13 @@
 ghost use Rattle.std.specs.Prelude.{◌≡◌, IfOk, MatchOption};
 ghost use Rattle.node_sources.specs.Sources.{AreSources};
 ghost use Rattle.scl_graph.specs.Answers.{IsGraph};
-ghost use Rattle.source_programs.specs.Graphs.{MakesNone, SpellsGraphless};
+ghost use Rattle.compiler.specs.Graphs.{MakesNone, SpellsGraphless};
 
 use crate::chart_sources::origins_of_chart;
 use crate::origin::Origin;
 use crate::scl_sources::origins_of_scl;
+use compiler::{ReadSource, ReadText, graph_of_source, read_source};
 use sc_graph::Program;
-use source_programs::{ReadSource, ReadText, graph_of_source, read_source};
 use sqlite_items::Items;
 use std::alloc::{AllocError, Global};
 
@@ -57,7 +57,7 @@ pub fn sources_in(alloc: Global, source: &ReadSource<'_>) -> Result<Option<Sourc
 }
 
 /// The program of a text with the origins of its nodes. None: the text makes no program. Err: memory was refused.
-#[tactic(auto, using(crate::proofs::LanguagesTold::sources_told, source_programs::proofs::Making::spells_none))]
+#[tactic(auto, using(crate::proofs::LanguagesTold::sources_told, compiler::proofs::Making::spells_none))]
 pub fn sources_of(alloc: Global, text: &str) -> Result<Option<Sources>, AllocError>
     ensures { IfOk result (λ found. MatchOption found (MakesNone text.now)
         (λ s. AreSources text.now s.program s.origins)) }

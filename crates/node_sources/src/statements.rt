@@ -5,7 +5,7 @@ ghost use Rattle.node_sources.specs.SclOrigins.{in_row, one_place, opening, spot
 
 use sc_text::Token;
 use sc_text::ahead::place;
-use scl_drafts::TextStatement;
+use scl_reader::TextStatement;
 use sqlite_items::Items;
 use std::alloc::{AllocError, Global};
 

@@ -25,7 +25,7 @@ use Rattle.abort_expansion_laws.proofs.InitialPairs.{Initials, initials, held_th
 use Rattle.abort_expansion_laws.proofs.JustEntered.{EntryRows}
 use Rattle.abort_expansion_laws.proofs.RowsOfCharts as whole
 use Rattle.abort_expansion_laws.proofs.StartingRegions.{Once}
-use Rattle.reaction_laws.proofs.EnclosedStill.{Firsts}
+use Rattle.preemption_laws.proofs.EnclosedStill.{Firsts}
 
 module _ (c : Chart) (rules : IsChart features.Extended c) (core_rules : IsChart features.Core (expanded c)) where
   abbrev k : Table

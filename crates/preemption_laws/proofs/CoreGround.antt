@@ -26,10 +26,10 @@ use Rattle.abort_expansion_laws.proofs.RowsOfCharts as whole
 use Rattle.abort_expansion_laws.proofs.StartingRegions.{Once}
 use Rattle.abort_expansion_laws.proofs.TopRegions.{tops, top_there}
 use Rattle.abort_expansion_laws.proofs.WalkedWhole.{entered}
-use Rattle.reaction_laws.proofs.EnclosedStill.{Firsts}
-use Rattle.reaction_laws.proofs.MovesInside.{LeadIn}
-use Rattle.reaction_laws.proofs.NoMoves.{no_moves}
-use Rattle.reaction_laws.proofs.SitsAtStart.{Tops}
+use Rattle.preemption_laws.proofs.EnclosedStill.{Firsts}
+use Rattle.preemption_laws.proofs.MovesInside.{LeadIn}
+use Rattle.preemption_laws.proofs.NoMoves.{no_moves}
+use Rattle.preemption_laws.proofs.SitsAtStart.{Tops}
 use Rattle.preemption_laws.proofs.CoreForks.{child_of, super_there, fork_of, firsts_of, once_among}
 use Rattle.preemption_laws.proofs.Ground.{Ground}
 

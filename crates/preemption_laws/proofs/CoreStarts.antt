@@ -16,7 +16,7 @@ use Rattle.abort_expansion_laws.specs.CoreRows.{own, IsState}
 use Rattle.abort_expansion_laws.proofs.FreshInside.{nobody_there}
 use Rattle.abort_expansion_laws.proofs.Leaving.{at_number}
 use Rattle.abort_expansion_laws.proofs.WokenConfigurations.{woken_at}
-use Rattle.reaction_laws.proofs.SitsAtStart.{Tops, sits_initially, sits_at_start, all_out}
+use Rattle.preemption_laws.proofs.SitsAtStart.{Tops, sits_initially, sits_at_start, all_out}
 use Rattle.preemption_laws.specs.Looks.{Looks}
 use Rattle.preemption_laws.proofs.FitsThere.{each_entered_fits, entered_fits, all_moved_fit}
 use Rattle.preemption_laws.proofs.Forms.{InForm, own_in_form, closing_in_form, at_once_in_form, first_closing_in_form, at_once_last}

@@ -32,7 +32,7 @@ use Rattle.abort_expansion_laws.proofs.KnownVariables.{Stepped, stepped}
 use Rattle.abort_expansion_laws.proofs.MoreValues.{Got, got}
 use Rattle.abort_expansion_laws.proofs.Leaving.{at_number, set_here, set_other, moved_append}
 use Rattle.abort_expansion_laws.proofs.WokenConfigurations.{woken_at}
-use Rattle.reaction_laws.proofs.SitsAtStart.{Tops, all_out}
+use Rattle.preemption_laws.proofs.SitsAtStart.{Tops, all_out}
 use Rattle.preemption_laws.specs.Looks.{look, Looks}
 use Rattle.preemption_laws.proofs.FitsThere.{entered_fits, each_entered_fits, all_dropped, all_moved_fit}
 use Rattle.preemption_laws.proofs.MappedOnes.{mapped_one, got_in}

@@ -19,7 +19,7 @@ use Rattle.chart_machine_laws.proofs.LyingIn.{head_in, tail_in}
 use Rattle.tick_laws.proofs.Lists.{map_some}
 use Rattle.abort_expansion_laws.proofs.Leaving.{at_number}
 use Rattle.abort_expansion_laws.proofs.KnownVariables.{Stepped, stepped}
-use Rattle.reaction_laws.proofs.WritesSwap.{changes}
+use Rattle.preemption_laws.proofs.WritesSwap.{changes}
 use Rattle.preemption_laws.specs.Looks.{look, Looks}
 use Rattle.preemption_laws.specs.Waiting.{is_waiting, waiting_at, still, sees, gone, wait_step}
 use Rattle.preemption_laws.proofs.ChangesMade.{what_is_made}

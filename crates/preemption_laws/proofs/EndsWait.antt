@@ -15,7 +15,7 @@ use Rattle.chart_machine.specs.declared.table.Table.{Table}
 use Rattle.chart_machine.specs.Machine.{machine}
 use Rattle.chart_machine.specs.Turns.{standing_of, is_enabled, ForkedApart}
 use Rattle.chart_machine_laws.specs.Tree.{around}
-use Rattle.reaction_laws.proofs.ByRank.{Begins, begins}
+use Rattle.preemption_laws.proofs.ByRank.{Begins, begins}
 use Rattle.preemption_laws.specs.Looks.{Looks}
 use Rattle.preemption_laws.specs.Waiting.{holds, is_waiting, waiting_at, still, sees, may_step, waiting_machine}
 use Rattle.preemption_laws.proofs.Erased.{Erased, erased}

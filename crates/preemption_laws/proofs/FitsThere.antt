@@ -20,7 +20,7 @@ use Rattle.abort_expansion_laws.proofs.FreshInside.{all_entered}
 use Rattle.abort_expansion_laws.proofs.Leaving.{at_number, set_here, set_other}
 use Rattle.abort_expansion_laws.proofs.StateEntry.{Entry, entry_ends, entry_tries, entry_guards, entry_opens}
 use Rattle.abort_expansion_laws.proofs.NumberedRegions.{past_number}
-use Rattle.reaction_laws.proofs.EnclosedStill.{Firsts}
+use Rattle.preemption_laws.proofs.EnclosedStill.{Firsts}
 use Rattle.preemption_laws.proofs.Ground.{Ground}
 
 module _ (k : Table) (g : Ground k) (no_strong : (s : ℕ) → strong_aborts (own k s) ≡ []) (Fits : ℕ → Standing → Type 0)

@@ -29,7 +29,7 @@ use Rattle.preemption_laws.proofs.Ground.{Ground, enclosed_on}
 use Rattle.preemption_laws.proofs.MappedOnes.{mapped_one, got_in}
 use Rattle.preemption_laws.proofs.OneWrite.{MakesEffect, Wrote, one_write}
 use Rattle.preemption_laws.proofs.StaysThere.{Sound, IsGoing, is_within, within_around, stepping_there, none_inside}
-use Rattle.reaction_laws.proofs.ApartTogether.{present_apart}
+use Rattle.preemption_laws.proofs.ApartTogether.{present_apart}
 
 -- ---- of a flag
 

@@ -21,7 +21,7 @@ use Rattle.abort_expansion.specs.Transitions.{put, is_raised}
 use Rattle.abort_expansion_laws.proofs.FlagAccess.{raised_access}
 use Rattle.abort_expansion_laws.proofs.KnownVariables.{Stepped, stepped, trigger_known}
 use Rattle.abort_expansion_laws.proofs.MoreValues.{number_value, up_verdict}
-use Rattle.reaction_laws.proofs.ApartTogether.{IsOpen, open_guarding, open_within}
+use Rattle.preemption_laws.proofs.ApartTogether.{IsOpen, open_guarding, open_within}
 use Rattle.preemption_laws.specs.Looks.{look, Looks}
 use Rattle.preemption_laws.specs.Waiting.{holds}
 use Rattle.preemption_laws.proofs.ChangesMade.{Writes, writes_nothing, writes_effect, what_is_made}

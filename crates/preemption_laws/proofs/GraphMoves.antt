@@ -27,9 +27,9 @@ use Rattle.scl_graph.specs.Graph.{program_of}
 use Rattle.chart_lowering_laws.specs.Laws.{IsLowering}
 use Rattle.chart_lowering_laws.specs.Stands.{Lowered}
 use Rattle.compiled_charts_laws.proofs.Stands.{stand_alike}
-use Rattle.reaction_laws.specs.StepNodes.{AtTheirNodes, Alike}
-use Rattle.reaction_laws.proofs.CaughtThreads.{WaitsAtJoins}
-use Rattle.reaction_laws.proofs.GraphRuns.{GoesToNodes, goes_to_nodes, comes_own}
+use Rattle.preemption_laws.specs.StepNodes.{AtTheirNodes, Alike}
+use Rattle.preemption_laws.proofs.CaughtThreads.{WaitsAtJoins}
+use Rattle.preemption_laws.proofs.GraphRuns.{GoesToNodes, goes_to_nodes, comes_own}
 
 module _ (e : Chart) (p : Scl) (q : Tables) (low : IsLowering e p) (valid : IsValid (program_of (numbered p)) q) where
   abbrev K : Table

@@ -11,11 +11,11 @@ use Rattle.abort_expansion_laws.specs.CoreRows.{own, IsState}
 use Rattle.abort_expansion_laws.proofs.Leaving.{at_number}
 use Rattle.abort_expansion_laws.proofs.StartingRegions.{Once}
 use Rattle.abort_expansion_laws.proofs.StateEntry.{Entry}
-use Rattle.reaction_laws.specs.OneEnd.{KeepsApart}
-use Rattle.reaction_laws.proofs.ApartTogether.{Enclosed}
-use Rattle.reaction_laws.proofs.EnclosedStill.{Firsts}
-use Rattle.reaction_laws.proofs.MovesInside.{LeadIn, MayStand}
-use Rattle.reaction_laws.proofs.SitsStill.{Sits, sits_apart, sits_still, sits_enclosed}
+use Rattle.preemption_laws.specs.OneEnd.{KeepsApart}
+use Rattle.preemption_laws.proofs.ApartTogether.{Enclosed}
+use Rattle.preemption_laws.proofs.EnclosedStill.{Firsts}
+use Rattle.preemption_laws.proofs.MovesInside.{LeadIn, MayStand}
+use Rattle.preemption_laws.proofs.SitsStill.{Sits, sits_apart, sits_still, sits_enclosed}
 
 pub record Ground (k : Table) : Type 0 where
   pub tree : IsTree k

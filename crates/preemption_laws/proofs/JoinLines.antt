@@ -17,8 +17,8 @@ use Rattle.tick_laws.proofs.Lists.{and_then_some, same_or_not, contains_none, co
 use Rattle.tick_laws.proofs.RunsOn.{SteppedBy, stepped_by}
 use Rattle.tick_laws.proofs.Views.{enabled_from, enabled_from_effect}
 use Rattle.tick_laws.proofs.WithinTick.{laws_within_tick}
-use Rattle.reaction_laws.proofs.LinesAhead.{LowAhead, LowOnceStepped, enabled_ahead}
-use Rattle.reaction_laws.proofs.StillAtJoins.{still_waits}
+use Rattle.preemption_laws.proofs.LinesAhead.{LowAhead, LowOnceStepped, enabled_ahead}
+use Rattle.preemption_laws.proofs.StillAtJoins.{still_waits}
 
 -- the first step of a thread in a run
 record FirstStep (p : Program) (a : ℕ) (run : List ℕ) (m n : Control) : Type 0 where

@@ -18,7 +18,7 @@ use Rattle.abort_expansion.specs.Transitions.{is_raised}
 use Rattle.abort_expansion_laws.proofs.InsideAround.{inside_around}
 use Rattle.abort_expansion_laws.proofs.Leaving.{leaves}
 use Rattle.abort_expansion_laws.proofs.MoreValues.{up_verdict}
-use Rattle.reaction_laws.proofs.ApartTogether.{Through, through}
+use Rattle.preemption_laws.proofs.ApartTogether.{Through, through}
 use Rattle.preemption_laws.specs.Looks.{look, Looks}
 use Rattle.preemption_laws.specs.Waiting.{holds, is_waiting, sees, gone}
 use Rattle.preemption_laws.proofs.NormalForms.{IsNormal, all_looks}

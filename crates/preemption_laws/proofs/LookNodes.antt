@@ -48,8 +48,8 @@ use Rattle.compiled_charts_laws.proofs.Mirrored.{owned, stepped}
 use Rattle.compiled_charts_laws.proofs.TestNodes as nodes
 use Rattle.compiled_charts_laws.proofs.Stands.{heads}
 use Rattle.compiled_charts_laws.proofs.StepsFollowed.{standing_in}
-use Rattle.reaction_laws.specs.StepNodes.{AtOwnNode, AtTheirNodes, Alike}
-use Rattle.reaction_laws.proofs.ChecksBeside.{reads_flag}
+use Rattle.preemption_laws.specs.StepNodes.{AtOwnNode, AtTheirNodes, Alike}
+use Rattle.preemption_laws.proofs.ChecksBeside.{reads_flag}
 use Rattle.preemption_laws.specs.Looks.{look}
 
 -- a node of this thread that looks at a flag, and is not below this one

@@ -21,7 +21,7 @@ use Rattle.chart_machine_laws.specs.Tree.{around, holder}
 use Rattle.chart_machine_laws.proofs.LyingIn.{head_in, tail_in}
 use Rattle.abort_expansion_laws.proofs.KnownVariables.{Stepped, stepped}
 use Rattle.abort_expansion_laws.proofs.Leaving.{at_number, set_here}
-use Rattle.reaction_laws.proofs.RunsComplete.{has_step}
+use Rattle.preemption_laws.proofs.RunsComplete.{has_step}
 use Rattle.preemption_laws.specs.Looks.{look, Looks}
 use Rattle.preemption_laws.specs.Waiting.{holds, gone}
 use Rattle.preemption_laws.proofs.CoreTries.{held}

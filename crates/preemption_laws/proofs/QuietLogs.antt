@@ -10,7 +10,7 @@ use Rattle.chart_machine.specs.declared.table.Table.{Table}
 use Rattle.chart_machine.specs.Turns.{standing_of, ForkedApart}
 use Rattle.chart_machine.specs.Steps.{step, access_of}
 use Rattle.chart_machine.specs.Machine.{machine}
-use Rattle.reaction_laws.proofs.CappedRanks.{idle_first}
+use Rattle.preemption_laws.proofs.CappedRanks.{idle_first}
 use Rattle.preemption_laws.specs.Waiting.{is_waiting, wait_access}
 use Rattle.preemption_laws.proofs.QuietSteps.{quiet_machine}
 use Rattle.abort_expansion_laws.proofs.Commuting.{plain_second}

@@ -39,7 +39,7 @@ use Rattle.abort_expansion_laws.proofs.TicksFinish.{ticks_finish}
 use Rattle.abort_expansion_laws.proofs.ToldSteps.{told_silent, ToldHere}
 use Rattle.preemption_laws.proofs.QuietParts.{Part, part_on, quieted, like_spared}
 use Rattle.preemption_laws.proofs.QuietSteps.{quiet_machine, looks, IsWeakFlag, KnowsLooks, usual_are, early_are}
-use Rattle.reaction_laws.proofs.ByRank.{holds_along}
+use Rattle.preemption_laws.proofs.ByRank.{holds_along}
 
 module _ (c : Chart) (rules : IsChart features.Extended c) (core_rules : IsChart features.Core (expanded c)) (Sound : Configuration → Type 0)
     (knows : KnowsLooks c rules core_rules Sound) where

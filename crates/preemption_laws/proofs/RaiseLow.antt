@@ -32,9 +32,9 @@ use Rattle.abort_expansion.specs.Transitions.{put, is_raised}
 use Rattle.abort_expansion_laws.proofs.FlagAccess.{put_access}
 use Rattle.abort_expansion_laws.proofs.Supplying.{sets}
 use Rattle.chart_lowering_laws.specs.Laws.{IsLowering}
-use Rattle.reaction_laws.specs.StepNodes.{AtOwnNode}
-use Rattle.reaction_laws.proofs.LinesAhead.{LowAhead}
-use Rattle.reaction_laws.proofs.ApartTogether.{present_apart}
+use Rattle.preemption_laws.specs.StepNodes.{AtOwnNode}
+use Rattle.preemption_laws.proofs.LinesAhead.{LowAhead}
+use Rattle.preemption_laws.proofs.ApartTogether.{present_apart}
 use Rattle.preemption_laws.specs.Looks.{look, Looks}
 use Rattle.preemption_laws.specs.Waiting.{holds}
 use Rattle.preemption_laws.proofs.CoreTries.{held, writes}

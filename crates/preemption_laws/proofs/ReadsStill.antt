@@ -26,7 +26,7 @@ use Rattle.abort_expansion_laws.proofs.ChartSteps.{waits_on, acts_on, StepMade, 
 use Rattle.abort_expansion_laws.proofs.FreshInside.{nobody_there}
 use Rattle.abort_expansion_laws.proofs.Leaving.{at_number}
 use Rattle.abort_expansion_laws.proofs.WokenConfigurations.{woken_at}
-use Rattle.reaction_laws.proofs.SitsAtStart.{Tops, all_out}
+use Rattle.preemption_laws.proofs.SitsAtStart.{Tops, all_out}
 use Rattle.preemption_laws.specs.Looks.{look, Looks}
 use Rattle.preemption_laws.specs.Waiting.{is_waiting}
 use Rattle.preemption_laws.proofs.FitsThere.{entered_fits, each_entered_fits, all_dropped, all_moved_fit}

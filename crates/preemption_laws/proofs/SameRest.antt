@@ -14,7 +14,7 @@ use Rattle.chart_machine.specs.Turns.{standing_of, guards, is_guarded, is_enable
 use Rattle.chart_machine_laws.specs.Tree.{around, holder}
 use Rattle.preemption_laws.specs.Waiting.{waiting_at, still}
 use Rattle.preemption_laws.proofs.StillConfigurations.{stands_still}
-use Rattle.reaction_laws.proofs.StepsSwap.{all_same}
+use Rattle.preemption_laws.proofs.StepsSwap.{all_same}
 
 abbrev is_trying : Standing → Bool
 is_trying (at.Trying s tests) = true

@@ -9,7 +9,7 @@ use Rattle.chart_machine.specs.Steps.{step}
 use Rattle.chart_machine.specs.Turns.{standing_of, guards, is_guarded, is_enabled}
 use Rattle.chart_machine_laws.specs.Tree.{IsThere, holder}
 use Rattle.abort_expansion_laws.proofs.ChartSteps.{StepMade, step_made}
-use Rattle.reaction_laws.proofs.ApartTogether.{turn, present}
+use Rattle.preemption_laws.proofs.ApartTogether.{turn, present}
 use Rattle.preemption_laws.specs.Looks.{Looks}
 use Rattle.preemption_laws.specs.Waiting.{is_waiting}
 use Rattle.preemption_laws.proofs.Forms.{InForm, forms_still}

@@ -19,8 +19,8 @@ use Rattle.abort_expansion_laws.proofs.ChartSteps.{StepMade, step_made}
 use Rattle.abort_expansion_laws.proofs.KnownVariables.{Stepped, stepped}
 use Rattle.abort_expansion_laws.proofs.Leaving.{at_number}
 use Rattle.abort_expansion_laws.proofs.SettledInOrder.{ended_back}
-use Rattle.reaction_laws.proofs.ApartTogether.{IsOpen, open_guarding, open_within, Through, through}
-use Rattle.reaction_laws.proofs.MovesInside.{moves_inside}
+use Rattle.preemption_laws.proofs.ApartTogether.{IsOpen, open_guarding, open_within, Through, through}
+use Rattle.preemption_laws.proofs.MovesInside.{moves_inside}
 use Rattle.preemption_laws.specs.Looks.{Looks}
 use Rattle.preemption_laws.proofs.Forms.{InForm}
 use Rattle.preemption_laws.proofs.Ground.{Ground, enclosed_on}

@@ -22,9 +22,9 @@ use Rattle.abort_expansion_laws.proofs.ChartSteps.{StepMade, step_made}
 use Rattle.abort_expansion_laws.proofs.FreshInside.{moved_alike}
 use Rattle.abort_expansion_laws.proofs.Leaving.{at_number, set_here, set_other}
 use Rattle.abort_expansion_laws.proofs.NumberedRegions.{past_number}
-use Rattle.reaction_laws.proofs.ApartTogether.{not_in}
-use Rattle.reaction_laws.proofs.MovesInside.{moves_inside}
-use Rattle.reaction_laws.proofs.StepsSwap.{all_same}
+use Rattle.preemption_laws.proofs.ApartTogether.{not_in}
+use Rattle.preemption_laws.proofs.MovesInside.{moves_inside}
+use Rattle.preemption_laws.proofs.StepsSwap.{all_same}
 use Rattle.preemption_laws.specs.Looks.{Looks}
 use Rattle.preemption_laws.specs.Waiting.{is_waiting, sees, gone, may_step, wait_step}
 use Rattle.preemption_laws.proofs.FitsThere.{all_moved_fit}

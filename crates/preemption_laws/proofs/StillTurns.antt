@@ -17,8 +17,8 @@ use Rattle.tick_laws.proofs.Lists.{list_all_at}
 use Rattle.chart_lowering_laws.proofs.Finished.{each_all}
 use Rattle.abort_expansion_laws.specs.CoreRows.{own}
 use Rattle.abort_expansion_laws.proofs.InsideAround.{inside_around}
-use Rattle.reaction_laws.proofs.ApartTogether.{Through, through, IsOpen, open_guarding, open_within}
-use Rattle.reaction_laws.proofs.MovesInside.{LeadIn}
+use Rattle.preemption_laws.proofs.ApartTogether.{Through, through, IsOpen, open_guarding, open_within}
+use Rattle.preemption_laws.proofs.MovesInside.{LeadIn}
 use Rattle.preemption_laws.specs.Looks.{Looks}
 use Rattle.preemption_laws.specs.Waiting.{is_waiting, waiting_at, still}
 use Rattle.preemption_laws.proofs.Forms.{InForm, TestsWell, looks_behind, own_well}

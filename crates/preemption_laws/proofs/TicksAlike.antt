@@ -28,13 +28,13 @@ use Rattle.abort_expansion_laws.proofs.RestedCharts.{rested_over}
 use Rattle.abort_expansion_laws.proofs.TicksOfCharts as ticks
 use Rattle.abort_expansion_laws.proofs.ToldSteps.{ToldHere}
 use Rattle.abort_expansion_laws.proofs.TestsSpared.{takes}
-use Rattle.reaction_laws.specs.Reacts.{ReactsInOneWay}
-use Rattle.reaction_laws.specs.StepNodes.{Alike}
-use Rattle.reaction_laws.proofs.ByRank.{begins, holds_along}
-use Rattle.reaction_laws.proofs.OneEnd.{one_end}
-use Rattle.reaction_laws.proofs.RanksOfCharts.{charts_react}
-use Rattle.reaction_laws.proofs.RunsComplete.{start_value, kind_at, reached_on}
-use Rattle.reaction_laws.proofs.SitsAtStart.{Tops}
+use Rattle.preemption_laws.specs.Reacts.{ReactsInOneWay}
+use Rattle.preemption_laws.specs.StepNodes.{Alike}
+use Rattle.preemption_laws.proofs.ByRank.{begins, holds_along}
+use Rattle.preemption_laws.proofs.OneEnd.{one_end}
+use Rattle.preemption_laws.proofs.RanksOfCharts.{charts_react}
+use Rattle.preemption_laws.proofs.RunsComplete.{start_value, kind_at, reached_on}
+use Rattle.preemption_laws.proofs.SitsAtStart.{Tops}
 use Rattle.preemption_laws.proofs.ChartWaits.{follows}
 use Rattle.preemption_laws.proofs.CoreEnds.{core_has_end}
 use Rattle.preemption_laws.proofs.CoreGround.{core_ground, core_tops}

@@ -28,10 +28,10 @@ use Rattle.scl_graph.specs.Graph.{program_of}
 use Rattle.abort_expansion_laws.proofs.Leaving.{set_here, set_other}
 use Rattle.chart_lowering_laws.specs.Laws.{IsLowering}
 use Rattle.chart_lowering_laws.proofs.Finished.{each_all}
-use Rattle.reaction_laws.specs.CappedRanks.{capped}
-use Rattle.reaction_laws.proofs.ApartTogether.{turn}
-use Rattle.reaction_laws.proofs.CappedSteps.{is_idle}
-use Rattle.reaction_laws.proofs.LinesAhead.{LowAhead, ahead_on}
+use Rattle.preemption_laws.specs.CappedRanks.{capped}
+use Rattle.preemption_laws.proofs.ApartTogether.{turn}
+use Rattle.preemption_laws.proofs.CappedSteps.{is_idle}
+use Rattle.preemption_laws.proofs.LinesAhead.{LowAhead, ahead_on}
 use Rattle.preemption_laws.specs.Looks.{look, Looks}
 use Rattle.preemption_laws.specs.Waiting.{holds, is_waiting, sees, gone, may_step, wait_access}
 use Rattle.preemption_laws.proofs.GraphMoves as moves

@@ -31,12 +31,12 @@ use Rattle.scl_graph.specs.Graph.{program_of}
 use Rattle.abort_expansion_laws.proofs.InsideAround.{inside_around}
 use Rattle.chart_lowering_laws.specs.Laws.{IsLowering}
 use Rattle.chart_lowering_laws.proofs.Finished.{each_all}
-use Rattle.reaction_laws.specs.CappedRanks.{capped}
-use Rattle.reaction_laws.specs.StepNodes.{AtOwnNode, AtTheirNodes, Alike}
-use Rattle.reaction_laws.proofs.ApartTogether.{turn}
-use Rattle.reaction_laws.proofs.CappedSteps.{is_idle, idle_is, busy_is}
-use Rattle.reaction_laws.proofs.CaughtThreads.{WaitsAtJoins}
-use Rattle.reaction_laws.proofs.LinesAhead.{LowAhead, ahead_less, ahead_both, enabled_ahead}
+use Rattle.preemption_laws.specs.CappedRanks.{capped}
+use Rattle.preemption_laws.specs.StepNodes.{AtOwnNode, AtTheirNodes, Alike}
+use Rattle.preemption_laws.proofs.ApartTogether.{turn}
+use Rattle.preemption_laws.proofs.CappedSteps.{is_idle, idle_is, busy_is}
+use Rattle.preemption_laws.proofs.CaughtThreads.{WaitsAtJoins}
+use Rattle.preemption_laws.proofs.LinesAhead.{LowAhead, ahead_less, ahead_both, enabled_ahead}
 use Rattle.preemption_laws.specs.Looks.{Looks}
 use Rattle.preemption_laws.specs.Waiting.{is_waiting, sees, may_step, wait_access}
 use Rattle.preemption_laws.proofs.Forms.{InForm}

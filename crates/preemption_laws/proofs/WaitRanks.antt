@@ -29,16 +29,16 @@ use Rattle.scl.specs.Numbering.{numbered}
 use Rattle.scl_graph.specs.Graph.{program_of}
 use Rattle.abort_expansion_laws.specs.Ticks.{Reactive, Reaction}
 use Rattle.chart_lowering_laws.specs.Laws.{IsLowering}
-use Rattle.reaction_laws.specs.Bounded.{last_of}
-use Rattle.reaction_laws.specs.CappedRanks.{capped, HasCappedRanks}
-use Rattle.reaction_laws.specs.ChartRanks.{HasRanks}
-use Rattle.reaction_laws.specs.OneEnd.{RankedSteps}
-use Rattle.reaction_laws.proofs.ApartTogether.{turn}
-use Rattle.reaction_laws.proofs.ByRank.{Begins, begins}
-use Rattle.reaction_laws.proofs.CappedRanks.{idle_first, capped_are_ranks, capped_within}
-use Rattle.reaction_laws.proofs.CappedSteps.{is_idle, idle_is}
-use Rattle.reaction_laws.proofs.RunsComplete.{enabled_there}
-use Rattle.reaction_laws.proofs.StepNodes.{priorities_order_steps, does_some}
+use Rattle.preemption_laws.specs.Bounded.{last_of}
+use Rattle.preemption_laws.specs.CappedRanks.{capped, HasCappedRanks}
+use Rattle.preemption_laws.specs.ChartRanks.{HasRanks}
+use Rattle.preemption_laws.specs.OneEnd.{RankedSteps}
+use Rattle.preemption_laws.proofs.ApartTogether.{turn}
+use Rattle.preemption_laws.proofs.ByRank.{Begins, begins}
+use Rattle.preemption_laws.proofs.CappedRanks.{idle_first, capped_are_ranks, capped_within}
+use Rattle.preemption_laws.proofs.CappedSteps.{is_idle, idle_is}
+use Rattle.preemption_laws.proofs.RunsComplete.{enabled_there}
+use Rattle.preemption_laws.proofs.StepNodes.{priorities_order_steps, does_some}
 use Rattle.preemption_laws.specs.Looks.{Looks}
 use Rattle.preemption_laws.specs.Waiting.{is_waiting, sees, may_step, wait_step, wait_access, waiting_machine}
 use Rattle.preemption_laws.proofs.Ground.{Ground}

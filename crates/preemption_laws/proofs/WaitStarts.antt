@@ -22,8 +22,8 @@ use Rattle.scl.specs.Numbering.{numbered}
 use Rattle.scl_graph.specs.Graph.{program_of}
 use Rattle.abort_expansion_laws.proofs.Leaving.{at_number}
 use Rattle.chart_lowering_laws.specs.Laws.{IsLowering}
-use Rattle.reaction_laws.specs.StepNodes.{Alike}
-use Rattle.reaction_laws.proofs.GreatestPriority.{greatest_priority, all_ahead, within_greatest}
+use Rattle.preemption_laws.specs.StepNodes.{Alike}
+use Rattle.preemption_laws.proofs.GreatestPriority.{greatest_priority, all_ahead, within_greatest}
 use Rattle.preemption_laws.specs.Looks.{Looks}
 use Rattle.preemption_laws.specs.Waiting.{waiting_at, still, waiting_machine}
 use Rattle.preemption_laws.proofs.GraphMoves as moves

@@ -37,11 +37,11 @@ use Rattle.scl.specs.Numbering.{numbered}
 use Rattle.scl_graph.specs.Graph.{program_of}
 use Rattle.chart_lowering_laws.specs.Laws.{IsLowering}
 use Rattle.chart_lowering_laws.proofs.Finished.{each_all}
-use Rattle.reaction_laws.specs.CappedRanks.{capped}
-use Rattle.reaction_laws.proofs.ApartTogether.{turn, one_way, lies_or_not}
-use Rattle.reaction_laws.proofs.CappedSteps.{is_idle}
-use Rattle.reaction_laws.proofs.LinesAhead.{LowAhead, ahead_on, ahead_within, stepped_ahead}
-use Rattle.reaction_laws.proofs.RunsComplete.{has_step}
+use Rattle.preemption_laws.specs.CappedRanks.{capped}
+use Rattle.preemption_laws.proofs.ApartTogether.{turn, one_way, lies_or_not}
+use Rattle.preemption_laws.proofs.CappedSteps.{is_idle}
+use Rattle.preemption_laws.proofs.LinesAhead.{LowAhead, ahead_on, ahead_within, stepped_ahead}
+use Rattle.preemption_laws.proofs.RunsComplete.{has_step}
 use Rattle.preemption_laws.specs.Looks.{look, Looks}
 use Rattle.preemption_laws.specs.Waiting.{holds, is_waiting, sees, may_step, wait_access}
 use Rattle.preemption_laws.proofs.GraphMoves as moves

@@ -14,8 +14,8 @@ use Rattle.chart_machine.specs.Turns.{standing_of, is_enabled, LiesIn}
 use Rattle.chart_machine_laws.proofs.LyingIn.{swapped}
 use Rattle.abort_expansion_laws.proofs.KnownVariables.{Stepped, stepped}
 use Rattle.abort_expansion_laws.proofs.Leaving.{at_number, set_other}
-use Rattle.reaction_laws.specs.OneEnd.{KeepsApart}
-use Rattle.reaction_laws.proofs.WritesSwap.{Changes, changes}
+use Rattle.preemption_laws.specs.OneEnd.{KeepsApart}
+use Rattle.preemption_laws.proofs.WritesSwap.{Changes, changes}
 use Rattle.preemption_laws.specs.Looks.{look, Looks}
 use Rattle.preemption_laws.specs.Waiting.{holds, is_waiting, sees, gone, may_step, wait_step, wait_access, waiting_machine}
 use Rattle.preemption_laws.proofs.FlagsStayUp.{stays_raised}

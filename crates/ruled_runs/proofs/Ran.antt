@@ -6,9 +6,9 @@ use Rattle.command_files.specs.declared.fault.LoadFault.TheVariants as load
 use Rattle.command_files.specs.Files.{Contents, HasBytes}
 use Rattle.command_files.specs.Images.{FileLacksImage, IsLoaded}
 use Rattle.trace_player.specs.Trace.{Good}
-use Rattle.ruled_traces.specs.declared.place.RunPlace.{RunPlace}
-use Rattle.ruled_traces.specs.declared.rules.Rules.{Rules}
-use Rattle.ruled_traces.specs.Trace.{Plays, at_first}
+use Rattle.ruled_runs.specs.declared.traces.place.RunPlace.{RunPlace}
+use Rattle.ruled_runs.specs.declared.traces.rules.Rules.{Rules}
+use Rattle.ruled_runs.specs.Trace.{Plays, at_first}
 use Rattle.ruled_runs.specs.declared.fault.RuledFault.{RuledFault}
 use Rattle.ruled_runs.specs.declared.fault.RuledFault.TheVariants as fault
 use Rattle.ruled_runs.specs.Inside.Held.{PlaysAndKeeps, PlaysAndLoses, RefusesKeeping, RefusesPlaying}

@@ -1,2 +1,5 @@
 -- What private functions alone say of themselves. It is proved, and no public contract rests on what it means.
 pub mod Held
+pub mod Faults
+pub mod Playing
+pub mod Ruled

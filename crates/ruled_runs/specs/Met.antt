@@ -1,8 +1,8 @@
 -- What was met on a line that ends a run.
 use Rattle.std.specs.Prelude.{ℕ, Bool, Option, Some, None, List}
 use Rattle.sc_graph.specs.declared.program.Variable.{Variable}
-use Rattle.line_causes.specs.declared.cause.Cause.{Cause}
-use Rattle.line_causes.specs.Missing.{IsMetUnder}
+use Rattle.trace_lines.specs.declared.causes.cause.Cause.{Cause}
+use Rattle.trace_lines.specs.Missing.{IsMetUnder}
 use Rattle.trace_player.specs.declared.player.PlayFault.{PlayFault}
 use Rattle.trace_player.specs.declared.player.PlayFault.TheVariants as play_fault
 

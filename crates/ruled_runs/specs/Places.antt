@@ -9,9 +9,9 @@ use Rattle.command_files.specs.FaultText.{shown_name}
 use Rattle.command_files.specs.Files.{Contents, HasBytes, Stores}
 use Rattle.command_files.specs.Images.{FileLacksImage}
 use Rattle.command_files.specs.Storing.{IsNotStored}
-use Rattle.control_texts.specs.Texts.{IsSaved}
-use Rattle.ruled_traces.specs.declared.place.RunPlace.{RunPlace}
-use Rattle.ruled_traces.specs.Trace.{at_first}
+use Rattle.ruled_runs.specs.Texts.{IsSaved}
+use Rattle.ruled_runs.specs.declared.traces.place.RunPlace.{RunPlace}
+use Rattle.ruled_runs.specs.Trace.{at_first}
 use Rattle.ruled_runs.specs.declared.fault.RuledFault.{RuledFault}
 use Rattle.ruled_runs.specs.declared.fault.RuledFault.TheVariants as fault
 

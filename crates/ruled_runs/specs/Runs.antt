@@ -4,12 +4,12 @@ use Rattle.bytecode.specs.Image.{Image}
 use Rattle.command_files.specs.declared.fault.LoadFault.{LoadFault}
 use Rattle.command_files.specs.Files.{Contents}
 use Rattle.command_files.specs.Images.{FileLacksImage, IsLoaded}
-use Rattle.line_causes.specs.declared.cause.Cause.{Cause}
+use Rattle.trace_lines.specs.declared.causes.cause.Cause.{Cause}
 use Rattle.trace_player.specs.declared.player.PlayFault.{PlayFault}
 use Rattle.trace_player.specs.Trace.{Good}
-use Rattle.ruled_traces.specs.declared.place.RunPlace.{RunPlace}
-use Rattle.ruled_traces.specs.declared.rules.Rules.{Rules}
-use Rattle.ruled_traces.specs.Trace.{Leaves, Plays}
+use Rattle.ruled_runs.specs.declared.traces.place.RunPlace.{RunPlace}
+use Rattle.ruled_runs.specs.declared.traces.rules.Rules.{Rules}
+use Rattle.ruled_runs.specs.Trace.{Leaves, Plays}
 use Rattle.ruled_runs.specs.Met.{IsMet}
 use Rattle.ruled_runs.specs.Places.{BeginsAt, HoldsNoPlace, IsKept, IsNotKept, IsUnread}
 use Rattle.ruled_runs.specs.declared.fault.RuledFault.{RuledFault}

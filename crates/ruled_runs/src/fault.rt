@@ -5,8 +5,8 @@ ghost use Rattle.ruled_runs.specs.declared.fault.RuledFault.TheVariants.{Files};
 ghost use Rattle.command_files.specs.declared.fault.LoadFault.TheVariants.{Memory};
 
 use command_files::LoadFault;
-use line_causes::Cause;
 use std::alloc::AllocError;
+use trace_lines::Cause;
 use trace_player::PlayFault;
 
 /// Why a run ends, or is not begun.

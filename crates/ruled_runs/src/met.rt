@@ -3,9 +3,9 @@
 ghost use Rattle.std.specs.Prelude.{◌≡◌};
 ghost use Rattle.ruled_runs.specs.Met.{IsMet, line_told};
 
-use line_causes::{Cause, OfInput, Recent, cause_under};
 use sc_values::Source;
 use std::alloc::Global;
+use trace_lines::{Cause, OfInput, Recent, cause_under};
 use trace_player::PlayFault;
 use verifier::Verified;
 

@@ -6,10 +6,10 @@ ghost use Rattle.sc_graph.specs.Tick.{Rests};
 ghost use Rattle.ruled_runs.specs.Failing.{files_failed};
 ghost use Rattle.ruled_runs.specs.Places.{BeginsIn, IsKept, IsNotKept, LacksPlaceIn};
 
+use crate::controls::{Saved, SavedFault, control_in, control_text};
 use crate::fault::RuledFault;
+use crate::traces::RunPlace;
 use command_files::{Files, LoadFault, shown_name, store};
-use control_texts::{Saved, SavedFault, control_in, control_text};
-use ruled_traces::RunPlace;
 use sc_graph::Program;
 use std::alloc::Global;
 

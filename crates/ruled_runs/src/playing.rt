@@ -4,17 +4,17 @@ ghost use Rattle.std.specs.Prelude.{◌≡◌, ◌+◌, ℕ, List, IfErr, IfOk, 
 ghost use Rattle.sc_graph.specs.Tick.{Rests};
 ghost use Rattle.sc_values.specs.Streams.{IsNotReadBehind};
 ghost use Rattle.trace_player.specs.Trace.{Good};
-ghost use Rattle.ruled_traces.specs.Trace.{Plays};
+ghost use Rattle.ruled_runs.specs.Trace.{Plays};
 ghost use Rattle.ruled_runs.specs.Failing.{files_failed, reads_failed, writes_failed};
 ghost use Rattle.ruled_runs.specs.Inside.Held.{RefusesPlaying};
 
 use crate::fault::RuledFault;
 use crate::met::cause_met;
-use line_causes::{Lent, OfInput, Recent};
-use ruled_traces::{Rules, RunPlace, play_by};
+use crate::traces::{Rules, RunPlace, play_by};
 use sc_values::{Sink, Source};
 use std::alloc::Global;
 use std::marker::Brand;
+use trace_lines::{Lent, OfInput, Recent};
 use verifier::Verified;
 
 // Plays an input by an image, and gives it back. Where words are wanted, the lines that were read last are kept, and so

@@ -21,3 +21,19 @@ pub mod OneMeaning
 pub mod OneCut
 pub mod OneReading
 mod Longer
+pub mod Firsts
+pub mod Indexed
+pub mod PartsInOrder
+pub mod KnownNames
+pub mod Resolving
+pub mod Kinded
+pub mod Within
+pub mod Unflawed
+pub mod Distinct
+pub mod Declared
+pub mod EachName
+pub mod Assigned
+pub mod OneFirst
+pub mod ToldInOrder
+pub mod ToldFlaws
+pub mod Outcomes

@@ -1,4 +1,5 @@
 -- What private functions alone say of themselves. It is proved, and no public contract rests on what it means.
+pub mod Drafts
 use Rattle.std.specs.Prelude.{ℕ, Option, Some, None, ℤ, pos, MatchOption, ◌≡◌, ◌≢◌, IsTrue, ◌<◌, ◌≤◌, List, [], ◌∷◌, ◌++◌, length, take, drop, Bool}
 use Rattle.std.specs.List.{list_all}
 use Rattle.sc_values.specs.Name.{is_letter, is_digit}

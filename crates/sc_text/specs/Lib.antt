@@ -13,3 +13,9 @@ pub mod Reading
 pub mod Levels
 pub mod Laws
 pub mod Inside
+pub mod DraftParts
+pub mod First
+pub mod Told
+pub mod Flaws
+pub mod Index
+pub mod Resolved

@@ -1,7 +1,9 @@
-//! The tokens of chart text and of SCL text, with their places, and the faults of readers.
+//! The tokens of chart text and of SCL text, with their places, the faults of readers, and what the drafts of both
+//! languages share.
 #![tactic(auto)]
 
 pub mod ahead;
+mod drafts;
 mod expressions;
 mod first_token;
 mod language;
@@ -18,6 +20,10 @@ mod sign;
 mod token;
 mod word;
 
+pub use drafts::{
+    Declaration, Flaw, Index, Named, Scope, TOLD_LIMIT, TextExpression, first_told, is_full,
+    kind_follows, kind_of, name_follows, note_told, role_follows, role_of, variables,
+};
 pub use expressions::{OPEN_LIMIT, expression};
 pub use first_token::{begins_with, is_next, language_of, passed_length};
 pub use language::Language;

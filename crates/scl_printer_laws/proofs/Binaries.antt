@@ -24,7 +24,7 @@ use Rattle.sc_text.specs.Pieces.{is_word_byte}
 use Rattle.sc_text.specs.Classes.{TheWord}
 use Rattle.sc_text.specs.Phrases.{Phrase, right_side, operator_of}
 use Rattle.sc_text.specs.Expression.{within, atom, unary, sum, comparison, disjunction, comparisons}
-use Rattle.drafts.specs.Resolved.{code_of}
+use Rattle.sc_text.specs.Resolved.{code_of}
 use Rattle.scl_printer.specs.declared.parentheses.Parentheses.{Parentheses}
 use Rattle.scl_printer.specs.Expressions.{Shown, Opens, one_more_if, operand, operand_opens, shown_step, opens_step, is_infix, infix_text, binary_takes_not}
 use Rattle.scl_printer_laws.proofs.Longest.{Closes, closes_quiet, Quiet, quiet_low, quiet_letter, Plain}

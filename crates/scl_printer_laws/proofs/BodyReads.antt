@@ -2,9 +2,9 @@
 use Rattle.std.proofs.Common.{◌≡◌, ℕ, List, [], ◌∷◌, map, sym, subst}
 use Rattle.std.specs.Prelude.{Some, slice_get}
 use Rattle.grammar.proofs.Each.{Every}
-use Rattle.drafts.specs.declared.parts.Declaration.{Declaration}
-use Rattle.drafts.specs.Flaws.{variable_names}
-use Rattle.drafts.proofs.Distinct.{AreFirst}
+use Rattle.sc_text.specs.declared.drafts.parts.Declaration.{Declaration}
+use Rattle.sc_text.specs.Flaws.{variable_names}
+use Rattle.sc_text.proofs.Distinct.{AreFirst}
 use Rattle.scl.specs.declared.statement.Statement.{Statement}
 use Rattle.scl.specs.declared.statement.Statement.TheOpen.{Statement-F}
 use Rattle.scl.specs.declared.statement.Statement.TheOpen as open_statement

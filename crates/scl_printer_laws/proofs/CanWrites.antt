@@ -23,7 +23,7 @@ use Rattle.sc_values.proofs.Induction.{kind-load, kind-unary, kind-binary}
 use Rattle.sc_graph.specs.declared.program.Variable.{Variable}
 use Rattle.sc_text.specs.Tokens.{number_limit}
 use Rattle.sc_text.specs.Parts.{is_writable_literal, is_writable_unary, writable_step, is_writable, IsExpression}
-use Rattle.drafts.proofs.Distinct.{AreFirst}
+use Rattle.sc_text.proofs.Distinct.{AreFirst}
 use Rattle.scl_printer_laws.specs.Reading.{names_of, CanWriteLiteral, CanWriteOperator, CanWriteVariable, CanWrite, a_literal, a_load, a_unary, a_binary}
 use Rattle.scl_printer_laws.specs.Programs.{IsNumber, HoldsNumber, DividesByNumber, HasNumbers, of_literal, of_load, of_unary, of_binary}
 use Rattle.scl_printer_laws.proofs.Lines.{CanName}

@@ -12,11 +12,11 @@ use Rattle.sc_text.specs.declared.word.Word.TheVariants as word
 use Rattle.sc_text.specs.declared.sign.Sign.TheVariants as sign
 use Rattle.sc_text.specs.declared.token.Token.{Token}
 use Rattle.sc_text.specs.Classes.{TheWord}
-use Rattle.drafts.specs.Parts.{role_of, kind_of}
-use Rattle.drafts.specs.Resolved.{variables_of}
+use Rattle.sc_text.specs.DraftParts.{role_of, kind_of}
+use Rattle.sc_text.specs.Resolved.{variables_of}
 use Rattle.scl_printer.specs.Layout.{role_prefix, kind_prefix, declaration_text, declarations_text}
-use Rattle.scl_drafts.specs.Program.{name, semicolon, declaration}
-use Rattle.scl_drafts.specs.Draft.{declared}
+use Rattle.scl_reader.specs.Program.{name, semicolon, declaration}
+use Rattle.scl_reader.specs.Draft.{declared}
 use Rattle.scl_printer_laws.proofs.Cuts.{Cuts, cuts_both, cuts_nothing, signed_at, worded_at}
 use Rattle.scl_printer_laws.proofs.Lines.{CanName, named_at, begins_at, cuts_line, cuts_name, cuts_word_space}
 use Rattle.scl_printer_laws.proofs.LineParts.{cuts_semicolon}

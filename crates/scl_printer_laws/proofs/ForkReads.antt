@@ -9,9 +9,9 @@ use Rattle.sc_text.specs.declared.word.Word.TheVariants as word
 use Rattle.sc_text.specs.declared.sign.Sign.TheVariants as sign
 use Rattle.sc_text.specs.declared.token.Token.{Token}
 use Rattle.sc_text.specs.declared.read_fault.FaultKind.TheVariants as broken
-use Rattle.drafts.specs.declared.parts.Declaration.{Declaration}
-use Rattle.drafts.specs.Flaws.{flaw_if, is_full, variable_names}
-use Rattle.drafts.specs.Resolved.{variables_of}
+use Rattle.sc_text.specs.declared.drafts.parts.Declaration.{Declaration}
+use Rattle.sc_text.specs.Flaws.{flaw_if, is_full, variable_names}
+use Rattle.sc_text.specs.Resolved.{variables_of}
 use Rattle.scl.specs.declared.statement.Statement.{Statement}
 use Rattle.scl.specs.declared.statement.Statement.TheOpen as open_statement
 use Rattle.scl.specs.declared.statement.Statement.TheVariants as statement
@@ -20,15 +20,15 @@ use Rattle.scl.specs.declared.statement.Statement.TheFolds.{fold-roll-Statement}
 use Rattle.scl.specs.Rules as rules
 use Rattle.scl.specs.Rules.{part_of, if_limit}
 use Rattle.scl_printer.specs.Layout.{line, in_row, branches_text, statement_text}
-use Rattle.scl_drafts.specs.declared.statement.TextStatement.{TextStatement}
-use Rattle.scl_drafts.specs.declared.statement.TextStatement.TheOpen as text
-use Rattle.scl_drafts.specs.declared.statement.TextStatement.TheVariants as variant
-use Rattle.scl_drafts.specs.declared.statement.TextStatement.TheVariants.{rolls-Fork as rolls-text-Fork}
-use Rattle.scl_drafts.specs.declared.statement.TextStatement.TheFolds.{fold-roll-TextStatement}
-use Rattle.scl_drafts.specs.Flaws as flaws
-use Rattle.scl_drafts.specs.Statements.{Statements, branch_of}
-use Rattle.scl_drafts.specs.Program.{Grows, branch, fork}
-use Rattle.scl_drafts.specs.Within.{within}
+use Rattle.scl_reader.specs.declared.text_drafts.statement.TextStatement.{TextStatement}
+use Rattle.scl_reader.specs.declared.text_drafts.statement.TextStatement.TheOpen as text
+use Rattle.scl_reader.specs.declared.text_drafts.statement.TextStatement.TheVariants as variant
+use Rattle.scl_reader.specs.declared.text_drafts.statement.TextStatement.TheVariants.{rolls-Fork as rolls-text-Fork}
+use Rattle.scl_reader.specs.declared.text_drafts.statement.TextStatement.TheFolds.{fold-roll-TextStatement}
+use Rattle.scl_reader.specs.Flaws as flaws
+use Rattle.scl_reader.specs.Statements.{Statements, branch_of}
+use Rattle.scl_reader.specs.Program.{Grows, branch, fork}
+use Rattle.scl_reader.specs.Within.{within}
 use Rattle.scl_reader.specs.Resolved.{resolved, statement_of, statements_of}
 use Rattle.scl_printer_laws.proofs.Cuts.{Cuts, cuts_both, signed_at, worded_at}
 use Rattle.scl_printer_laws.proofs.Lines.{begins_at, cuts_line}

@@ -9,12 +9,12 @@ use Rattle.sc_values.specs.Expr.{postorder}
 use Rattle.sc_text.specs.declared.word.Word.TheVariants as word
 use Rattle.sc_text.specs.declared.sign.Sign.TheVariants as sign
 use Rattle.sc_text.specs.declared.token.Token.{Token}
-use Rattle.drafts.specs.declared.parts.TextExpression.{TextExpression}
-use Rattle.drafts.specs.declared.parts.Declaration.{Declaration}
-use Rattle.drafts.specs.Parts.{expressed}
-use Rattle.drafts.specs.Flaws.{variable_names, expression_flaws}
-use Rattle.drafts.specs.Resolved.{expression_of, variables_of}
-use Rattle.drafts.proofs.Distinct.{AreFirst}
+use Rattle.sc_text.specs.declared.drafts.parts.TextExpression.{TextExpression}
+use Rattle.sc_text.specs.declared.drafts.parts.Declaration.{Declaration}
+use Rattle.sc_text.specs.DraftParts.{expressed}
+use Rattle.sc_text.specs.Flaws.{variable_names, expression_flaws}
+use Rattle.sc_text.specs.Resolved.{expression_of, variables_of}
+use Rattle.sc_text.proofs.Distinct.{AreFirst}
 use Rattle.scl.specs.declared.statement.Statement.{Statement}
 use Rattle.scl.specs.declared.statement.Statement.TheOpen as open_statement
 use Rattle.scl.specs.declared.statement.Statement.TheVariants as statement
@@ -24,15 +24,15 @@ use Rattle.scl.specs.Rules as rules
 use Rattle.scl.specs.Rules.{part_of}
 use Rattle.scl_printer.specs.Expressions.{expression_text}
 use Rattle.scl_printer.specs.Layout.{line, in_row, else_text, statement_text}
-use Rattle.scl_drafts.specs.declared.statement.TextStatement.{TextStatement}
-use Rattle.scl_drafts.specs.declared.statement.TextStatement.TheOpen as text
-use Rattle.scl_drafts.specs.declared.statement.TextStatement.TheVariants as variant
-use Rattle.scl_drafts.specs.declared.statement.TextStatement.TheVariants.{rolls-If as rolls-text-If}
-use Rattle.scl_drafts.specs.declared.statement.TextStatement.TheFolds.{fold-roll-TextStatement}
-use Rattle.scl_drafts.specs.Flaws as flaws
-use Rattle.scl_drafts.specs.Statements.{Statements, none_or_them}
-use Rattle.scl_drafts.specs.Program.{Grows, choice}
-use Rattle.scl_drafts.specs.Within.{within}
+use Rattle.scl_reader.specs.declared.text_drafts.statement.TextStatement.{TextStatement}
+use Rattle.scl_reader.specs.declared.text_drafts.statement.TextStatement.TheOpen as text
+use Rattle.scl_reader.specs.declared.text_drafts.statement.TextStatement.TheVariants as variant
+use Rattle.scl_reader.specs.declared.text_drafts.statement.TextStatement.TheVariants.{rolls-If as rolls-text-If}
+use Rattle.scl_reader.specs.declared.text_drafts.statement.TextStatement.TheFolds.{fold-roll-TextStatement}
+use Rattle.scl_reader.specs.Flaws as flaws
+use Rattle.scl_reader.specs.Statements.{Statements, none_or_them}
+use Rattle.scl_reader.specs.Program.{Grows, choice}
+use Rattle.scl_reader.specs.Within.{within}
 use Rattle.scl_reader.specs.Resolved.{resolved, statement_of, statements_of}
 use Rattle.sc_text.specs.Expression.{expression}
 use Rattle.scl_printer_laws.proofs.Longest.{Quiet}

@@ -20,8 +20,8 @@ use Rattle.sc_text.specs.Tokens.{IsReserved, a_name}
 use Rattle.sc_text.specs.Phrases.{leaf_of}
 use Rattle.sc_text.specs.Expression.{within, atom}
 use Rattle.sc_text.specs.Levels.{leaves}
-use Rattle.drafts.specs.Flaws.{is_among, has_known_name}
-use Rattle.drafts.specs.Resolved.{code_of}
+use Rattle.sc_text.specs.Flaws.{is_among, has_known_name}
+use Rattle.sc_text.specs.Resolved.{code_of}
 use Rattle.scl_printer.specs.declared.parentheses.Parentheses.{Parentheses}
 use Rattle.scl_printer.specs.Expressions.{named, shown_step, opens_step}
 use Rattle.scl_printer_laws.specs.Reading.{names_of, CanWriteLiteral, CanWriteVariable}

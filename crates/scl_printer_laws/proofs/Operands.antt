@@ -10,8 +10,8 @@ use Rattle.sc_text.specs.declared.token.Token.{Token}
 use Rattle.sc_text.specs.declared.operation.TextOperation.{TextOperation}
 use Rattle.sc_text.specs.Phrases.{Phrase}
 use Rattle.sc_text.specs.Expression.{Inner, within, atom, unary, negation, disjunction}
-use Rattle.drafts.specs.Flaws.{is_among, has_known_name}
-use Rattle.drafts.specs.Resolved.{code_of, operation_of}
+use Rattle.sc_text.specs.Flaws.{is_among, has_known_name}
+use Rattle.sc_text.specs.Resolved.{code_of, operation_of}
 use Rattle.scl_printer.specs.declared.parentheses.Parentheses.{Parentheses}
 use Rattle.scl_printer.specs.declared.parentheses.Parentheses.TheVariants as parentheses
 use Rattle.scl_printer.specs.declared.parentheses.Form.{Form}

@@ -28,24 +28,24 @@ use Rattle.sc_text.specs.Classes.{TheWord, TheSign}
 use Rattle.sc_text.specs.Tokens.{AreTokens, no_more}
 use Rattle.sc_text.specs.Expression.{after, before}
 use Rattle.sc_text.specs.Parts.{AreVariables, are_distinct}
-use Rattle.drafts.specs.declared.parts.Declaration.{Declaration}
-use Rattle.drafts.specs.Flaws.{variable_names, variable_flaws}
-use Rattle.drafts.specs.Resolved.{variable_of, variables_of}
-use Rattle.drafts.proofs.Distinct.{AreFirst, count, distinct_once, once_distinct}
-use Rattle.drafts.proofs.Declared.{names_same}
+use Rattle.sc_text.specs.declared.drafts.parts.Declaration.{Declaration}
+use Rattle.sc_text.specs.Flaws.{variable_names, variable_flaws}
+use Rattle.sc_text.specs.Resolved.{variable_of, variables_of}
+use Rattle.sc_text.proofs.Distinct.{AreFirst, count, distinct_once, once_distinct}
+use Rattle.sc_text.proofs.Declared.{names_same}
 use Rattle.scl.specs.declared.program.Scl.{Scl}
 use Rattle.scl.specs.declared.statement.Statement.{Statement}
 use Rattle.scl.specs.Rules as rules
 use Rattle.scl.specs.Rules.{part_of, parts_of, KeepsBody, KeepsRules, fork_limit, if_limit}
 use Rattle.scl_printer.specs.Layout.{line, in_row, statement_text, statements_text, declarations_text, text_of}
 use Rattle.scl_printer.proofs.Nested.{parts_are}
-use Rattle.scl_drafts.specs.declared.draft.Draft.{Draft}
-use Rattle.scl_drafts.specs.declared.statement.TextStatement.{TextStatement}
-use Rattle.scl_drafts.specs.Flaws as flaws
-use Rattle.scl_drafts.specs.Flaws.{names, repeated, scl_flaws}
-use Rattle.scl_drafts.specs.Program.{Grows, Text, name, declaration, program, thread, scl}
-use Rattle.scl_drafts.specs.Within.{inner_forks, inner_ifs, within}
-use Rattle.scl_drafts.specs.Draft.{declared, draft_of, IsDraft}
+use Rattle.scl_reader.specs.declared.text_drafts.draft.Draft.{Draft}
+use Rattle.scl_reader.specs.declared.text_drafts.statement.TextStatement.{TextStatement}
+use Rattle.scl_reader.specs.Flaws as flaws
+use Rattle.scl_reader.specs.Flaws.{names, repeated, scl_flaws}
+use Rattle.scl_reader.specs.Program.{Grows, Text, name, declaration, program, thread, scl}
+use Rattle.scl_reader.specs.Within.{inner_forks, inner_ifs, within}
+use Rattle.scl_reader.specs.Draft.{declared, draft_of, IsDraft}
 use Rattle.scl_reader.specs.Read.{IsRead}
 use Rattle.scl_reader.proofs.Pieces.{every_of, both_empty}
 use Rattle.scl_printer_laws.specs.Reading.{names_of}

@@ -12,15 +12,15 @@ use Rattle.sc_text.specs.declared.sign.Sign.TheVariants as sign
 use Rattle.sc_text.specs.declared.token.Token.{Token}
 use Rattle.sc_text.specs.declared.read_fault.FaultKind.TheVariants as broken
 use Rattle.sc_text.specs.Parts.{IsExpression}
-use Rattle.drafts.specs.declared.parts.Named.{Named}
-use Rattle.drafts.specs.declared.parts.TextExpression.{TextExpression}
-use Rattle.drafts.specs.declared.parts.Declaration.{Declaration}
-use Rattle.drafts.specs.Parts.{named as named_token, expressed}
-use Rattle.drafts.specs.Flaws.{flaw_if, is_input, place_among, variable_names, variable_named, expression_flaws, assigned_flaws}
-use Rattle.drafts.specs.Resolved.{expression_of, variable_of, variables_of}
-use Rattle.drafts.proofs.Kinded.{kinds_of}
-use Rattle.drafts.proofs.Distinct.{AreFirst}
-use Rattle.drafts.proofs.Declared.{names_same}
+use Rattle.sc_text.specs.declared.drafts.parts.Named.{Named}
+use Rattle.sc_text.specs.declared.drafts.parts.TextExpression.{TextExpression}
+use Rattle.sc_text.specs.declared.drafts.parts.Declaration.{Declaration}
+use Rattle.sc_text.specs.DraftParts.{named as named_token, expressed}
+use Rattle.sc_text.specs.Flaws.{flaw_if, is_input, place_among, variable_names, variable_named, expression_flaws, assigned_flaws}
+use Rattle.sc_text.specs.Resolved.{expression_of, variable_of, variables_of}
+use Rattle.sc_text.proofs.Kinded.{kinds_of}
+use Rattle.sc_text.proofs.Distinct.{AreFirst}
+use Rattle.sc_text.proofs.Declared.{names_same}
 use Rattle.scl.specs.declared.statement.Statement.{Statement}
 use Rattle.scl.specs.declared.statement.Statement.TheOpen as open_statement
 use Rattle.scl.specs.declared.statement.Statement.TheVariants as statement
@@ -30,13 +30,13 @@ use Rattle.scl.specs.Rules as rules
 use Rattle.scl.specs.Rules.{IsAssignment, part_of}
 use Rattle.scl_printer.specs.Expressions.{named, expression_text}
 use Rattle.scl_printer.specs.Layout.{line, statement_text}
-use Rattle.scl_drafts.specs.declared.statement.TextStatement.TheOpen as text
-use Rattle.scl_drafts.specs.declared.statement.TextStatement.TheVariants as variant
-use Rattle.scl_drafts.specs.declared.statement.TextStatement.TheVariants.{rolls-Assign as rolls-text-Assign, rolls-Label as rolls-text-Label}
-use Rattle.scl_drafts.specs.declared.statement.TextStatement.TheVariants.{rolls-Goto as rolls-text-Goto, rolls-Pause as rolls-text-Pause}
-use Rattle.scl_drafts.specs.declared.statement.TextStatement.TheFolds.{fold-roll-TextStatement}
-use Rattle.scl_drafts.specs.Flaws as flaws
-use Rattle.scl_drafts.specs.Within.{within}
+use Rattle.scl_reader.specs.declared.text_drafts.statement.TextStatement.TheOpen as text
+use Rattle.scl_reader.specs.declared.text_drafts.statement.TextStatement.TheVariants as variant
+use Rattle.scl_reader.specs.declared.text_drafts.statement.TextStatement.TheVariants.{rolls-Assign as rolls-text-Assign, rolls-Label as rolls-text-Label}
+use Rattle.scl_reader.specs.declared.text_drafts.statement.TextStatement.TheVariants.{rolls-Goto as rolls-text-Goto, rolls-Pause as rolls-text-Pause}
+use Rattle.scl_reader.specs.declared.text_drafts.statement.TextStatement.TheFolds.{fold-roll-TextStatement}
+use Rattle.scl_reader.specs.Flaws as flaws
+use Rattle.scl_reader.specs.Within.{within}
 use Rattle.scl_reader.specs.Resolved.{resolved, statement_of}
 use Rattle.scl_reader.proofs.Pieces.{both_empty}
 use Rattle.scl_printer_laws.specs.Reading.{CanWrite}

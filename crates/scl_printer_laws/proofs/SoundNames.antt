@@ -17,14 +17,14 @@ use Rattle.sc_graph.specs.declared.program.Role.TheVariants as role
 use Rattle.sc_graph.specs.declared.program.Variable.{Variable}
 use Rattle.sc_text.specs.declared.read_fault.FaultKind.TheVariants as broken
 use Rattle.sc_text.specs.Parts.{are_distinct}
-use Rattle.drafts.specs.declared.flaw.Flaw.{Flaw}
-use Rattle.drafts.specs.declared.parts.Named.{Named}
-use Rattle.drafts.specs.declared.parts.Declaration.{Declaration}
-use Rattle.drafts.specs.Flaws.{flaw_if, is_full, first_or, place_among, is_among, is_at, is_repeated, one_more_if, variable_names, variable_flaws, is_input}
-use Rattle.drafts.specs.Resolved.{variable_of, variables_of}
-use Rattle.drafts.proofs.Distinct.{AreFirst, AreFirstBehind, itself}
+use Rattle.sc_text.specs.declared.drafts.flaw.Flaw.{Flaw}
+use Rattle.sc_text.specs.declared.drafts.parts.Named.{Named}
+use Rattle.sc_text.specs.declared.drafts.parts.Declaration.{Declaration}
+use Rattle.sc_text.specs.Flaws.{flaw_if, is_full, first_or, place_among, is_among, is_at, is_repeated, one_more_if, variable_names, variable_flaws, is_input}
+use Rattle.sc_text.specs.Resolved.{variable_of, variables_of}
+use Rattle.sc_text.proofs.Distinct.{AreFirst, AreFirstBehind, itself}
 use Rattle.scl.specs.Rules.{is_in}
-use Rattle.scl_drafts.specs.Flaws.{names, lost, repeated}
+use Rattle.scl_reader.specs.Flaws.{names, lost, repeated}
 use Rattle.scl_reader.proofs.Pieces.{among_in, both_empty}
 use Rattle.scl_printer_laws.proofs.SoundValues.{flaw_none}
 

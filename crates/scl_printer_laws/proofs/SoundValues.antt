@@ -31,13 +31,13 @@ use Rattle.sc_text.specs.declared.read_fault.FaultKind.{FaultKind}
 use Rattle.sc_text.specs.declared.read_fault.FaultKind.TheVariants as broken
 use Rattle.sc_text.specs.Phrases.{Phrase}
 use Rattle.sc_text.specs.Parts.{IsExpression}
-use Rattle.drafts.specs.declared.parts.Declaration.{Declaration}
-use Rattle.drafts.specs.declared.parts.TextExpression.{TextExpression}
-use Rattle.drafts.specs.Flaws.{flaw_if, place_among, is_among, variable_names, unknown_names, has_known_name, kind_named, kinds_behind, kinds_left}
-use Rattle.drafts.specs.Flaws.{is_alone, is_of_kind, is_of_other_kind, is_load, height_behind, greatest_height, passes_limits, expression_flaws}
-use Rattle.drafts.specs.Resolved.{operation_of, code_of, expression_of, variable_of, variables_of}
-use Rattle.drafts.proofs.Kinded.{kinds_of}
-use Rattle.drafts.proofs.Within.{load_count, height_grown}
+use Rattle.sc_text.specs.declared.drafts.parts.Declaration.{Declaration}
+use Rattle.sc_text.specs.declared.drafts.parts.TextExpression.{TextExpression}
+use Rattle.sc_text.specs.Flaws.{flaw_if, place_among, is_among, variable_names, unknown_names, has_known_name, kind_named, kinds_behind, kinds_left}
+use Rattle.sc_text.specs.Flaws.{is_alone, is_of_kind, is_of_other_kind, is_load, height_behind, greatest_height, passes_limits, expression_flaws}
+use Rattle.sc_text.specs.Resolved.{operation_of, code_of, expression_of, variable_of, variables_of}
+use Rattle.sc_text.proofs.Kinded.{kinds_of}
+use Rattle.sc_text.proofs.Within.{load_count, height_grown}
 use Rattle.scl_reader.proofs.Pieces.{both_empty}
 use Rattle.scl_printer_laws.proofs.Operands.{AreKnown}
 

@@ -9,11 +9,11 @@ use Rattle.sc_text.specs.Classes.{Class, TheWord, TheSign}
 use Rattle.sc_text.specs.Phrases.{Phrase}
 use Rattle.sc_text.specs.Expression.{after, before, expression}
 use Rattle.scl.specs.Rules.{if_limit}
-use Rattle.scl_drafts.specs.declared.statement.TextStatement.{TextStatement}
-use Rattle.scl_drafts.specs.Statements.{Statements, Becomes, IsLabel, named_statement, goto_statement, pause_statement, if_statement, fork_statement}
-use Rattle.scl_drafts.specs.Program.{Grows, name, semicolon, assigned, labelled, named, goto, pause, simple, block, test, choice, branch, fork}
-use Rattle.scl_drafts.specs.Program.{forking, statement, ifs_within, forks_within}
-use Rattle.scl_drafts.specs.Within.{inner_forks, inner_ifs, within}
+use Rattle.scl_reader.specs.declared.text_drafts.statement.TextStatement.{TextStatement}
+use Rattle.scl_reader.specs.Statements.{Statements, Becomes, IsLabel, named_statement, goto_statement, pause_statement, if_statement, fork_statement}
+use Rattle.scl_reader.specs.Program.{Grows, name, semicolon, assigned, labelled, named, goto, pause, simple, block, test, choice, branch, fork}
+use Rattle.scl_reader.specs.Program.{forking, statement, ifs_within, forks_within}
+use Rattle.scl_reader.specs.Within.{inner_forks, inner_ifs, within}
 use Rattle.scl_printer_laws.proofs.Lines.{named_at}
 use Rattle.scl_printer_laws.proofs.Cuts.{signed_at, worded_at}
 use Rattle.scl_printer_laws.proofs.Levels.{Fits}

@@ -3,17 +3,17 @@ use Rattle.std.proofs.Common.{◌≡◌, ℕ, ◌+◌, List, [], ◌∷◌, ◌+
 use Rattle.grammar.specs.Grammar.{each_spelled, spells}
 use Rattle.grammar.proofs.Each.{Every}
 use Rattle.sc_text.specs.declared.token.Token.{Token}
-use Rattle.drafts.specs.declared.parts.Declaration.{Declaration}
-use Rattle.drafts.specs.Flaws.{variable_names}
-use Rattle.drafts.specs.Resolved.{variables_of}
+use Rattle.sc_text.specs.declared.drafts.parts.Declaration.{Declaration}
+use Rattle.sc_text.specs.Flaws.{variable_names}
+use Rattle.sc_text.specs.Resolved.{variables_of}
 use Rattle.scl.specs.declared.statement.Statement.{Statement}
 use Rattle.scl.specs.Rules as rules
 use Rattle.scl.specs.Rules.{part_of}
 use Rattle.scl_printer.specs.Layout.{Piece, in_row, statement_text}
-use Rattle.scl_drafts.specs.declared.statement.TextStatement.{TextStatement}
-use Rattle.scl_drafts.specs.Flaws as flaws
-use Rattle.scl_drafts.specs.Program.{Grows}
-use Rattle.scl_drafts.specs.Within.{within}
+use Rattle.scl_reader.specs.declared.text_drafts.statement.TextStatement.{TextStatement}
+use Rattle.scl_reader.specs.Flaws as flaws
+use Rattle.scl_reader.specs.Program.{Grows}
+use Rattle.scl_reader.specs.Within.{within}
 use Rattle.scl_reader.specs.Resolved.{statement_of, statements_of}
 use Rattle.scl_printer_laws.proofs.Cuts.{Cuts, cuts_both, cuts_nothing}
 use Rattle.scl_printer_laws.proofs.ThreadParts.{Can, can_first, can_second, Like, like_nothing, like_both}

@@ -6,16 +6,16 @@ use Rattle.sc_values.specs.declared.expression.Expr.{Expr}
 use Rattle.sc_values.specs.declared.value.Kind.TheVariants as kind_is
 use Rattle.sc_graph.specs.Limits.{child_limit}
 use Rattle.sc_text.specs.Parts.{IsExpression}
-use Rattle.drafts.specs.declared.flaw.Flaw.{Flaw}
-use Rattle.drafts.specs.declared.parts.Declaration.{Declaration}
-use Rattle.drafts.specs.Resolved.{variables_of}
-use Rattle.drafts.proofs.Kinded.{kinds_of}
-use Rattle.drafts.proofs.Unflawed.{none_first, none_second}
-use Rattle.drafts.proofs.Distinct.{count, count_both}
+use Rattle.sc_text.specs.declared.drafts.flaw.Flaw.{Flaw}
+use Rattle.sc_text.specs.declared.drafts.parts.Declaration.{Declaration}
+use Rattle.sc_text.specs.Resolved.{variables_of}
+use Rattle.sc_text.proofs.Kinded.{kinds_of}
+use Rattle.sc_text.proofs.Unflawed.{none_first, none_second}
+use Rattle.sc_text.proofs.Distinct.{count, count_both}
 use Rattle.scl.specs.Rules as rules
 use Rattle.scl.specs.Rules.{IsAssignment}
-use Rattle.scl_drafts.specs.Flaws as flaws
-use Rattle.scl_drafts.specs.Flaws.{names, lost}
+use Rattle.scl_reader.specs.Flaws as flaws
+use Rattle.scl_reader.specs.Flaws.{names, lost}
 use Rattle.scl_reader.proofs.Pieces.{names_both, two_lists, both_empty}
 use Rattle.scl_printer_laws.specs.Reading.{CanWrite}
 use Rattle.scl_printer_laws.proofs.Lines.{CanName}

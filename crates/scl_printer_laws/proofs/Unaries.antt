@@ -25,7 +25,7 @@ use Rattle.sc_text.specs.Tokens.{number_limit}
 use Rattle.sc_text.specs.Phrases.{Phrase, prefixed, number_of, signed, is_there, division, division_of, divided}
 use Rattle.sc_text.specs.Expression.{text_tokens, within, unary, product, negation, disjunction, divisor}
 use Rattle.sc_text.specs.Levels.{divisions}
-use Rattle.drafts.specs.Resolved.{code_of}
+use Rattle.sc_text.specs.Resolved.{code_of}
 use Rattle.scl_printer.specs.declared.parentheses.Parentheses.{Parentheses}
 use Rattle.scl_printer.specs.Expressions.{Shown, Opens, one_more_if, operand, operand_opens, shown_step, opens_step}
 use Rattle.scl_printer_laws.specs.Reading.{CanWriteOperator}

@@ -16,7 +16,7 @@ use Rattle.sc_text.specs.Parts.{IsExpression}
 use Rattle.sc_text.specs.Phrases.{Phrase}
 use Rattle.sc_text.specs.Expression.{text_tokens, expression, open_limit, within}
 use Rattle.sc_text.proofs.Shapes.{expression_is as expression_shaped}
-use Rattle.drafts.specs.Resolved.{code_of}
+use Rattle.sc_text.specs.Resolved.{code_of}
 use Rattle.scl_printer.specs.declared.parentheses.Parentheses.{Parentheses}
 use Rattle.scl_printer.specs.Expressions.{shown, parentheses_of, expression_text}
 use Rattle.scl_printer_laws.specs.Reading.{names_of, CanWrite}

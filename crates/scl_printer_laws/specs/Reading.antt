@@ -19,8 +19,8 @@ use Rattle.sc_text.specs.Tokens.{AreTokens, IsReserved, number_limit}
 use Rattle.sc_text.specs.Parts.{IsExpression}
 use Rattle.sc_text.specs.Phrases.{Phrase}
 use Rattle.sc_text.specs.Expression.{expression}
-use Rattle.drafts.specs.Flaws.{place_among}
-use Rattle.drafts.specs.Resolved.{code_of}
+use Rattle.sc_text.specs.Flaws.{place_among}
+use Rattle.sc_text.specs.Resolved.{code_of}
 use Rattle.scl_printer.specs.Expressions.{expression_text}
 
 abbrev pub names_of : List Variable → List (List ℕ)

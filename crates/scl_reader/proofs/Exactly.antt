@@ -5,9 +5,9 @@ use Rattle.sc_text.specs.declared.read_fault.FaultKind.{FaultKind}
 use Rattle.sc_text.specs.declared.read_fault.ReadFault.{ReadFault}
 use Rattle.sc_text.specs.declared.read_fault.ReadFault.TheVariants as fault
 use Rattle.scl.specs.declared.program.Scl.{Scl}
-use Rattle.drafts.specs.Flaws.{variable_names}
-use Rattle.drafts.specs.Resolved.{variables_of}
-use Rattle.scl_drafts.specs.Checked.{IsTextFault}
+use Rattle.sc_text.specs.Flaws.{variable_names}
+use Rattle.sc_text.specs.Resolved.{variables_of}
+use Rattle.scl_reader.specs.Checked.{IsTextFault}
 use Rattle.scl_reader.specs.Read.{IsRead}
 use Rattle.scl_reader.specs.Resolved.{statements_of}
 use Rattle.scl_reader.specs.Laws.{AreAlike, IsExact}

@@ -4,3 +4,23 @@ pub mod Looking
 pub mod Reading
 mod OneSclAnswer
 pub mod Exactly
+pub mod Shapes
+pub mod Deepens
+pub mod Taking
+pub mod Names
+pub mod Values
+pub mod Single
+pub mod Choosing
+pub mod Blocks
+pub mod Forks
+pub mod Loops
+pub mod Declaring
+pub mod Programs
+pub mod Drafting
+pub mod Shaping
+pub mod ShapedDrafts
+pub mod RowsOfNames
+pub mod Labelled
+pub mod AllApart
+pub mod Surveyed
+pub mod Checking

@@ -1,17 +1,17 @@
 -- What each statement of a draft is, its names looked up.
 use Rattle.std.proofs.Common.{◌≡◌, ◌≤◌, ℕ, List, [], ◌∷◌, ◌++◌, drop, length, map, refl, sym, ap, ◌∙◌}
 use Rattle.std.proofs.lemmas.List.{append-nil}
-use Rattle.drafts.proofs.PartsInOrder.{drop_past}
-use Rattle.drafts.specs.declared.parts.Named.{Named}
-use Rattle.drafts.specs.declared.parts.TextExpression.{TextExpression}
-use Rattle.drafts.specs.Resolved.{number_of, expression_of}
+use Rattle.sc_text.proofs.PartsInOrder.{drop_past}
+use Rattle.sc_text.specs.declared.drafts.parts.Named.{Named}
+use Rattle.sc_text.specs.declared.drafts.parts.TextExpression.{TextExpression}
+use Rattle.sc_text.specs.Resolved.{number_of, expression_of}
 use Rattle.scl.specs.declared.statement.Statement.{Statement}
 use Rattle.scl.specs.declared.statement.Statement.TheVariants as statement
-use Rattle.scl_drafts.specs.declared.statement.TextStatement.{TextStatement}
-use Rattle.scl_drafts.specs.declared.statement.TextStatement.TheOpen as text
-use Rattle.scl_drafts.specs.declared.statement.TextStatement.TheVariants as written
-use Rattle.scl_drafts.specs.declared.statement.TextStatement.TheVariants.{rolls-Assign, rolls-Label, rolls-Goto, rolls-Pause, rolls-If, rolls-Fork}
-use Rattle.scl_drafts.specs.declared.statement.TextStatement.TheFolds.{fold-roll-TextStatement}
+use Rattle.scl_reader.specs.declared.text_drafts.statement.TextStatement.{TextStatement}
+use Rattle.scl_reader.specs.declared.text_drafts.statement.TextStatement.TheOpen as text
+use Rattle.scl_reader.specs.declared.text_drafts.statement.TextStatement.TheVariants as written
+use Rattle.scl_reader.specs.declared.text_drafts.statement.TextStatement.TheVariants.{rolls-Assign, rolls-Label, rolls-Goto, rolls-Pause, rolls-If, rolls-Fork}
+use Rattle.scl_reader.specs.declared.text_drafts.statement.TextStatement.TheFolds.{fold-roll-TextStatement}
 use Rattle.scl_reader.specs.Resolved.{resolved, statement_of, statements_of, branches_of}
 
 module _ (names : List (List ℕ)) where

@@ -6,14 +6,14 @@ use Rattle.sc_text.specs.declared.read_fault.ReadFault.TheVariants as fault
 use Rattle.sc_text.specs.Reading.{broken_by, place_of}
 use Rattle.sc_text.proofs.OneCut as cut
 use Rattle.sc_text.proofs.OneReading.{one_phrase, no_stop, one_stop}
-use Rattle.drafts.specs.First.{IsFirst}
-use Rattle.drafts.proofs.OneFirst.{one_first, no_first}
-use Rattle.scl_drafts.specs.declared.draft.Draft.{Draft}
-use Rattle.scl_drafts.specs.Program.{scl}
-use Rattle.scl_drafts.specs.Draft.{IsDraft, IsDraftFault, draft_of}
-use Rattle.scl_drafts.specs.Flaws.{scl_flaws}
-use Rattle.scl_drafts.specs.Checked.{IsTextFault}
-use Rattle.scl_drafts.proofs.Deepens.{is_language}
+use Rattle.sc_text.specs.First.{IsFirst}
+use Rattle.sc_text.proofs.OneFirst.{one_first, no_first}
+use Rattle.scl_reader.specs.declared.text_drafts.draft.Draft.{Draft}
+use Rattle.scl_reader.specs.Program.{scl}
+use Rattle.scl_reader.specs.Draft.{IsDraft, IsDraftFault, draft_of}
+use Rattle.scl_reader.specs.Flaws.{scl_flaws}
+use Rattle.scl_reader.specs.Checked.{IsTextFault}
+use Rattle.scl_reader.proofs.Deepens.{is_language}
 
 pub one_draft : (text : List ℕ) (d e : Draft) → IsDraft text d → IsDraft text e → d ≡ e
 one_draft text d e a b =

@@ -11,19 +11,19 @@ use Rattle.sc_values.specs.declared.value.Kind.TheVariants as kind_is
 use Rattle.sc_graph.specs.Limits.{child_limit}
 use Rattle.sc_text.specs.declared.read_fault.FaultKind.TheVariants as broken
 use Rattle.sc_text.specs.Parts.{IsExpression}
-use Rattle.drafts.specs.declared.flaw.Flaw.{Flaw}
-use Rattle.drafts.specs.declared.parts.Named.{Named}
-use Rattle.drafts.specs.declared.parts.Declaration.{Declaration}
-use Rattle.drafts.specs.Flaws.{flaw_if, first_or, place_among, is_among}
-use Rattle.drafts.specs.Resolved.{variables_of}
-use Rattle.drafts.proofs.Kinded.{kinds_of}
-use Rattle.drafts.proofs.Unflawed.{none_first, none_second, no_flaw, not_false}
-use Rattle.drafts.proofs.Distinct.{count, count_both}
+use Rattle.sc_text.specs.declared.drafts.flaw.Flaw.{Flaw}
+use Rattle.sc_text.specs.declared.drafts.parts.Named.{Named}
+use Rattle.sc_text.specs.declared.drafts.parts.Declaration.{Declaration}
+use Rattle.sc_text.specs.Flaws.{flaw_if, first_or, place_among, is_among}
+use Rattle.sc_text.specs.Resolved.{variables_of}
+use Rattle.sc_text.proofs.Kinded.{kinds_of}
+use Rattle.sc_text.proofs.Unflawed.{none_first, none_second, no_flaw, not_false}
+use Rattle.sc_text.proofs.Distinct.{count, count_both}
 use Rattle.scl.specs.Rules as rules
 use Rattle.scl.specs.Rules.{IsAssignment, is_in}
-use Rattle.scl_drafts.specs.Flaws as flaws
-use Rattle.scl_drafts.specs.Flaws.{names, lost}
-use Rattle.scl_drafts.specs.Shape as shapes
+use Rattle.scl_reader.specs.Flaws as flaws
+use Rattle.scl_reader.specs.Flaws.{names, lost}
+use Rattle.scl_reader.specs.Shape as shapes
 
 pub every_of : {A : Type 0} (P : A → Type 0) (xs : List A) → ((i : ℕ) (x : A) → slice_get xs i ≡ Some x → P x) → Every P xs
 every_of P [] h = tt

@@ -1,11 +1,11 @@
 -- A text whose draft is flawless spells the program of that draft.
 use Rattle.std.proofs.Common.{◌≡◌, ℕ, List, []}
 use Rattle.scl.specs.declared.program.Scl.{Scl}
-use Rattle.scl_drafts.specs.declared.draft.Draft.{Draft}
-use Rattle.scl_drafts.specs.Checked.{IsFlawless}
-use Rattle.scl_drafts.specs.Flaws.{scl_flaws}
-use Rattle.scl_drafts.specs.Shape.{IsShaped}
-use Rattle.scl_drafts.proofs.ShapedDrafts.{draft_is_shaped}
+use Rattle.scl_reader.specs.declared.text_drafts.draft.Draft.{Draft}
+use Rattle.scl_reader.specs.Checked.{IsFlawless}
+use Rattle.scl_reader.specs.Flaws.{scl_flaws}
+use Rattle.scl_reader.specs.Shape.{IsShaped}
+use Rattle.scl_reader.proofs.ShapedDrafts.{draft_is_shaped}
 use Rattle.scl_reader.specs.Resolved.{IsProgramOf}
 use Rattle.scl_reader.specs.Read.{IsRead}
 

@@ -10,17 +10,17 @@ use Rattle.sc_text.specs.declared.language.Language.TheVariants as language
 use Rattle.sc_text.specs.declared.read_fault.FaultKind.TheVariants as broken
 use Rattle.sc_text.specs.Parts.{IsExpression, are_distinct}
 use Rattle.sc_text.specs.Writable.{is_writable_operation}
-use Rattle.drafts.specs.declared.flaw.Flaw.{Flaw}
-use Rattle.drafts.specs.declared.parts.Named.{Named}
-use Rattle.drafts.specs.declared.parts.TextExpression.{TextExpression}
-use Rattle.drafts.specs.declared.parts.Declaration.{Declaration}
-use Rattle.drafts.specs.Flaws.{flaw_if, is_full, place_among, variable_names, variable_named, variable_flaws, expression_flaws, assigned_flaws}
-use Rattle.drafts.specs.Resolved.{number_of, expression_of, variables_of}
-use Rattle.drafts.proofs.Kinded.{kinds_of}
-use Rattle.drafts.proofs.Unflawed.{none_first, none_second, no_flaw, expression_is}
-use Rattle.drafts.proofs.Assigned.{IsAssigned, assigned_is}
-use Rattle.drafts.proofs.Distinct.{AreFirst, AreFirstBehind, no_more_names, one_more_name, all_first, count, first_distinct, distinct_once, once_distinct}
-use Rattle.drafts.proofs.Declared.{room_for_one, is_first, few_variables, variables_are}
+use Rattle.sc_text.specs.declared.drafts.flaw.Flaw.{Flaw}
+use Rattle.sc_text.specs.declared.drafts.parts.Named.{Named}
+use Rattle.sc_text.specs.declared.drafts.parts.TextExpression.{TextExpression}
+use Rattle.sc_text.specs.declared.drafts.parts.Declaration.{Declaration}
+use Rattle.sc_text.specs.Flaws.{flaw_if, is_full, place_among, variable_names, variable_named, variable_flaws, expression_flaws, assigned_flaws}
+use Rattle.sc_text.specs.Resolved.{number_of, expression_of, variables_of}
+use Rattle.sc_text.proofs.Kinded.{kinds_of}
+use Rattle.sc_text.proofs.Unflawed.{none_first, none_second, no_flaw, expression_is}
+use Rattle.sc_text.proofs.Assigned.{IsAssigned, assigned_is}
+use Rattle.sc_text.proofs.Distinct.{AreFirst, AreFirstBehind, no_more_names, one_more_name, all_first, count, first_distinct, distinct_once, once_distinct}
+use Rattle.sc_text.proofs.Declared.{room_for_one, is_first, few_variables, variables_are}
 use Rattle.scl.specs.declared.statement.Statement.{Statement}
 use Rattle.scl.specs.declared.statement.Statement.TheOpen as open_statement
 use Rattle.scl.specs.declared.statement.Statement.TheVariants as statement
@@ -30,16 +30,16 @@ use Rattle.scl.specs.Rules as rules
 use Rattle.scl.specs.declared.program.Scl.{Scl}
 use Rattle.scl.specs.Rules.{IsAssignment, KeepsRules, fork_limit, if_limit, part_of, parts_of}
 use Rattle.sc_graph.specs.declared.program.Variable.{Variable}
-use Rattle.scl_drafts.specs.declared.statement.TextStatement.{TextStatement}
-use Rattle.scl_drafts.specs.declared.statement.TextStatement.TheOpen.{TextStatement-F}
-use Rattle.scl_drafts.specs.declared.statement.TextStatement.TheOpen as text
-use Rattle.scl_drafts.specs.declared.statement.TextStatement.TheViews.{roll-TextStatement}
-use Rattle.scl_drafts.specs.declared.statement.TextStatement.TheFolds.{fold-roll-TextStatement, ind-TextStatement, map-TextStatement}
-use Rattle.scl_drafts.specs.declared.draft.Draft.{Draft}
-use Rattle.scl_drafts.specs.Flaws as flaws
-use Rattle.scl_drafts.specs.Flaws.{names, repeated, scl_flaws}
-use Rattle.scl_drafts.specs.Shape as shapes
-use Rattle.scl_drafts.specs.Shape.{IsShaped, shape, shape_of}
+use Rattle.scl_reader.specs.declared.text_drafts.statement.TextStatement.{TextStatement}
+use Rattle.scl_reader.specs.declared.text_drafts.statement.TextStatement.TheOpen.{TextStatement-F}
+use Rattle.scl_reader.specs.declared.text_drafts.statement.TextStatement.TheOpen as text
+use Rattle.scl_reader.specs.declared.text_drafts.statement.TextStatement.TheViews.{roll-TextStatement}
+use Rattle.scl_reader.specs.declared.text_drafts.statement.TextStatement.TheFolds.{fold-roll-TextStatement, ind-TextStatement, map-TextStatement}
+use Rattle.scl_reader.specs.declared.text_drafts.draft.Draft.{Draft}
+use Rattle.scl_reader.specs.Flaws as flaws
+use Rattle.scl_reader.specs.Flaws.{names, repeated, scl_flaws}
+use Rattle.scl_reader.specs.Shape as shapes
+use Rattle.scl_reader.specs.Shape.{IsShaped, shape, shape_of}
 use Rattle.scl_reader.specs.Resolved.{resolved, statement_of, statements_of, IsProgramOf}
 use Rattle.scl_reader.proofs.Pieces.{every_of, Sound, Ruled, Keeps, keeps_both, keeps_nothing, keeps_flaws, keeps_thread}
 

@@ -4,7 +4,7 @@ use Rattle.scl.specs.declared.program.Scl.{Scl}
 use Rattle.sc_text.specs.declared.read_fault.FaultKind.{FaultKind}
 use Rattle.sc_text.specs.declared.read_fault.ReadFault.{ReadFault}
 use Rattle.sc_text.specs.declared.read_fault.ReadFault.TheVariants as fault
-use Rattle.scl_drafts.specs.Checked.{IsTextFault}
+use Rattle.scl_reader.specs.Checked.{IsTextFault}
 use Rattle.scl_reader.specs.Read.{IsRead}
 
 -- two programs that are written alike

@@ -1,3 +1,12 @@
 pub mod Resolved
 pub mod Read
 pub mod Laws
+pub mod Statements
+pub mod Program
+pub mod DraftLaws
+pub mod Draft
+pub mod Shape
+pub mod Within
+pub mod Flaws
+pub mod Checked
+pub mod Inside

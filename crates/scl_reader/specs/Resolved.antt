@@ -1,15 +1,15 @@
 -- What a draft is once its names are looked up.
 use Rattle.std.specs.Prelude.{ℕ, ◌≡◌, List, map}
-use Rattle.drafts.specs.Flaws.{variable_names}
-use Rattle.drafts.specs.Resolved.{number_of, expression_of, variables_of}
+use Rattle.sc_text.specs.Flaws.{variable_names}
+use Rattle.sc_text.specs.Resolved.{number_of, expression_of, variables_of}
 use Rattle.scl.specs.declared.program.Scl.{Scl}
 use Rattle.scl.specs.declared.statement.Statement.{Statement}
 use Rattle.scl.specs.declared.statement.Statement.TheVariants as statement
-use Rattle.scl_drafts.specs.declared.statement.TextStatement.{TextStatement}
-use Rattle.scl_drafts.specs.declared.statement.TextStatement.TheOpen.{TextStatement-F}
-use Rattle.scl_drafts.specs.declared.statement.TextStatement.TheOpen as text
-use Rattle.scl_drafts.specs.declared.statement.TextStatement.TheFolds.{fold-TextStatement}
-use Rattle.scl_drafts.specs.declared.draft.Draft.{Draft}
+use Rattle.scl_reader.specs.declared.text_drafts.statement.TextStatement.{TextStatement}
+use Rattle.scl_reader.specs.declared.text_drafts.statement.TextStatement.TheOpen.{TextStatement-F}
+use Rattle.scl_reader.specs.declared.text_drafts.statement.TextStatement.TheOpen as text
+use Rattle.scl_reader.specs.declared.text_drafts.statement.TextStatement.TheFolds.{fold-TextStatement}
+use Rattle.scl_reader.specs.declared.text_drafts.draft.Draft.{Draft}
 
 abbrev pub resolved : (names : List (List ℕ)) → TextStatement-F Statement → Statement
 resolved names (text.Assign target value) = statement.Assign (number_of names target.name) (expression_of names value.operations)

@@ -1,14 +1,14 @@
 //! The program of a draft.
 
 ghost use Rattle.std.specs.Prelude.{◌≡◌, [], IfOk};
-ghost use Rattle.scl_drafts.specs.Flaws.{scl_flaws};
-ghost use Rattle.scl_drafts.specs.Shape.{IsShaped};
+ghost use Rattle.scl_reader.specs.Flaws.{scl_flaws};
+ghost use Rattle.scl_reader.specs.Shape.{IsShaped};
 ghost use Rattle.scl_reader.specs.Resolved.{IsProgramOf};
 
 use crate::statements::statements;
-use drafts::{Scope, variables};
+use crate::text_drafts::Draft;
+use sc_text::{Scope, variables};
 use scl::Scl;
-use scl_drafts::Draft;
 use std::alloc::{AllocError, Global};
 
 /// The program of a draft of the grammar, in which nothing is wrong. Err: memory was refused.

@@ -1,14 +1,14 @@
 //! Reading a text of SCL.
 
 ghost use Rattle.std.specs.Prelude.{IfErr, IfOk};
-ghost use Rattle.scl_drafts.specs.Checked.{IsTextFault};
+ghost use Rattle.scl_reader.specs.Checked.{IsTextFault};
 ghost use Rattle.scl_reader.specs.Laws.{IsExact};
 ghost use Rattle.scl_reader.specs.Read.{IsRead};
 
 use crate::program::program_of;
+use crate::text_drafts::read_checked;
 use sc_text::ReadFault;
 use scl::Scl;
-use scl_drafts::read_checked;
 use std::alloc::Global;
 
 /// The program that a text spells by the grammar of SCL and its rules, exactly where it spells one. Err: exactly where

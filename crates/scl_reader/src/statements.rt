@@ -2,12 +2,12 @@
 
 ghost use Rattle.std.specs.Prelude.{◌≡◌, ◌≤◌, IfOk, length, map};
 ghost use Rattle.sc_graph.specs.Limits.{variable_limit};
-ghost use Rattle.drafts.specs.Flaws.{variable_names};
+ghost use Rattle.sc_text.specs.Flaws.{variable_names};
 ghost use Rattle.scl_reader.specs.Resolved.{statement_of, statements_of};
 
-use drafts::Scope;
+use crate::text_drafts::TextStatement;
+use sc_text::Scope;
 use scl::Statement;
-use scl_drafts::TextStatement;
 use sqlite_items::Items;
 use std::alloc::{AllocError, Global};
 

@@ -8,7 +8,7 @@ use Rattle.embedded_machine.specs.declared.fault.MachineFault.{MachineFault}
 use Rattle.embedded_machine.specs.declared.fault.MachineFault.TheVariants as fault
 use Rattle.embedded_machine.specs.Refusals.{names_out, states_out}
 use Rattle.embedded_machine.specs.Ticks.{Holds, IsFirst, Resting, SpellValid}
-use Rattle.embedded_texts.specs.Texts.{IsNoImageOf, IsOpenedText}
+use Rattle.embedded_machine.specs.Texts.{IsNoImageOf, IsOpenedText}
 use Rattle.sct_c.specs.declared.Counts.{Counts}
 
 -- the status of each reason for which a machine refuses, as the header has them

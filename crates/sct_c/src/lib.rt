@@ -18,7 +18,7 @@ ghost use Rattle.embedded_machine.specs.Refusals.{
 };
 ghost use Rattle.embedded_machine.specs.Ticks.{Holds, IsFirst, ResetHeld, RestoredHeld, TickedHeld};
 ghost use Rattle.embedded_machine.specs.declared.fault.MachineFault.TheVariants as fault;
-ghost use Rattle.embedded_texts.specs.Texts.{SpellsItsImage};
+ghost use Rattle.embedded_machine.specs.Texts.{SpellsItsImage};
 ghost use Rattle.sct_c.specs.Told.{
   IsCounted,
   OpensImage,
@@ -31,10 +31,10 @@ ghost use Rattle.sct_c.specs.Told.{
 
 use command_files::LoadFault;
 use embedded_machine::{
-    MachineFault, MachineHandle, Opened, VariableRow, close, names_of, open_machine, put_beginning,
-    put_bytes, react, reset, restore, save, state_is_active, tell_names,
+    MachineFault, MachineHandle, Opened, VariableRow, close, image_of_text, names_of, open_machine,
+    opened_image, opened_text, put_beginning, put_bytes, react, reset, restore, save,
+    state_is_active, tell_names,
 };
-use embedded_texts::{image_of_text, opened_image, opened_text};
 use std::alloc::Global;
 
 // Statuses, as sct.h has them.

@@ -7,7 +7,7 @@ use Rattle.command_files.specs.Standing.{FileLacksSource}
 use Rattle.command_files.specs.Sources.{IsCompiledFrom}
 use Rattle.image_charts.proofs.TextImages.{no_compiled_in}
 use Rattle.image_charts.specs.Written.{IsNoTextBeside, MakesImage, MakesNoImage}
-use Rattle.line_causes.specs.declared.cause.Cause.{Cause}
+use Rattle.trace_lines.specs.declared.causes.cause.Cause.{Cause}
 use Rattle.simulation.specs.Lines as typed
 use Rattle.trace_player.specs.declared.player.PlayFault.{PlayFault}
 use Rattle.sct_command.specs.Simulating.{LacksModel, Simulates, StopsSimulation}

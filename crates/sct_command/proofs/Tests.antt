@@ -2,7 +2,7 @@
 use Rattle.std.proofs.Common.{◌≡◌, ◌≢◌, ℕ, Bool, List, Option, subst}
 use Rattle.std.specs.Io.KnownBytes.{Appends}
 use Rattle.command_files.specs.Files.{Contents}
-use Rattle.command_tests.specs.Run.{TriesTests}
+use Rattle.controller_tests.specs.Run.{TriesTests}
 use Rattle.sc_values.specs.Streams.{GrowsInto}
 use Rattle.sct_command.specs.Testing.{TestsFail, TestsPass, TestsTold}
 

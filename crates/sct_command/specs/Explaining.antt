@@ -12,7 +12,7 @@ use Rattle.command_files.specs.Sources.{IsCompiledFrom, FileLacksCompiled}
 use Rattle.command_files.specs.Standing.{BytesLackSource, HasSource}
 use Rattle.compiler.specs.FaultText.{fault_text}
 use Rattle.diagnostics.specs.Reports.{Tells, text_fault}
-use Rattle.fault_lists.specs.Reports.{TellsEach}
+use Rattle.diagnostics.specs.ListReports.{TellsEach}
 use Rattle.command_texts.specs.Summary.{summary_of}
 use Rattle.sct_command.specs.Warned.{IsWarned}
 use Rattle.sct_command.specs.Writing.{WritesPart, WritesSome}

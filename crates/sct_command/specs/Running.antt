@@ -5,7 +5,7 @@ use Rattle.command_words.specs.Said.{Rules as Asked}
 use Rattle.ruled_runs.specs.declared.fault.RuledFault.{RuledFault}
 use Rattle.ruled_runs.specs.declared.fault.RuledFault.TheVariants as run
 use Rattle.ruled_runs.specs.Runs.{RefusesRun, RunsBy}
-use Rattle.ruled_traces.specs.declared.rules.Rules.{Rules}
+use Rattle.ruled_runs.specs.declared.traces.rules.Rules.{Rules}
 use Rattle.sct_command.specs.declared.fault.Fault.{Fault}
 use Rattle.sct_command.specs.declared.fault.Fault.TheVariants as fault
 

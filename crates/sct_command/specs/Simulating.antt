@@ -5,7 +5,7 @@ use Rattle.command_files.specs.declared.fault.LoadFault.{LoadFault}
 use Rattle.command_files.specs.Files.{Contents, HasBytes}
 use Rattle.command_files.specs.Sources.{FileLacksCompiled, IsCompiledFrom}
 use Rattle.image_charts.specs.Written.{IsNoTextBeside, MakesImage}
-use Rattle.line_causes.specs.declared.cause.Cause.{Cause}
+use Rattle.trace_lines.specs.declared.causes.cause.Cause.{Cause}
 use Rattle.simulation.specs.Lines as typed
 use Rattle.trace_player.specs.declared.player.PlayFault.{PlayFault}
 use Rattle.sct_command.specs.declared.fault.Fault.{Fault}

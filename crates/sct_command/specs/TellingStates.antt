@@ -4,7 +4,7 @@ use Rattle.bytecode.specs.Image.{Image}
 use Rattle.command_files.specs.Files.{Contents}
 use Rattle.image_charts.specs.Charts.{NamedStates, state_words}
 use Rattle.image_charts.specs.Files.{FilesLackStates, HasStates}
-use Rattle.line_causes.specs.declared.cause.Cause.{Cause}
+use Rattle.trace_lines.specs.declared.causes.cause.Cause.{Cause}
 use Rattle.trace_player.specs.declared.player.PlayFault.{PlayFault}
 use Rattle.trace_player.specs.Trace.{Good}
 use Rattle.state_traces.specs.Trace.{Leaves, Plays, Words}

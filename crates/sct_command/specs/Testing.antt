@@ -3,7 +3,7 @@ use Rattle.std.specs.Prelude.{ℕ, ◌≡◌, ◌≢◌, Bool, Option, List}
 use Rattle.std.specs.Io.KnownBytes.{Appends}
 use Rattle.command_files.specs.declared.fault.LoadFault.TheVariants as load
 use Rattle.command_files.specs.Files.{Contents}
-use Rattle.command_tests.specs.Run.{TriesSome, TriesTests}
+use Rattle.controller_tests.specs.Run.{TriesSome, TriesTests}
 use Rattle.sc_values.specs.Streams.{GrowsInto}
 use Rattle.sct_command.specs.declared.fault.Fault.{Fault}
 use Rattle.sct_command.specs.declared.fault.Fault.TheVariants as fault

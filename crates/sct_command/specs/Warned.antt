@@ -2,8 +2,8 @@
 -- in that text, and of any other text those of the chart that it spells.
 use Rattle.std.specs.Prelude.{ℕ, ◌⊎◌, List}
 use Rattle.chart_texts.specs.FirstWord.{BeginsExtended}
-use Rattle.extended_warnings.specs.Reports.{IsToldOfAuthor}
-use Rattle.warning_texts.specs.Reports.{IsTold}
+use Rattle.chart_warnings.specs.ExtendedReports.{IsToldOfAuthor}
+use Rattle.chart_warnings.specs.Reports.{IsTold}
 
 -- what is written begins as the text of an extended chart
 pub record IsWarnedOfAuthor (name written told : List ℕ) : Type 0 where

@@ -1,8 +1,8 @@
 -- What is said of a fault in words, behind its line.
 use Rattle.std.specs.Prelude.{ℕ, ◌≡◌, ◌⊎◌, codes, Bool, true, Some, List, [], ◌∷◌, ◌++◌}
 use Rattle.trace_lines.specs.Lines.{line_feed}
-use Rattle.line_causes.specs.declared.cause.Cause.{Cause}
-use Rattle.line_causes.specs.Words.{cause_words}
+use Rattle.trace_lines.specs.declared.causes.cause.Cause.{Cause}
+use Rattle.trace_lines.specs.Words.{cause_words}
 use Rattle.trace_player.specs.FaultText.{play_fault_text}
 use Rattle.diagnostics.specs.Reports.{Tells}
 use Rattle.sct_command.specs.declared.fault.Fault.{Fault}

@@ -1,9 +1,9 @@
 //! The faults of the program.
 
 use command_files::LoadFault;
-use line_causes::Cause;
 use ruled_runs::RuledFault;
 use std::alloc::{AllocError, AllocFailed};
+use trace_lines::Cause;
 use trace_player::PlayFault;
 
 /// Why the program refuses. It prints as the fault line says it, after the program's name.

@@ -4,16 +4,14 @@ ghost use Rattle.std.specs.Prelude.{◌≡◌, IfOk, string_bytes};
 ghost use Rattle.std.specs.Str.{IsUtf8};
 ghost use Rattle.compiler.specs.FaultText.{fault_text};
 ghost use Rattle.diagnostics.specs.Reports.{Tells, text_fault};
-ghost use Rattle.fault_lists.specs.Reports.{TellsEach};
+ghost use Rattle.diagnostics.specs.ListReports.{TellsEach};
 ghost use Rattle.sct_command.specs.Explaining.{IsReport, TellsEachFlaw, told_fault};
 
 use chart_texts::begins_extended;
 use command_files::{LoadFault, shown_name};
-use compiler::CompileFault;
-use diagnostics::{author_fault_told, program_fault_told, told_nowhere};
-use fault_lists::faults_explained;
+use compiler::{CompileFault, ReadSource};
+use diagnostics::{author_fault_told, faults_explained, program_fault_told, told_nowhere};
 use sc_text::ReadFault;
-use source_programs::ReadSource;
 use std::alloc::{AllocError, Global};
 use std::str;
 

@@ -11,12 +11,12 @@ ghost use Rattle.trace_player.specs.Trace.{Good};
 use crate::fault::Fault;
 use command_files::Files;
 use image_charts::{ChartStates, load_states};
-use line_causes::{Lent, OfInput, Recent};
 use ruled_runs::cause_met;
 use sc_values::{Sink, Source};
 use state_traces::play_with;
 use std::alloc::Global;
 use std::marker::Brand;
+use trace_lines::{Lent, OfInput, Recent};
 use verifier::Verified;
 
 // Plays an input by an image with these states of its chart, and gives it back. Where words are wanted, the lines that

@@ -10,7 +10,7 @@ ghost use Rattle.sct_command.specs.Inside.Held.{IsHeldReport, written_in};
 
 use crate::report::report_of;
 use command_files::{Files, LoadFault, bytes_of, compile_read, reduced_source};
-use source_programs::ReadSource;
+use compiler::ReadSource;
 use sqlite_items::Boxed;
 use std::alloc::Global;
 use verifier::Verified;

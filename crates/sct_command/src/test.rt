@@ -7,7 +7,7 @@ ghost use Rattle.sct_command.specs.Testing.{RefusesTests, TestsPass};
 use crate::fault::Fault;
 use crate::writing::write_bytes;
 use command_files::Files;
-use command_tests::try_tests;
+use controller_tests::try_tests;
 use sc_values::Sink;
 use std::alloc::Global;
 

@@ -7,11 +7,10 @@ ghost use Rattle.sct_command.specs.Beside.{AreWarnings};
 ghost use Rattle.sct_command.specs.Warned.{IsWarned};
 
 use chart_texts::begins_extended;
+use chart_warnings::{author_warnings_told, warnings_told};
 use command_files::shown_name;
-use extended_warnings::author_warnings_told;
 use std::alloc::{AllocError, Global};
 use std::str;
-use warning_texts::warnings_told;
 
 // These bytes as text.
 fn text_in(bytes: &[u8]) -> &str

@@ -11,9 +11,9 @@ use bytecode::DecodeFault;
 use command_files::LoadFault;
 use compiler::CompileFault;
 use diagnostics::{program_fault_explained, told_nowhere};
-use line_causes::{Cause, cause_words};
 use sc_text::{FaultKind, ReadFault};
 use std::alloc::{AllocError, Global};
+use trace_lines::{Cause, cause_words};
 use trace_player::PlayFault;
 
 // Whose words they are.

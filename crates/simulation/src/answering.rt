@@ -11,11 +11,10 @@ use crate::session::Session;
 use crate::states::States;
 use crate::telling::told;
 use crate::words::{Command, object_of, said};
-use line_causes::{Cause, cause_of, cause_words};
 use sc_graph::Variable;
 use std::alloc::{AllocError, Global};
 use std::str;
-use trace_lines::LineFault;
+use trace_lines::{Cause, LineFault, cause_of, cause_words};
 
 const HELP: &str = "left: a tick in which the input left is true
 left=false level=7: a tick with these values

@@ -6,10 +6,10 @@ use Rattle.trace_player.specs.declared.player.PlayFault.{PlayFault}
 use Rattle.trace_player.specs.declared.player.PlayFault.TheVariants as play_fault
 use Rattle.trace_player.specs.Channels.{Seen}
 use Rattle.trace_player.specs.Trace.{End, Good, NoInputs, NoObject, greatest, next_number}
-use Rattle.played_lines.specs.Played as played
-use Rattle.played_lines.specs.Came as played_came
-use Rattle.played_lines.proofs.Coming.{none_came}
-use Rattle.played_lines.proofs.Failures.{none_failed, failed}
+use Rattle.trace_player.specs.Played as played
+use Rattle.trace_player.specs.Came as played_came
+use Rattle.trace_player.proofs.LineComing.{none_came}
+use Rattle.trace_player.proofs.LineFailures.{none_failed, failed}
 use Rattle.state_traces.specs.Trace.{Words, Goes, Trace, Plays, PlaysFirst, Leaves}
 use Rattle.state_traces.specs.Inside.Playing.{PlaysWhole, CameTo}
 use Rattle.state_traces.specs.Inside.Telling.{TellingSeen, Tells, Ends}

@@ -5,7 +5,7 @@ ghost use Rattle.std.specs.Result.{IsErrOf};
 ghost use Rattle.sc_graph.specs.Tick.{Rests, AreAccepted};
 ghost use Rattle.trace_lines.specs.Lines.{line_limit};
 ghost use Rattle.trace_player.specs.Trace.{EndsAt, Reacts};
-ghost use Rattle.played_lines.specs.Played.{Tells};
+ghost use Rattle.trace_player.specs.Played.{Tells};
 ghost use Rattle.state_traces.specs.Trace.{Shows};
 
 use crate::line::write_line;

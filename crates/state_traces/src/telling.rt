@@ -6,11 +6,10 @@ ghost use Rattle.state_traces.specs.Inside.Playing.{CameTo};
 
 use crate::session::react;
 use crate::words::Words;
-use played_lines::{LinePlayer, play_from};
 use std::alloc::{AllocError, Global};
 use tick_core::{Control, TickSpace};
 use trace_lines::{Interface, LineRoom};
-use trace_player::{Channels, PlayFault, next_number};
+use trace_player::{Channels, LinePlayer, PlayFault, next_number, play_from};
 use verifier::Verified;
 
 /// Plays lines to the ticks of an image, and tells of each more words for the configuration in which it ends.

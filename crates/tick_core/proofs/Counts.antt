@@ -1,7 +1,7 @@
 -- What the rows and the number of open claims are after a claim was opened or closed, or a step was taken.
 use Rattle.std.proofs.Common.{◌≡◌, ◌≢◌, ℕ, ◌+◌, ◌<◌, ◌⊎◌, List, length, Option, Some, None, slice_get, slice_set, sym, ap, subst, ◌∙◌, inl, inr, arith}
 use Rattle.std.specs.Prelude.{count_by, is_some}
-use Rattle.buckets.specs.Rows.{Rows}
+use Rattle.tick_core.specs.Rows.{Rows}
 use Rattle.sc_graph.specs.declared.control.Control.{Control}
 use Rattle.sc_graph.specs.declared.tables.Tables.{Tables}
 use Rattle.sc_graph.specs.Program.{Program}

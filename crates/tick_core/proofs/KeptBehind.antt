@@ -3,7 +3,7 @@ use Rattle.std.proofs.Common.{◌≡◌, ◌∙◌, ◌<◌, ℕ, List, length, 
 use Rattle.std.proofs.Common.{arith}
 use Rattle.std.specs.Prelude.{IsSome, count_by, is_some, option_and_then}
 use Rattle.sc_values.specs.Code.{code_value}
-use Rattle.buckets.specs.Rows.{Rows, HasRoom}
+use Rattle.tick_core.specs.Rows.{Rows, HasRoom}
 use Rattle.sc_graph.specs.declared.control.Control.{Control}
 use Rattle.sc_graph.specs.declared.control.Status.{Status}
 use Rattle.sc_graph.specs.declared.control.Status.TheVariants as status

@@ -4,7 +4,7 @@ use Rattle.std.proofs.Common.{subst, inl, inr, ⊎_elim, arith}
 use Rattle.std.specs.Prelude.{◌↔◌, IfSome, IsTrue, MatchOption, replicate}
 use Rattle.std.proofs.lemmas.Option.{slice_get_within, same_Some, get_or_from_slice_get}
 use Rattle.std.proofs.lemmas.List.{length-replicate, get_or-replicate}
-use Rattle.buckets.specs.Rows.{Rows, IsIn, IsRow, AreEmpty, IsFirst, HasRooms}
+use Rattle.tick_core.specs.Rows.{Rows, IsIn, IsRow, AreEmpty, IsFirst, HasRooms}
 use Rattle.sc_values.specs.Runs.{IsOver}
 use Rattle.sc_graph.specs.declared.control.Status.{Status}
 use Rattle.sc_graph.specs.declared.tables.Tables.{Tables}

@@ -34,3 +34,11 @@ pub mod Replaying
 pub mod Forbidding
 pub mod OneJudgement
 pub mod JudgedBySteps
+pub mod Lists
+pub mod Classes
+pub mod Entering
+pub mod Leaving
+pub mod Moving
+mod Reading
+pub mod Counting
+pub mod Fitting

@@ -5,7 +5,7 @@ use Rattle.std.specs.Prelude.{count_by, not}
 use Rattle.std.specs.List.{list_all}
 use Rattle.std.proofs.lemmas.List.Sums.{sum_by-cons}
 use Rattle.std.proofs.lemmas.Option.{same_Some}
-use Rattle.buckets.proofs.Lists.{counts_one, index_same, index_other}
+use Rattle.tick_core.proofs.Lists.{counts_one, index_same, index_other}
 use Rattle.sc_graph.specs.declared.control.Control.{Control}
 use Rattle.sc_graph.specs.declared.control.Status.{Status}
 use Rattle.sc_graph.specs.declared.control.Status.TheVariants as status

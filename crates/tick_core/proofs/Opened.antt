@@ -3,7 +3,7 @@ use Rattle.std.proofs.Common.{◌≡◌, ◌≢◌, ℕ, zero, suc, ◌+◌, ◌
 use Rattle.std.proofs.Common.{refl, sym, ap, inl, inr, ⊎_elim, arith}
 use Rattle.std.specs.Prelude.{count_by, is_some}
 use Rattle.std.proofs.lemmas.List.Sums.{sum_by-cons}
-use Rattle.buckets.proofs.Lists.{count_set, counts_one}
+use Rattle.tick_core.proofs.Lists.{count_set, counts_one}
 use Rattle.tick_laws.proofs.Lists.{slice_get_there}
 use Rattle.tick_core.specs.Claims.{Claim}
 

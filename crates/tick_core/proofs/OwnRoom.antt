@@ -2,9 +2,9 @@
 use Rattle.std.proofs.Common.{◌≡◌, ◌≢◌, ℕ, ◌<◌, ◌≤◌, ◌⊎◌, Bool, true, false, List, length, length-set, set, Option, Some, None, slice_get, slice_set, refl, sym}
 use Rattle.std.proofs.Common.{subst, ◌∙◌, inl, inr, arith}
 use Rattle.std.proofs.lemmas.Option.{slice_get_within, same_Some}
-use Rattle.buckets.specs.Rows.{Rows, IsIn, HasRoom, members}
-use Rattle.buckets.proofs.Fitting.{Owns, fits_in}
-use Rattle.buckets.proofs.Classes.{entered, left}
+use Rattle.tick_core.specs.Rows.{Rows, IsIn, HasRoom, members}
+use Rattle.tick_core.proofs.Fitting.{Owns, fits_in}
+use Rattle.tick_core.proofs.Classes.{entered, left}
 use Rattle.sc_graph.specs.declared.program.Node.{Node}
 use Rattle.sc_graph.specs.declared.control.Control.{Control}
 use Rattle.sc_graph.specs.declared.tables.Tables.{Tables}

@@ -3,7 +3,7 @@
 use Rattle.std.proofs.Common.{◌≡◌, ◌≢◌, ℕ, ◌+◌, ◌<◌, ◌⊎◌, ◌&&◌, Bool, false, List, [], ◌∷◌, length, length-set, All, Option, Some, None, slice_get, slice_set}
 use Rattle.std.proofs.Common.{Contains, refl, sym, ap, subst, ◌∙◌, inl, inr, ⊎_elim, arith}
 use Rattle.std.specs.List.{list_all}
-use Rattle.buckets.specs.Rows.{Rows}
+use Rattle.tick_core.specs.Rows.{Rows}
 use Rattle.sc_graph.specs.declared.program.Step.{Step}
 use Rattle.sc_graph.specs.declared.program.Step.TheVariants as steps
 use Rattle.sc_graph.specs.declared.control.Control.{Control}

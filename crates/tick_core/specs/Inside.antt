@@ -8,3 +8,4 @@ pub mod ShortCodes
 pub mod Onward
 pub mod Waking
 pub mod Astir
+pub mod Places

@@ -11,3 +11,4 @@ pub mod Parked
 pub mod FaultText
 pub mod Judging
 pub mod Inside
+pub mod Rows

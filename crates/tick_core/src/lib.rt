@@ -1,6 +1,8 @@
-//! The tick machine: ticks of a verified image, step by step, in priority order and within its budget.
+//! The tick machine: ticks of a verified image, step by step, in priority order and within its budget. Enabled
+//! threads stand in rows by priority (`buckets`).
 #![tactic(auto)]
 
+mod buckets;
 mod claim;
 mod copying;
 mod enabled;
@@ -27,6 +29,7 @@ mod stepping;
 mod there;
 mod waking;
 
+pub use buckets::Rows;
 pub use claim::{Claim, Done, evaluate};
 pub use copying::copied;
 pub use events::{all_ticks_end_alike, every_order_replays};

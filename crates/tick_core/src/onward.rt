@@ -2,7 +2,7 @@
 
 ghost use Rattle.std.specs.Prelude.{◌≡◌, ◌<◌, IfSome, length, slice_set};
 ghost use Rattle.std.specs.Bool.{OnTrue};
-ghost use Rattle.buckets.specs.Rows.{HasRoom};
+ghost use Rattle.tick_core.specs.Rows.{HasRoom};
 ghost use Rattle.sc_graph.specs.Control.{status_of};
 ghost use Rattle.sc_graph.specs.Tick.{IsConfiguration};
 ghost use Rattle.sc_graph.specs.Valid.{IsValid};
@@ -13,13 +13,13 @@ ghost use Rattle.tick_core.specs.Space.Sorting.{AreOpen, OwnRows, children_at, r
 ghost use Rattle.tick_core.specs.Space.Sorting.{ended_parent, sorted_all};
 ghost use Rattle.tick_core.specs.Inside.Onward.{MayStep, Goes, LeadsOn, StaysAt, own_row};
 
+use crate::buckets::Rows;
 use crate::joins::Joins;
 use crate::kept_claim::KeptClaim;
 use crate::listed::Listed;
 use crate::living::count_after;
 use crate::sorting::{children_at, sort_after};
 use crate::stepping::take_step;
-use buckets::Rows;
 use sc_graph::{Control, Program, Status, Tables, ThreadId};
 use sc_values::Value;
 

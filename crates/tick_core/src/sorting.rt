@@ -10,14 +10,14 @@ ghost use Rattle.tick_core.specs.Space.Living.{CountsLiving};
 ghost use Rattle.tick_core.specs.Space.Sorting.{AreOpen, OwnRows, AreSorted, step_priority, ready_row, sorted_one};
 ghost use Rattle.tick_core.specs.Space.Sorting.{sorted_parent, ended_parent, sorted_all, children_at, NodePriorities};
 ghost use Rattle.tick_core.specs.Space.Sorting.{StandSorted};
-ghost use Rattle.buckets.specs.Rows.{AreEmpty};
+ghost use Rattle.tick_core.specs.Rows.{AreEmpty};
 ghost use Rattle.tick_core.specs.Inside.Astir.{AstirListed};
 ghost use Rattle.tick_core.specs.Inside.Waking.{EntersRow, NobodyElse};
 
+use crate::buckets::Rows;
 use crate::joins::Joins;
 use crate::kept_claim::KeptClaim;
 use crate::living::left;
-use buckets::Rows;
 use sc_graph::{Control, Program, Status, Step, Tables, ThreadId};
 use std::alloc::{AllocError, Global};
 use verifier::Verified;

@@ -23,6 +23,7 @@ mod parking;
 mod running;
 mod taking;
 
+use crate::buckets::Rows;
 use crate::claim::Claim;
 use crate::copying::copied;
 use crate::given::Given;
@@ -34,7 +35,6 @@ use crate::listed::Listed;
 use crate::sorting::rows_of;
 use crate::started_twice::start_twice;
 use crate::starting::start;
-use buckets::Rows;
 use bytecode::Image;
 pub(crate) use ending::present_value;
 pub(crate) use first_rows::kinds_of;

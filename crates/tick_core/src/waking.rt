@@ -12,9 +12,9 @@ ghost use Rattle.tick_core.specs.Space.Living.{living, CountsLiving};
 ghost use Rattle.tick_core.specs.Space.Sorting.{OwnRows, StandSorted, step_priority};
 ghost use Rattle.tick_core.specs.Inside.Waking.{IsPassedBy};
 
+use crate::buckets::Rows;
 use crate::joins::Joins;
 use crate::living::waited_for;
-use buckets::Rows;
 use sc_graph::{Control, Program, Status, Tables};
 
 /// Counts for each thread that waits how many of the children for whom it waits have not ended, and puts each

@@ -11,3 +11,7 @@ pub mod Standing
 pub mod Turns
 pub mod AddedInputs
 pub mod KeptLines
+pub mod Behind
+pub mod CauseGiven
+pub mod Lacking
+mod Missed

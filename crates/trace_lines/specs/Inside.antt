@@ -5,3 +5,4 @@ pub mod Named
 pub mod Ordered
 pub mod Rows
 pub mod Kept
+pub mod Causes

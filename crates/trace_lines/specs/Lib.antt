@@ -3,3 +3,8 @@ pub mod Lines
 pub mod Output
 pub mod Reader
 pub mod Inside
+pub mod Cause
+pub mod Met
+pub mod Missing
+pub mod Recent
+pub mod Words

@@ -1,7 +1,8 @@
-//! The lines of a trace: how an input is cut into lines, what a line gives to inputs, and what a line of
-//! output shows.
+//! The lines of a trace: how an input is cut into lines, what a line gives to inputs or why it gives nothing, and what
+//! a line of output shows.
 #![tactic(auto)]
 
+mod causes;
 mod expected;
 mod giving;
 mod inputs;
@@ -16,6 +17,9 @@ mod ordered;
 mod output;
 mod outputs;
 
+pub use causes::{
+    Cause, Lent, Line, Met, OfInput, Recent, cause_of, cause_on, cause_under, cause_words,
+};
 pub use interface::Interface;
 pub use line::{LineFault, object_of};
 pub use line_reader::LineReader;

@@ -10,3 +10,6 @@ pub mod Resting
 pub mod Splits
 pub mod Took
 pub mod Turning
+pub mod LineComing
+pub mod LineFailures
+mod Played

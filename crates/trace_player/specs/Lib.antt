@@ -4,3 +4,5 @@ pub mod Trace
 pub mod Published
 pub mod Unread
 pub mod Inside
+pub mod Played
+pub mod Came

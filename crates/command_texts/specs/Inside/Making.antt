@@ -4,7 +4,7 @@ use Rattle.std.specs.Str.{IsUtf8}
 use Rattle.sc_graph.specs.Program.{Program}
 use Rattle.command_files.specs.declared.fault.LoadFault.{LoadFault}
 use Rattle.command_files.specs.Standing.{BytesLackSource, StandsFor}
-use Rattle.source_programs.specs.Graphs.{Makes}
+use Rattle.compiler.specs.Graphs.{Makes}
 use Rattle.command_texts.specs.Listing.{BytesLackPlaces}
 
 -- these bytes stand for a text that makes this program

@@ -4,7 +4,7 @@ use Rattle.core_charts.specs.Chart.{Chart}
 use Rattle.author_states.specs.Author.{AuthorsStates}
 use Rattle.bytecode.specs.Image.{Image}
 use Rattle.compiler.specs.Charts.{ChartLacksImage}
-use Rattle.chart_elements.specs.Paths.{paths_of}
+use Rattle.core_charts.specs.Paths.{paths_of}
 use Rattle.compiled_charts.specs.Compiled.{CompiledChart, IsCompiledChart}
 use Rattle.command_files.specs.declared.fault.LoadFault.{LoadFault}
 use Rattle.command_files.specs.declared.fault.LoadFault.TheVariants as fault

@@ -1,8 +1,8 @@
 //! What is told of a text of an extended chart: the chart to which it is reduced, laid out.
 
 use crate::answers::Answers;
-use chart_printer::chart_text;
 use chart_reduction::{ReduceFault, reduce};
+use chart_texts::chart_text;
 use extended_charts::ExtendedChart;
 use extended_reader::read_extended;
 use sc_text::ReadFault;

@@ -3,10 +3,9 @@
 use crate::answers::Answers;
 use crate::charts::reducing::{is_extended, tell_extended};
 use abort_expansion::{ExpandFault, StateMap, expand};
-use chart_places::{Placed, Places, read_placed};
-use chart_printer::chart_text;
-use chart_texts::core_text;
+use chart_texts::{chart_text, core_text};
 use core_charts::Chart;
+use node_sources::{Placed, Places, read_placed};
 use sc_text::ReadFault;
 use std::alloc::{AllocError, Global};
 

@@ -4,9 +4,9 @@ use Rattle.bytecode.specs.Image.{Image}
 use Rattle.command_files.specs.declared.fault.LoadFault.{LoadFault}
 use Rattle.command_files.specs.Files.{Contents}
 use Rattle.trace_player.specs.Trace.{Good}
-use Rattle.ruled_traces.specs.declared.place.RunPlace.{RunPlace}
-use Rattle.ruled_traces.specs.declared.rules.Rules.{Rules}
-use Rattle.ruled_traces.specs.Trace.{Leaves, Plays}
+use Rattle.ruled_runs.specs.declared.traces.place.RunPlace.{RunPlace}
+use Rattle.ruled_runs.specs.declared.traces.rules.Rules.{Rules}
+use Rattle.ruled_runs.specs.Trace.{Leaves, Plays}
 use Rattle.ruled_runs.specs.Met.{IsMet}
 use Rattle.ruled_runs.specs.Places.{IsKept, IsNotKept}
 use Rattle.ruled_runs.specs.declared.fault.RuledFault.{RuledFault}

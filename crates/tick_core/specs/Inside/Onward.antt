@@ -1,6 +1,6 @@
 -- A step with the rows and counts that it leaves, and the steps that concern their own thread alone.
 use Rattle.std.specs.Prelude.{ℕ, ◌≡◌, ◌<◌, IsSome, None, Some, List, [], Option, length, slice_get, slice_set}
-use Rattle.buckets.specs.Rows.{Rows, IsIn}
+use Rattle.tick_core.specs.Rows.{Rows, IsIn}
 use Rattle.sc_values.specs.declared.value.Value.{Value}
 use Rattle.sc_graph.specs.declared.program.Step.{Step}
 use Rattle.sc_graph.specs.declared.program.Step.TheVariants as of_node

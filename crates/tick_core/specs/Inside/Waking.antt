@@ -1,6 +1,6 @@
 -- How far the threads are counted and sorted as a tick begins.
 use Rattle.std.specs.Prelude.{ℕ, ◌≡◌, ◌<◌, ◌≤◌, ◌⊎◌, Bool, Some, List, IsTrue, length, slice_get, slice_index}
-use Rattle.buckets.specs.Rows.{Rows, IsIn}
+use Rattle.tick_core.specs.Rows.{Rows, IsIn}
 use Rattle.sc_graph.specs.declared.control.Control.{Control}
 use Rattle.sc_graph.specs.declared.control.Status.{Status}
 use Rattle.sc_graph.specs.declared.control.Status.TheVariants as status

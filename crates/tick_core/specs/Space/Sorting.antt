@@ -1,7 +1,7 @@
 -- Threads in rows by the priority at which they can step, and be claimed.
 use Rattle.std.specs.Prelude.{ℕ, ◌≡◌, ◌<◌, Bool, true, false, Option, Some, None, List, [], ◌∷◌, length, slice_get, slice_index, slice_set}
 use Rattle.std.specs.Prelude.{count_by, is_some}
-use Rattle.buckets.specs.Rows.{Rows, IsIn, HasRooms}
+use Rattle.tick_core.specs.Rows.{Rows, IsIn, HasRooms}
 use Rattle.sc_graph.specs.declared.program.Step.{Step}
 use Rattle.sc_graph.specs.declared.program.Step.TheVariants as step
 use Rattle.sc_graph.specs.declared.control.Control.{Control}

@@ -5,13 +5,13 @@ ghost use Rattle.tick_core.specs.Parked.{IsSpaceOf};
 ghost use Rattle.tick_core.specs.Space.Joins.{FindsForks};
 ghost use Rattle.tick_core.specs.Space.Sorting.{OwnRows};
 
+use crate::buckets::Rows;
 use crate::given::Given;
 use crate::history::Entry;
 use crate::joins::Joins;
 use crate::kept_claim::KeptClaim;
 use crate::state::TickSpace;
 use crate::state::first_rows::{kinds_of, no_claims};
-use buckets::Rows;
 use sc_graph::{Control, ThreadId};
 use sc_values::Kind;
 use sqlite_items::Items;

@@ -1,5 +1,5 @@
 use Rattle.std.proofs.Common.{◌≡◌, ◌++◌, map, drop, string_bytes}
-use Rattle.chart_elements.specs.Paths.{beside}
+use Rattle.core_charts.specs.Paths.{beside}
 use Rattle.author_states.specs.Paths.{paths_of_region, paths_of_state}
 use Rattle.author_states.proofs.paths.+paths.Given as goal
 

@@ -1,7 +1,7 @@
 use Rattle.std.proofs.Common.{◌≡◌, IfOk, List, subst, ◌∙◌}
-use Rattle.drafts.specs.declared.parts.Declaration.{Declaration}
-use Rattle.drafts.specs.Flaws.{variable_names}
-use Rattle.chart_drafts.specs.declared.draft.DraftRegion.{DraftRegion}
+use Rattle.sc_text.specs.declared.drafts.parts.Declaration.{Declaration}
+use Rattle.sc_text.specs.Flaws.{variable_names}
+use Rattle.chart_reader.specs.declared.text_drafts.draft.DraftRegion.{DraftRegion}
 use Rattle.chart_reader.specs.Resolved.{regions_of}
 use Rattle.chart_reader.proofs.Narrow.{narrow}
 use Rattle.chart_reader.proofs.chart.all_regions.Goals as goal

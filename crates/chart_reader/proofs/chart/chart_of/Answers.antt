@@ -1,5 +1,5 @@
 use Rattle.std.proofs.Common.{refl, ◌∙◌, ap}
-use Rattle.drafts.specs.Resolved.{variables_of}
+use Rattle.sc_text.specs.Resolved.{variables_of}
 use Rattle.chart_reader.proofs.Whole.{parts_are, parts_kept}
 use Rattle.chart_reader.proofs.chart.chart_of.Goals as goal
 

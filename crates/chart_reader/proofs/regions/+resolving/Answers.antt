@@ -1,5 +1,5 @@
 use Rattle.std.proofs.Common.{rules}
-use Rattle.drafts.specs.Flaws.{variable_names}
+use Rattle.sc_text.specs.Flaws.{variable_names}
 use Rattle.chart_reader.proofs.Inner.{states_few, regions_narrow, none_put}
 use Rattle.chart_reader.proofs.regions.+resolving.Goals as goal
 

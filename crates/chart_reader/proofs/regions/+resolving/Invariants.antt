@@ -1,6 +1,6 @@
 use Rattle.std.proofs.Common.{◌≡◌, ◌++◌, ◌+◌, ◌*◌, drop}
-use Rattle.drafts.specs.Flaws.{variable_names}
-use Rattle.chart_drafts.specs.Flaws.{state_names}
+use Rattle.sc_text.specs.Flaws.{variable_names}
+use Rattle.chart_reader.specs.Flaws.{state_names}
 use Rattle.chart_reader.specs.Resolved.{regions_of, states_of}
 use Rattle.chart_reader.proofs.regions.+resolving.Given as goal
 

@@ -1,5 +1,5 @@
 use Rattle.std.proofs.Common.{◌≡◌, ◌++◌, map, drop}
-use Rattle.drafts.specs.Flaws.{variable_names}
+use Rattle.sc_text.specs.Flaws.{variable_names}
 use Rattle.chart_reader.specs.Resolved.{effect_of}
 use Rattle.chart_reader.proofs.transitions.put_effects.Given as goal
 

@@ -1,6 +1,6 @@
 use Rattle.std.proofs.Common.{◌≡◌, ◌++◌, map, drop}
-use Rattle.drafts.specs.Flaws.{variable_names}
-use Rattle.chart_drafts.specs.Flaws.{state_names}
+use Rattle.sc_text.specs.Flaws.{variable_names}
+use Rattle.chart_reader.specs.Flaws.{state_names}
 use Rattle.chart_reader.specs.Resolved.{transition_of}
 use Rattle.chart_reader.proofs.transitions.put_transitions.Given as goal
 

@@ -1,5 +1,5 @@
 use Rattle.std.proofs.Common.{◌≡◌, ◌++◌, map, drop}
-use Rattle.chart_elements.specs.Elements.{row}
+use Rattle.core_charts.specs.Elements.{row}
 use Rattle.chart_reduction.specs.Rows.{states_in_region, states_in_state}
 use Rattle.chart_reduction.proofs.rows.+states.Given as goal
 

@@ -1,5 +1,5 @@
 use Rattle.std.proofs.Common.{◌≡◌, ◌++◌, drop}
-use Rattle.drafts.specs.Flaws.{variable_names}
+use Rattle.sc_text.specs.Flaws.{variable_names}
 use Rattle.extended_reader.specs.Resolved.{actions_of}
 use Rattle.extended_reader.proofs.actions.put_word_actions.Given as goal
 

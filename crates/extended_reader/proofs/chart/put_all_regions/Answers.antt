@@ -1,9 +1,9 @@
 use Rattle.std.proofs.Common.{◌≡◌, OnOk, List, ◌++◌, map, subst, sym, ap, ◌∙◌}
-use Rattle.drafts.specs.Flaws.{variable_names}
+use Rattle.sc_text.specs.Flaws.{variable_names}
 use Rattle.core_charts.specs.Rules.{depth_limit}
-use Rattle.chart_drafts.specs.declared.draft.DraftRegion.{DraftRegion}
+use Rattle.chart_reader.specs.declared.text_drafts.draft.DraftRegion.{DraftRegion}
 use Rattle.chart_reader.specs.Narrow.{AreNarrow}
-use Rattle.extended_drafts.specs.declared.draft.DraftRows.{DraftRows}
+use Rattle.extended_reader.specs.declared.text_drafts.draft.DraftRows.{DraftRows}
 use Rattle.extended_reader.specs.Resolved.{all_regions, region_of, rows_of}
 use Rattle.extended_reader.proofs.chart.put_all_regions.Goals as goal
 

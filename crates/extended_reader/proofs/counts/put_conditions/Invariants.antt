@@ -1,5 +1,5 @@
 use Rattle.std.proofs.Common.{◌≡◌, ◌++◌, drop}
-use Rattle.drafts.specs.Flaws.{variable_names}
+use Rattle.sc_text.specs.Flaws.{variable_names}
 use Rattle.extended_reader.specs.Counts.{conditions}
 use Rattle.extended_reader.proofs.counts.put_conditions.Given as goal
 

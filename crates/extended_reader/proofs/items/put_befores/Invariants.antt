@@ -1,5 +1,5 @@
 use Rattle.std.proofs.Common.{◌≡◌, ◌++◌, map, drop}
-use Rattle.drafts.specs.Flaws.{variable_names}
+use Rattle.sc_text.specs.Flaws.{variable_names}
 use Rattle.extended_reader.specs.declared.sorts.Sort.TheVariants as sort
 use Rattle.extended_reader.specs.Items.{all_of, before_of}
 use Rattle.extended_reader.proofs.items.put_befores.Given as goal

@@ -1,5 +1,5 @@
 use Rattle.std.proofs.Common.{◌≡◌, ◌++◌, drop}
-use Rattle.drafts.specs.Flaws.{variable_names}
+use Rattle.sc_text.specs.Flaws.{variable_names}
 use Rattle.extended_reader.specs.Items.{signal_numbers}
 use Rattle.extended_reader.proofs.items.put_signals.Given as goal
 

@@ -1,6 +1,6 @@
 use Rattle.std.proofs.Common.{◌≡◌, ◌++◌, ◌+◌, ◌*◌, map, drop}
-use Rattle.drafts.specs.Flaws.{variable_names}
-use Rattle.chart_drafts.specs.Flaws.{state_names}
+use Rattle.sc_text.specs.Flaws.{variable_names}
+use Rattle.chart_reader.specs.Flaws.{state_names}
 use Rattle.extended_reader.specs.Inside.{rows_in}
 use Rattle.extended_reader.specs.Resolved.{region_of, state_of, all_regions, behind_regions, all_states, behind_states}
 use Rattle.extended_reader.proofs.regions.+resolving.Given as goal

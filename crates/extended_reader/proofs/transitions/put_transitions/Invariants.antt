@@ -1,6 +1,6 @@
 use Rattle.std.proofs.Common.{◌≡◌, ◌++◌, drop}
-use Rattle.drafts.specs.Flaws.{variable_names}
-use Rattle.chart_drafts.specs.Flaws.{state_names}
+use Rattle.sc_text.specs.Flaws.{variable_names}
+use Rattle.chart_reader.specs.Flaws.{state_names}
 use Rattle.extended_reader.specs.Inside.{rows_in}
 use Rattle.extended_reader.specs.Resolved.{all_transitions, behind_transitions}
 use Rattle.extended_reader.proofs.transitions.put_transitions.Given as goal

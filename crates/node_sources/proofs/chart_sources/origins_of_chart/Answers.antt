@@ -1,4 +1,4 @@
-use Rattle.chart_places.specs.Read.{IsPlaced}
+use Rattle.node_sources.specs.Read.{IsPlaced}
 use Rattle.node_sources.proofs.ChartsTold.{all_sourced, placed_in}
 use Rattle.node_sources.proofs.chart_sources.origins_of_chart.Goals as goal
 

@@ -1,5 +1,5 @@
 use Rattle.std.proofs.Common.{◌≡◌, ◌++◌, map, drop}
-use Rattle.graph_origins.specs.Points.{in_branches, in_row, points_of}
+use Rattle.node_elements.specs.Points.{in_branches, in_row, points_of}
 use Rattle.node_sources.specs.Labels.{label_at}
 use Rattle.node_sources.proofs.labels.+labels.Given as goal
 

@@ -1,7 +1,7 @@
 use Rattle.std.proofs.Common.{◌≡◌, map, rules}
-use Rattle.chart_places.specs.Read.{IsPlaced}
-use Rattle.expansion_origins.specs.Origins.{expansion_origins}
-use Rattle.lowering_origins.specs.Origins.{point_origins}
+use Rattle.node_sources.specs.Read.{IsPlaced}
+use Rattle.node_elements.specs.ExpansionOrigins.{expansion_origins}
+use Rattle.node_elements.specs.LoweringOrigins.{point_origins}
 use Rattle.node_elements.specs.Origins.{through}
 use Rattle.node_sources.specs.Labels.{IsLabel}
 use Rattle.node_sources.proofs.ChartsTold.{placed_in}

@@ -1,5 +1,5 @@
 use Rattle.std.proofs.Common.{◌≡◌, rules}
-use Rattle.graph_origins.specs.Origins.{node_origins}
+use Rattle.node_elements.specs.GraphOrigins.{node_origins}
 use Rattle.node_sources.specs.SclOrigins.{spots_of}
 use Rattle.node_sources.proofs.SclTold.{each_located}
 use Rattle.node_sources.proofs.scl_sources.origins_in.Goals as goal

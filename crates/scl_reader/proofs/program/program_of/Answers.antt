@@ -1,6 +1,6 @@
 use Rattle.std.proofs.Common.{◌∙◌, ap}
-use Rattle.drafts.specs.Flaws.{variable_names}
-use Rattle.drafts.specs.Resolved.{variables_of}
+use Rattle.sc_text.specs.Flaws.{variable_names}
+use Rattle.sc_text.specs.Resolved.{variables_of}
 use Rattle.scl_reader.specs.Resolved.{statements_of}
 use Rattle.scl_reader.proofs.SclRulesKept.{parts_kept, parts_are}
 use Rattle.scl_reader.proofs.program.program_of.Goals as goal

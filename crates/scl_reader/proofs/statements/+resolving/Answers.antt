@@ -1,4 +1,4 @@
-use Rattle.drafts.specs.Flaws.{variable_names}
+use Rattle.sc_text.specs.Flaws.{variable_names}
 use Rattle.scl_reader.proofs.Looking.{fork_looked}
 use Rattle.scl_reader.proofs.statements.+resolving.Goals as goal
 

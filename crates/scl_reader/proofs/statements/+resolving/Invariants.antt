@@ -1,5 +1,5 @@
 use Rattle.std.proofs.Common.{◌≡◌, ◌++◌, drop}
-use Rattle.drafts.specs.Flaws.{variable_names}
+use Rattle.sc_text.specs.Flaws.{variable_names}
 use Rattle.scl_reader.specs.Resolved.{statements_of, branches_of}
 use Rattle.scl_reader.proofs.statements.+resolving.Given as goal
 

@@ -1,5 +1,5 @@
 use Rattle.std.proofs.Common.{◌≡◌, ◌∙◌, Option, None, ℕ, ap, sym, subst, slice_set}
-use Rattle.buckets.specs.Rows.{HasRoom}
+use Rattle.tick_core.specs.Rows.{HasRoom}
 use Rattle.tick_core.specs.Space.Sorting.{step_priority}
 use Rattle.tick_core.specs.Inside.Waking.{EntersRow}
 use Rattle.tick_core.proofs.OwnRoom.{room_there}

@@ -1,6 +1,6 @@
 use Rattle.std.proofs.Common.{◌∙◌, None, ap, subst}
 use Rattle.std.specs.Prelude.{replicate}
-use Rattle.buckets.specs.Rows.{HasRooms}
+use Rattle.tick_core.specs.Rows.{HasRooms}
 use Rattle.tick_core.specs.Space.Sorting.{OwnRows}
 use Rattle.tick_core.proofs.LeadingThreads.{own_none}
 use Rattle.tick_core.proofs.sorting.rows_of.Goals as goal

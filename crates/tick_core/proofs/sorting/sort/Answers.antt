@@ -1,5 +1,5 @@
 use Rattle.std.proofs.Common.{◌∙◌, Option, ℕ, ap, sym, subst, slice_set}
-use Rattle.buckets.specs.Rows.{HasRoom}
+use Rattle.tick_core.specs.Rows.{HasRoom}
 use Rattle.tick_core.specs.Space.Sorting.{OwnRows}
 use Rattle.tick_core.proofs.OwnRoom.{has_room, kept_one}
 use Rattle.tick_core.proofs.sorting.sort.Goals as goal

@@ -1,6 +1,6 @@
 use Rattle.std.proofs.lemmas.Grind.{elements}
 use Rattle.std.proofs.Common.{◌∙◌, Option, ℕ, arith, ap, sym, subst, slice_set}
-use Rattle.buckets.specs.Rows.{HasRoom}
+use Rattle.tick_core.specs.Rows.{HasRoom}
 use Rattle.tick_core.proofs.OwnRoom.{room_there}
 use Rattle.tick_core.proofs.LivingChildren.{all_counted}
 use Rattle.tick_core.proofs.Entered.{enters, passes_at}

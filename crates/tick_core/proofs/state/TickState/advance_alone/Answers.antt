@@ -1,7 +1,7 @@
 use Rattle.std.proofs.Common.{◌≡◌, ◌∙◌, refl, sym, ap, subst, arith, Some, option_map, slice_set}
 use Rattle.std.specs.Prelude.{IfSome, IsSome}
 use Rattle.std.specs.Bool.{OnTrue}
-use Rattle.buckets.specs.Rows.{HasRoom}
+use Rattle.tick_core.specs.Rows.{HasRoom}
 use Rattle.sc_graph.specs.Control.{status_of}
 use Rattle.sc_graph.specs.Steps.{after, node_effect}
 use Rattle.tick_core.specs.Inside.Onward.{LeadsOn, StaysAt, own_row, step_here}

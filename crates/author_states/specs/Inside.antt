@@ -1,0 +1,2 @@
+-- What private functions alone say of themselves. It is proved, and no public contract rests on what it means.
+pub mod Texts

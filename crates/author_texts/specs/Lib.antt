@@ -1,2 +1,0 @@
-pub mod Authored
-pub mod Inside

@@ -1,6 +1,0 @@
-use Rattle.std.proofs.Common.{◌≡◌, ◌++◌, drop}
-use Rattle.block_comments.specs.Comments.{cleared, without_comments}
-use Rattle.block_comments.proofs.clearing.cleared.Given as goal
-
-abbrev pub invariant-loop-i : goal.invariant-loop-i
-invariant-loop-i l = l.cleared.items ++ cleared l.part (drop l.i l.text) ≡ without_comments l.text

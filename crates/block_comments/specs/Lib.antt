@@ -1,3 +1,0 @@
-pub mod Comments
-pub mod Laws
-pub mod Inside

@@ -1,5 +1,0 @@
-use Rattle.buckets.proofs.Counting.{Begun}
-use Rattle.buckets.proofs.making.starts_of.Given as goal
-
-abbrev pub invariant-loop-room : goal.invariant-loop-room
-invariant-loop-room l = Begun l.starts.items l.rooms l.room-index l.next

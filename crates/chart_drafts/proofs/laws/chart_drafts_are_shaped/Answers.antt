@@ -1,5 +1,0 @@
-use Rattle.chart_drafts.proofs.ShapedDrafts.{draft_is_shaped}
-use Rattle.chart_drafts.proofs.laws.chart_drafts_are_shaped.Goals as goal
-
-pub returns : goal.returns
-returns c = record { shaped = draft_is_shaped }

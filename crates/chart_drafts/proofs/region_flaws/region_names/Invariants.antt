@@ -1,6 +1,0 @@
-use Rattle.std.proofs.Common.{◌≡◌, ◌++◌, drop}
-use Rattle.chart_drafts.specs.Flaws.{region_names}
-use Rattle.chart_drafts.proofs.region_flaws.region_names.Given as goal
-
-abbrev pub invariant-loop-region : goal.invariant-loop-region
-invariant-loop-region l = l.names ++ region_names (drop l.region-index l.regions) ≡ region_names l.regions

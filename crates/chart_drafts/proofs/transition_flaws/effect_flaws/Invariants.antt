@@ -1,9 +1,0 @@
-use Rattle.std.proofs.Common.{◌≡◌, drop}
-use Rattle.drafts.specs.Told.{told_behind}
-use Rattle.chart_drafts.specs.Flaws.{effect_flaws}
-use Rattle.chart_drafts.proofs.transition_flaws.effect_flaws.Given as goal
-
-abbrev pub invariant-loop-at : goal.invariant-loop-at
-invariant-loop-at l =
-    told_behind l.found (effect_flaws l.scope.variables.now l.at (drop l.at l.effects))
-    ≡ told_behind l.fn.found (effect_flaws l.scope.variables.now 0 l.effects)

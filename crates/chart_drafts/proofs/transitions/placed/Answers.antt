@@ -1,9 +1,0 @@
-use Rattle.chart_drafts.proofs.Pieces.{placed_gives, placed_stops}
-use Rattle.std.proofs.Common.{rules}
-use Rattle.chart_drafts.proofs.transitions.placed.Goals as goal
-
-pub returns-in_err-operations : goal.returns-in_err-operations
-returns-in_err-operations c = search (rules, placed_stops)
-
-pub returns : goal.returns
-returns c = search (rules, placed_gives)

@@ -1,6 +1,0 @@
-use Rattle.chart_drafts.specs.ChartText.{the_word, name}
-use Rattle.chart_drafts.proofs.Same.{same_reading, after_read}
-use Rattle.chart_drafts.proofs.words.title.Goals as goal
-
-pub returns : goal.returns
-returns c = same_reading _ _ _ _ _ (after_read (the_word c.args.word) name c.args.ahead.now.tokens.now _ c.in_ok-skip_word.ensures) c.name.ensures

@@ -1,6 +1,0 @@
-use Rattle.std.proofs.Common.{◌≡◌, ◌++◌, drop}
-use Rattle.chart_elements.specs.Numbers.{effects}
-use Rattle.chart_elements.proofs.effects.put_effects.Given as goal
-
-abbrev pub invariant-loop : goal.invariant-loop
-invariant-loop l = l.elements ++ effects (drop l.index l.own) l.here ≡ l.fn.elements ++ effects l.own l.number

@@ -1,6 +1,0 @@
-use Rattle.std.proofs.Common.{◌≡◌, drop}
-use Rattle.chart_elements.specs.Numbers.{behind_transitions}
-use Rattle.chart_elements.proofs.numbers.ElementNumbers.behind_transitions.Given as goal
-
-abbrev pub invariant-loop-transition : goal.invariant-loop-transition
-invariant-loop-transition l = behind_transitions (drop l.transition-index l.transitions) l.here ≡ behind_transitions l.transitions l.fn.self

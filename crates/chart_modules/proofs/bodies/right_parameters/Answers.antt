@@ -1,9 +1,0 @@
-use Rattle.std.proofs.lemmas.Grind.{common_steps}
-use Rattle.std.proofs.Common.{arith}
-use Rattle.chart_modules.proofs.bodies.right_parameters.Goals as goal
-
-pub loop-parameter-preserved : goal.loop-parameter-preserved
-loop-parameter-preserved c = grind (arith, common_steps) steps 2000000
-
-pub returns : goal.returns
-returns c = grind (arith, common_steps) steps 2000000

@@ -1,6 +1,0 @@
-use Rattle.std.proofs.Common.{◌≡◌, [], drop}
-use Rattle.chart_modules.specs.Modules.{right_parameters}
-use Rattle.chart_modules.proofs.bodies.right_parameters.Given as goal
-
-abbrev pub invariant-loop-parameter : goal.invariant-loop-parameter
-invariant-loop-parameter l = right_parameters l.before (drop l.parameter-index l.parameters) ≡ right_parameters [] l.parameters

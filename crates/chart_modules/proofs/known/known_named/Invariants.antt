@@ -1,6 +1,0 @@
-use Rattle.std.proofs.Common.{◌≡◌, drop}
-use Rattle.chart_modules.specs.Known.{known_named}
-use Rattle.chart_modules.proofs.known.known_named.Given as goal
-
-abbrev pub invariant-loop-one : goal.invariant-loop-one
-invariant-loop-one l = known_named (drop l.one-index l.known) l.name ≡ known_named l.known l.name

@@ -1,6 +1,0 @@
-use Rattle.std.proofs.Common.{◌≡◌, drop}
-use Rattle.chart_modules.specs.Uses.{in_place_of}
-use Rattle.chart_modules.proofs.replacing.in_place_of.Given as goal
-
-abbrev pub invariant-loop-one : goal.invariant-loop-one
-invariant-loop-one l = in_place_of (drop l.one-index l.table) l.name ≡ in_place_of l.table l.name

@@ -1,6 +1,0 @@
-use Rattle.chart_modules.proofs.UsesInOrder.{use_round}
-use Rattle.std.proofs.Common.{rules}
-use Rattle.chart_modules.proofs.uses.pass_use.Goals as goal
-
-pub returns-clause-goes : goal.returns-clause-goes
-returns-clause-goes c = search (rules, use_round)

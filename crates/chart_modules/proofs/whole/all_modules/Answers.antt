@@ -1,9 +1,0 @@
-use Rattle.chart_modules.proofs.ModulesInOrder.{modules_end, modules_go}
-use Rattle.std.proofs.Common.{rules}
-use Rattle.chart_modules.proofs.whole.all_modules.Goals as goal
-
-pub loop-count-preserved : goal.loop-count-preserved
-loop-count-preserved c = search (rules, modules_go)
-
-pub returns-then-not-begins : goal.returns-then-not-begins
-returns-then-not-begins c = search (rules, modules_end)

@@ -1,9 +1,0 @@
-pub mod Answer
-pub mod Words
-pub mod Phrases
-pub mod Known
-pub mod Uses
-pub mod Well
-pub mod Modules
-pub mod Inside
-pub mod Laws

@@ -1,8 +1,0 @@
-//! The law of texts without modules.
-
-ghost use Rattle.chart_modules.specs.Laws.{PlainTextsStay};
-
-/// A text before whose regions no module stands is as it was. This function does nothing; its contract is the law.
-pub fn plain_texts_stay()
-    ensures { PlainTextsStay }
-{}

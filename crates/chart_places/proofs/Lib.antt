@@ -1,8 +1,0 @@
-mod Parts
-mod Pairing
-mod Placing
-pub mod Words
-mod Spelling
-mod Within
-mod Telling
-mod OnePlacedChart

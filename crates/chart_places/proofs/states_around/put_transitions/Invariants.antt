@@ -1,7 +1,0 @@
-use Rattle.std.proofs.Common.{◌≡◌, drop}
-use Rattle.chart_places.specs.StatesAround.{beside, of_transitions}
-use Rattle.chart_places.proofs.states_around.put_transitions.Given as goal
-
-abbrev pub invariant-loop-transition : goal.invariant-loop-transition
-invariant-loop-transition l =
-    beside l.states_around (of_transitions l.around (drop l.transition-index l.transitions)) ≡ beside l.fn.states_around (of_transitions l.around l.transitions)

@@ -1,4 +1,0 @@
-pub mod StatesAround
-pub mod Places
-pub mod Read
-pub mod Laws

@@ -1,6 +1,0 @@
-use Rattle.std.proofs.Common.{◌≡◌, drop}
-use Rattle.chart_printer.specs.Renaming.{free_from}
-use Rattle.chart_printer.proofs.names.first_free.Given as goal
-
-abbrev pub invariant-loop-number : goal.invariant-loop-number
-invariant-loop-number l = free_from l.names (drop l.number l.names) l.number ≡ free_from l.names l.names 0

@@ -1,7 +1,0 @@
-use Rattle.std.proofs.Common.{◌≡◌, ◌++◌, drop, map}
-use Rattle.chart_printer.specs.Renaming.{shown_variable}
-use Rattle.chart_printer.proofs.renaming.shown_variables.Given as goal
-
-abbrev pub invariant-loop-variable : goal.invariant-loop-variable
-invariant-loop-variable l =
-    l.all ++ map (shown_variable l.word) (drop l.variable-index l.variables) ≡ map (shown_variable l.word) l.variables

@@ -1,9 +1,0 @@
-use Rattle.std.proofs.Common.{arith}
-use Rattle.std.proofs.lemmas.Grind.{common_steps}
-use Rattle.chart_printer.proofs.transitions.put_transitions.Goals as goal
-
-pub loop-transition-preserved : goal.loop-transition-preserved
-loop-transition-preserved c = grind (arith, common_steps) steps 2000000
-
-pub returns : goal.returns
-returns c = grind (arith, common_steps) steps 2000000

@@ -1,3 +1,0 @@
-pub mod Layout
-pub mod Renaming
-pub mod Inside

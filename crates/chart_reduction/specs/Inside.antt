@@ -1,0 +1,3 @@
+-- What private functions alone say of themselves. It is proved, and no public contract rests on what it means.
+pub mod Values
+pub mod Entries

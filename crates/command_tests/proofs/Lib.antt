@@ -1,3 +1,0 @@
-mod Named
-mod Tried
-mod Verdicts

@@ -1,5 +1,0 @@
-use Rattle.std.proofs.Common.{length}
-use Rattle.command_tests.proofs.naming.+put_named.Given as goal
-
-abbrev pub decreases-put_named : goal.decreases-put_named
-decreases-put_named g l = length l.words.now

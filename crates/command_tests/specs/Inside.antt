@@ -1,4 +1,0 @@
--- What private functions alone say of themselves. It is proved, and no public contract rests on what it means.
-pub mod Judging
-pub mod Putting
-pub mod Saying

@@ -1,5 +1,0 @@
-pub mod Naming
-pub mod States
-pub mod Verdict
-pub mod Run
-pub mod Inside

@@ -1,0 +1,5 @@
+use Rattle.std.proofs.Common.{length}
+use Rattle.controller_tests.proofs.command.naming.+put_named.Given as goal
+
+abbrev pub decreases-put_named : goal.decreases-put_named
+decreases-put_named g l = length l.words.now

@@ -1,0 +1,9 @@
+use Rattle.std.proofs.Common.{◌∙◌}
+use Rattle.controller_tests.proofs.Verdicts.{not_stored}
+use Rattle.controller_tests.proofs.command.verdict.write.Goals as goal
+
+pub returns-clause-comes : goal.returns-clause-comes
+returns-clause-comes g c =
+    not_stored _ _ c.args.name.now _ _ c.in-Err-store_new.fault (c.as_str.ensures.value ∙ c.in_ok-trace_name.ensures) c.requires.free
+    c.in-Err-store_new.ensures.fault c.in_ok-lack_said-in-Err-store_new.ensures.said c.in_ok-lack_said-in-Err-store_new.ensures.real
+    c.in-Err-store_new.ensures.same

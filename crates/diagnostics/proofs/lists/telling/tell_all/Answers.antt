@@ -1,0 +1,8 @@
+use Rattle.std.proofs.Common.{string_bytes}
+use Rattle.diagnostics.proofs.Joining.{all_told}
+use Rattle.diagnostics.proofs.lists.telling.tell_all.Goals as goal
+
+pub returns : goal.returns
+returns c =
+    all_told c.args.name.now c.args.text.now c.args.flaws.now c.loop-flaw.flaw-index (string_bytes c.loop-flaw.told) c.loop-flaw-test.false
+    c.loop-flaw.invariant

@@ -1,8 +1,0 @@
-use Rattle.std.proofs.Common.{◌≡◌, ◌≤◌, drop}
-use Rattle.std.specs.Prelude.{max}
-use Rattle.drafts.specs.Flaws.{greatest_height}
-use Rattle.drafts.proofs.heights.greatest_height.Given as goal
-
-abbrev pub invariant-loop-operation : goal.invariant-loop-operation
-invariant-loop-operation l =
-    (max l.greatest (greatest_height l.height (drop l.operation-index l.operations)) ≡ greatest_height 0 l.operations) × (l.height ≤ l.operation-index)

@@ -1,9 +1,0 @@
-use Rattle.std.proofs.lemmas.Grind.{common_steps}
-use Rattle.std.proofs.Common.{arith}
-use Rattle.drafts.proofs.scope.Scope.tell_unknown_names.Goals as goal
-
-pub loop-operation-preserved : goal.loop-operation-preserved
-loop-operation-preserved c = grind (arith, common_steps) steps 2000000
-
-pub returns : goal.returns
-returns c = grind (arith, common_steps) steps 2000000

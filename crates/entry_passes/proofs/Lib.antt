@@ -1,5 +1,0 @@
-pub mod Folded
-pub mod Left
-pub mod PastStates
-mod ExitRows
-mod HistoryRows

@@ -1,7 +1,0 @@
-use Rattle.std.proofs.Common.{◌≡◌, ◌++◌, drop}
-use Rattle.entry_passes.specs.Histories.{recalled_by}
-use Rattle.entry_passes.proofs.recalls.put_recalled_by.Given as goal
-
-abbrev pub invariant-loop-transition : goal.invariant-loop-transition
-invariant-loop-transition l =
-    l.made ++ recalled_by l.count (drop l.transition-index l.transitions) ≡ l.fn.made ++ recalled_by l.count l.transitions

@@ -1,7 +1,0 @@
-use Rattle.std.proofs.Common.{◌≡◌, ◌++◌, map, drop}
-use Rattle.entry_passes.specs.Histories.{resumptions, past_state}
-use Rattle.entry_passes.proofs.resuming.put_resumptions.Given as goal
-
-abbrev pub invariant-loop-state : goal.invariant-loop-state
-invariant-loop-state l =
-    l.made ++ resumptions l.past l.place (map past_state (drop l.state-index l.states)) ≡ l.fn.made ++ resumptions l.past 0 (map past_state l.states)

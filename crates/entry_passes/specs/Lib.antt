@@ -1,4 +1,0 @@
-pub mod Exits
-pub mod Histories
-pub mod Entry
-pub mod Inside

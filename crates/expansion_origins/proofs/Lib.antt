@@ -1,9 +1,0 @@
-mod PieceParts
-mod Coming
-mod Enclosing
-mod Chosen
-mod Shapes
-mod Splitting
-mod SuperstateOrigins
-mod RegionOrigins
-mod Telling

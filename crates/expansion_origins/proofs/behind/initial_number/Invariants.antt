@@ -1,7 +1,0 @@
-use Rattle.std.proofs.Common.{◌≡◌, map, drop}
-use Rattle.expansion_origins.specs.Origins.{initial_number, piece_of_state}
-use Rattle.expansion_origins.proofs.behind.initial_number.Given as goal
-
-abbrev pub invariant-loop-state : goal.invariant-loop-state
-invariant-loop-state l =
-    initial_number (map piece_of_state (drop l.state-index l.states)) l.here ≡ initial_number (map piece_of_state l.states) l.fn.at

@@ -1,9 +1,0 @@
-use Rattle.std.proofs.Common.{◌≡◌, ◌&&◌, map, drop}
-use Rattle.std.specs.List.{list_any}
-use Rattle.expansion_origins.specs.Origins.{piece_of_state}
-use Rattle.expansion_origins.proofs.regions.begins_anew.Given as goal
-
-abbrev pub invariant-loop-state : goal.invariant-loop-state
-invariant-loop-state l =
-    list_any (λ s. s.is_initial && s.is_final) (map piece_of_state (drop l.state-index l.states)) ≡
-    list_any (λ s. s.is_initial && s.is_final) (map piece_of_state l.states)

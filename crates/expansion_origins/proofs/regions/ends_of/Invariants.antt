@@ -1,7 +1,0 @@
-use Rattle.std.proofs.Common.{◌≡◌, ◌++◌, map, drop}
-use Rattle.expansion_origins.specs.Origins.{piece_of_state}
-use Rattle.expansion_origins.proofs.regions.ends_of.Given as goal
-
-abbrev pub invariant-loop-state : goal.invariant-loop-state
-invariant-loop-state l =
-    l.finals ++ map (λ s. s.is_final) (map piece_of_state (drop l.state-index l.states)) ≡ map (λ s. s.is_final) (map piece_of_state l.states)

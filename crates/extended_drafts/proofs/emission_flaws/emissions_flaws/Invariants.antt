@@ -1,9 +1,0 @@
-use Rattle.std.proofs.Common.{◌≡◌, map, drop}
-use Rattle.drafts.specs.Told.{told_behind}
-use Rattle.extended_drafts.specs.Flaws.{joined, emission_flaws}
-use Rattle.extended_drafts.proofs.emission_flaws.emissions_flaws.Given as goal
-
-abbrev pub invariant-loop-effect : goal.invariant-loop-effect
-invariant-loop-effect l =
-    told_behind l.found (joined (map (emission_flaws l.signals.variables.now) (drop l.effect-index l.effects)))
-    ≡ told_behind l.fn.found (joined (map (emission_flaws l.signals.variables.now) l.effects))

@@ -1,8 +1,0 @@
-use Rattle.std.proofs.Common.{◌≡◌, drop}
-use Rattle.drafts.specs.Told.{told_behind}
-use Rattle.extended_drafts.specs.Flaws.{history_flaws}
-use Rattle.extended_drafts.proofs.history_flaws.all_history_flaws.Given as goal
-
-abbrev pub invariant-loop-way : goal.invariant-loop-way
-invariant-loop-way l =
-    told_behind l.found (history_flaws (drop l.way-index l.ways) l.left) ≡ told_behind l.fn.found (history_flaws l.ways l.places)

@@ -1,9 +1,0 @@
-use Rattle.std.proofs.Common.{◌≡◌, map, drop}
-use Rattle.drafts.specs.Told.{told_behind}
-use Rattle.extended_drafts.specs.Flaws.{joined, item_flaws}
-use Rattle.extended_drafts.proofs.item_flaws.items_flaws.Given as goal
-
-abbrev pub invariant-loop-item : goal.invariant-loop-item
-invariant-loop-item l =
-    told_behind l.found (joined (map (item_flaws l.scope.variables.now) (drop l.item-index l.items)))
-    ≡ told_behind l.fn.found (joined (map (item_flaws l.scope.variables.now) l.items))

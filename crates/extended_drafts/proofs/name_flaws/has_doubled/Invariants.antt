@@ -1,6 +1,0 @@
-use Rattle.std.proofs.Common.{◌≡◌, false, drop}
-use Rattle.extended_drafts.specs.Flaws.{is_doubled}
-use Rattle.extended_drafts.proofs.name_flaws.has_doubled.Given as goal
-
-abbrev pub invariant-loop-byte : goal.invariant-loop-byte
-invariant-loop-byte l = is_doubled l.before (drop l.byte-index l.bytes) ≡ is_doubled false l.bytes

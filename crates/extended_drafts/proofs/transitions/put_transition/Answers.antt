@@ -1,5 +1,0 @@
-use Rattle.extended_drafts.proofs.Putting.{both_put}
-use Rattle.extended_drafts.proofs.transitions.put_transition.Goals as goal
-
-pub returns : goal.returns
-returns c = both_put _ _ _ _ _ _ _ _ c.in_ok-next.ensures c.in_ok-put_both.ensures.next c.in_ok-put_both.ensures.way

@@ -1,6 +1,0 @@
-use Rattle.std.proofs.Common.{◌≡◌, ◌++◌, map, drop}
-use Rattle.extended_drawing.specs.Symbols.{constant_symbol}
-use Rattle.extended_drawing.proofs.symbols.constant_symbols.Given as goal
-
-abbrev pub invariant-loop-constant : goal.invariant-loop-constant
-invariant-loop-constant l = l.symbols ++ map constant_symbol (drop l.constant-index l.constants) ≡ map constant_symbol l.constants

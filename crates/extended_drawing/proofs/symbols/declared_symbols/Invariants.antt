@@ -1,6 +1,0 @@
-use Rattle.std.proofs.Common.{◌≡◌, ◌++◌, map, drop}
-use Rattle.extended_drawing.specs.Symbols.{declared_symbol}
-use Rattle.extended_drawing.proofs.symbols.declared_symbols.Given as goal
-
-abbrev pub invariant-loop-declared : goal.invariant-loop-declared
-invariant-loop-declared l = l.symbols ++ map declared_symbol (drop l.declared-index l.variables) ≡ map declared_symbol l.variables

@@ -1,8 +1,0 @@
-use Rattle.std.proofs.Common.{◌≡◌, ◌++◌, drop}
-use Rattle.extended_nodes.specs.Nodes.{nodes_from}
-use Rattle.extended_nodes.proofs.places.nodes_of.Given as goal
-
-abbrev pub invariant-loop-number : goal.invariant-loop-number
-invariant-loop-number l =
-    l.nodes ++ nodes_from l.origins l.places l.program l.number (drop l.number l.elements) ≡
-    nodes_from l.origins l.places l.program 0 l.elements

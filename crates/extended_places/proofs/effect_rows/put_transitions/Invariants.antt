@@ -1,7 +1,0 @@
-use Rattle.std.proofs.Common.{◌≡◌, ◌++◌, drop}
-use Rattle.extended_places.specs.EffectRows.{of_transitions}
-use Rattle.extended_places.proofs.effect_rows.put_transitions.Given as goal
-
-abbrev pub invariant-loop-transition : goal.invariant-loop-transition
-invariant-loop-transition l =
-    l.counts ++ of_transitions (drop l.transition-index l.transitions) ≡ l.fn.counts ++ of_transitions l.transitions

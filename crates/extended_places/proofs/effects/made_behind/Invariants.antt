@@ -1,9 +1,0 @@
-use Rattle.std.proofs.Common.{◌≡◌, ◌≤◌, drop}
-use Rattle.extended_places.specs.Origins.{made_behind}
-use Rattle.extended_places.proofs.effects.made_behind.Given as goal
-
-abbrev pub invariant-loop-effect : goal.invariant-loop-effect
-invariant-loop-effect l = record {
-  is : made_behind l.variables l.made (drop l.effect-index l.effects) ≡ made_behind l.variables 0 l.effects;
-  few : l.made ≤ l.effect-index;
-}

@@ -1,3 +1,0 @@
-pub mod EffectRows
-pub mod Origins
-pub mod Read

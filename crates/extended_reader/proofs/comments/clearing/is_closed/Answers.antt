@@ -1,0 +1,12 @@
+use Rattle.std.proofs.lemmas.Grind.{common_steps}
+use Rattle.std.proofs.Common.{arith}
+use Rattle.extended_reader.proofs.comments.clearing.is_closed.Goals as goal
+
+pub returns-then-ends : goal.returns-then-ends
+returns-then-ends c = grind (arith, common_steps) steps 2000000
+
+pub loop-byte-preserved : goal.loop-byte-preserved
+loop-byte-preserved c = grind (arith, common_steps) steps 2000000
+
+pub returns : goal.returns
+returns c = grind (arith, common_steps) steps 2000000

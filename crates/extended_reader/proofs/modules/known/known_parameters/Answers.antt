@@ -1,0 +1,9 @@
+use Rattle.std.proofs.lemmas.Grind.{common_steps}
+use Rattle.std.proofs.Common.{arith}
+use Rattle.extended_reader.proofs.modules.known.known_parameters.Goals as goal
+
+pub loop-parameter-preserved : goal.loop-parameter-preserved
+loop-parameter-preserved c = grind (arith, common_steps) steps 2000000
+
+pub returns : goal.returns
+returns c = grind (arith, common_steps) steps 2000000

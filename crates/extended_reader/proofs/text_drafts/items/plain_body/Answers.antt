@@ -1,0 +1,19 @@
+use Rattle.std.proofs.Common.{rules, ◌≡◌, true, false, [], ◌∷◌}
+use Rattle.grammar.specs.Read.{starts}
+use Rattle.sc_text.specs.Classes.{AName}
+use Rattle.sc_text.specs.Expression.{text_tokens}
+use Rattle.chart_reader.proofs.Same.{same_reading}
+use Rattle.extended_reader.proofs.ItemParts.{is_signalled, is_plain_typed}
+use Rattle.extended_reader.proofs.text_drafts.items.plain_body.Goals as goal
+
+pub returns-then-name_follows : goal.returns-then-name_follows
+returns-then-name_follows c =
+    let on = c.if-name_follows.true in
+    let begins : starts text_tokens (AName ∷ []) c.args.ahead.now.tokens.now ≡ true = search (rules, on, c.name_follows.ensures) in
+    same_reading _ _ _ _ _ (is_signalled _ begins) c.signalled.ensures
+
+pub returns : goal.returns
+returns c =
+    let on = c.if-name_follows.false in
+    let other : starts text_tokens (AName ∷ []) c.args.ahead.now.tokens.now ≡ false = search (rules, on, c.name_follows.ensures) in
+    same_reading _ _ _ _ _ (is_plain_typed _ other) c.typed.ensures

@@ -1,0 +1,44 @@
+use Rattle.std.proofs.Common.{◌+◌, ◌-◌, ◌*◌}
+use Rattle.grammar.specs.Read.{read}
+use Rattle.sc_text.specs.declared.word.Word.TheVariants as word
+use Rattle.sc_text.specs.Expression.{expression}
+use Rattle.chart_reader.specs.ChartText.{the_word, listed, state_first}
+use Rattle.extended_reader.specs.ExtendedText.{state, region, within}
+use Rattle.extended_reader.specs.Inside.TextDrafts.{IsPutting, put_part}
+use Rattle.extended_reader.proofs.text_drafts.regions.+regions.Given as goal
+
+abbrev pub decreases-regions : goal.decreases-regions
+decreases-regions l = 8 * l.depth + 7
+
+abbrev pub decreases-region : goal.decreases-region
+decreases-region l = 8 * l.depth + 6
+
+abbrev pub decreases-braced_states : goal.decreases-braced_states
+decreases-braced_states l = 8 * l.depth + 5
+
+abbrev pub decreases-states : goal.decreases-states
+decreases-states l = 8 * l.depth + 4
+
+abbrev pub decreases-state : goal.decreases-state
+decreases-state l = 8 * l.depth + 3
+
+abbrev pub decreases-body : goal.decreases-body
+decreases-body l = 8 * l.depth + 2
+
+abbrev pub decreases-acting : goal.decreases-acting
+decreases-acting l = 8 * l.depth + 1
+
+abbrev pub decreases-inside : goal.decreases-inside
+decreases-inside l = 8 * l.depth
+
+abbrev pub invariant-regions-loop-used : goal.invariant-regions-loop-used
+invariant-regions-loop-used l =
+    IsPutting (read (listed (region (expression 0) (within (expression 0) l.fn.depth)) (region (expression 0) (within (expression 0) l.fn.depth)))
+    l.fn.ahead.tokens.now) (region (expression 0) (within (expression 0) l.fn.depth)) (the_word word.Region) put_part (l.fn.found, l.fn.rows)
+    (l.found, l.rows) (l.most - l.used) l.ahead.tokens.now
+
+abbrev pub invariant-states-loop-used : goal.invariant-states-loop-used
+invariant-states-loop-used l =
+    IsPutting (read (listed (state (expression 0) (within (expression 0) l.fn.depth)) (state (expression 0) (within (expression 0) l.fn.depth)))
+    l.fn.ahead.tokens.now) (state (expression 0) (within (expression 0) l.fn.depth)) state_first put_part (l.fn.found, l.fn.rows)
+    (l.found, l.rows) (l.most - l.used) l.ahead.tokens.now

@@ -1,8 +1,0 @@
-use Rattle.std.proofs.Common.{string_bytes}
-use Rattle.fault_lists.proofs.Joining.{all_told}
-use Rattle.fault_lists.proofs.telling.tell_all.Goals as goal
-
-pub returns : goal.returns
-returns c =
-    all_told c.args.name.now c.args.text.now c.args.flaws.now c.loop-flaw.flaw-index (string_bytes c.loop-flaw.told) c.loop-flaw-test.false
-    c.loop-flaw.invariant

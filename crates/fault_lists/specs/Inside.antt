@@ -1,8 +1,0 @@
--- Reports that are being put one behind the other. No public contract rests on it.
-use Rattle.std.specs.Prelude.{ℕ, List, ◌++◌}
-use Rattle.drafts.specs.declared.flaw.Flaw.{Flaw}
-use Rattle.fault_lists.specs.Reports.{AreReports}
-
--- whatever is told of the flaws that are left makes, behind what was told, the reports of all
-pub record Goes (name text : List ℕ) (left all : List Flaw) (told : List ℕ) : Type 0 where
-  pub on : (more : List ℕ) → AreReports name text left more → AreReports name text all (told ++ more)

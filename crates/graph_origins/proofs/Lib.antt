@@ -1,2 +1,0 @@
-mod Standing
-mod Telling

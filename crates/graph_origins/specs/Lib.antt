@@ -1,3 +1,0 @@
-pub mod Points
-pub mod Origins
-pub mod Laws

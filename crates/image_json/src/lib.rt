@@ -1,7 +1,0 @@
-//! An image as a line of JSON, for programs.
-#![tactic(auto)]
-
-mod image;
-mod variables;
-
-pub use image::image_json;

@@ -1,0 +1,6 @@
+//! An image as a line of JSON, for programs.
+
+mod image;
+mod variables;
+
+pub use image::image_json;

@@ -1,4 +1,0 @@
-pub mod Behind
-pub mod Given
-pub mod Lacking
-mod Missed

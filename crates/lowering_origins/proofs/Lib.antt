@@ -1,4 +1,0 @@
-mod FromRows
-mod Single
-mod Moving
-mod Telling

@@ -1,4 +1,0 @@
-mod Accepted
-mod Made
-mod Playing
-mod Ruled

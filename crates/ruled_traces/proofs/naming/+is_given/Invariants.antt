@@ -1,5 +1,0 @@
-use Rattle.std.proofs.Common.{length}
-use Rattle.ruled_traces.proofs.naming.+is_given.Given as goal
-
-abbrev pub decreases-is_given : goal.decreases-is_given
-decreases-is_given l = length l.inputs.now

@@ -1,0 +1,9 @@
+use Rattle.std.proofs.lemmas.Grind.{common_steps}
+use Rattle.std.proofs.Common.{arith}
+use Rattle.sc_text.proofs.drafts.scope.Scope.tell_declarations.Goals as goal
+
+pub loop-at-preserved : goal.loop-at-preserved
+loop-at-preserved c = grind (arith, common_steps) steps 2000000
+
+pub returns : goal.returns
+returns c = grind (arith, common_steps) steps 2000000

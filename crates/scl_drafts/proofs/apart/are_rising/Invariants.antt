@@ -1,9 +1,0 @@
-use Rattle.std.proofs.Common.{◌<◌}
-use Rattle.std.specs.List.{AllAdjacentBelow}
-use Rattle.scl_drafts.proofs.apart.are_rising.Given as goal
-
-abbrev pub invariant-loop-at : goal.invariant-loop-at
-invariant-loop-at l = record {
-  some : 0 < l.at;
-  each : AllAdjacentBelow (λ x y. x < y) l.numbers l.at;
-}

@@ -1,7 +1,0 @@
-use Rattle.grammar.proofs.Told.{told, told_spelled, told_fault}
-use Rattle.scl_drafts.specs.Program.{scl}
-use Rattle.scl_drafts.proofs.Deepens.{is_language}
-use Rattle.scl_drafts.proofs.laws.scl_texts_are_told.Goals as goal
-
-pub returns : goal.returns
-returns c = record { told = told scl is_language; spelled = told_spelled scl is_language; faulty = told_fault scl is_language }

@@ -1,9 +1,0 @@
-use Rattle.scl_drafts.proofs.Values.{closing_stops, value_taken}
-use Rattle.std.proofs.Common.{rules}
-use Rattle.scl_drafts.proofs.value.value.Goals as goal
-
-pub returns-in_err-after : goal.returns-in_err-after
-returns-in_err-after c = search (rules, closing_stops)
-
-pub returns : goal.returns
-returns c = search (rules, value_taken)

@@ -1,9 +1,0 @@
-pub mod Statements
-pub mod Program
-pub mod Laws
-pub mod Draft
-pub mod Shape
-pub mod Within
-pub mod Inside
-pub mod Flaws
-pub mod Checked

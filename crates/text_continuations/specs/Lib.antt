@@ -1,2 +1,0 @@
-pub mod Continuations
-pub mod Inside

@@ -1,4 +1,0 @@
-pub mod Folded
-pub mod EndingStates
-pub mod CountedStates
-pub mod Handed

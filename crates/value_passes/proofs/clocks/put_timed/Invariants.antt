@@ -1,7 +1,0 @@
-use Rattle.std.proofs.Common.{◌≡◌, ◌++◌, map, drop}
-use Rattle.value_passes.specs.Clocks.{timed_by}
-use Rattle.value_passes.proofs.clocks.put_timed.Given as goal
-
-abbrev pub invariant-loop-transition : goal.invariant-loop-transition
-invariant-loop-transition l =
-    l.made ++ map (timed_by l.reading) (drop l.transition-index l.transitions) ≡ l.fn.made ++ map (timed_by l.reading) l.transitions

@@ -1,7 +1,0 @@
-use Rattle.std.proofs.Common.{◌≡◌, ◌++◌, [], drop}
-use Rattle.value_passes.specs.Constants.{named_values}
-use Rattle.value_passes.proofs.constants.put_constant_values.Given as goal
-
-abbrev pub invariant-loop-constant : goal.invariant-loop-constant
-invariant-loop-constant l =
-    l.made ++ named_values [] [] (drop l.constant-index l.constants) ≡ l.fn.made ++ named_values [] [] l.constants

@@ -1,7 +1,0 @@
-use Rattle.std.proofs.Common.{◌≡◌, ◌++◌, map, drop}
-use Rattle.extended_charts.specs.Reading.{replaced}
-use Rattle.value_passes.proofs.constants.put_valued_counts.Given as goal
-
-abbrev pub invariant-loop-condition : goal.invariant-loop-condition
-invariant-loop-condition l =
-    l.made ++ map (replaced l.reading) (drop l.condition-index l.counts) ≡ l.fn.made ++ map (replaced l.reading) l.counts

@@ -1,7 +1,0 @@
-use Rattle.std.proofs.Common.{◌≡◌, ◌++◌, drop}
-use Rattle.value_passes.specs.Counts.{count_variables}
-use Rattle.value_passes.proofs.count_region.put_count_variables.Given as goal
-
-abbrev pub invariant-loop-condition : goal.invariant-loop-condition
-invariant-loop-condition l =
-    l.made ++ count_variables l.number (drop l.condition-index l.counts) ≡ l.fn.made ++ count_variables 1 l.counts

@@ -1,7 +1,0 @@
-use Rattle.std.proofs.Common.{◌≡◌, ◌++◌, drop}
-use Rattle.value_passes.specs.Counts.{tellings}
-use Rattle.value_passes.proofs.counts.put_tellings.Given as goal
-
-abbrev pub invariant-loop-transition : goal.invariant-loop-transition
-invariant-loop-transition l =
-    l.made ++ tellings l.first l.counts (drop l.transition-index l.transitions) ≡ l.fn.made ++ tellings l.first l.counts l.transitions

@@ -1,7 +1,0 @@
-use Rattle.std.proofs.Common.{◌≡◌, ◌++◌, drop}
-use Rattle.value_passes.specs.Registers.{handing}
-use Rattle.value_passes.proofs.registers.put_handing.Given as goal
-
-abbrev pub invariant-loop : goal.invariant-loop
-invariant-loop l =
-    l.made ++ handing l.before l.register (drop l.index l.befores) ≡ l.fn.made ++ handing l.first l.registers l.befores

@@ -1,4 +1,0 @@
-pub mod Standing
-pub mod Parts
-pub mod Joining
-pub mod Warned

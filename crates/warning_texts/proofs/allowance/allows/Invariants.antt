@@ -1,6 +1,0 @@
-use Rattle.std.proofs.Common.{◌≡◌, drop}
-use Rattle.warning_texts.specs.Allowance.{allows}
-use Rattle.warning_texts.proofs.allowance.allows.Given as goal
-
-abbrev pub invariant-loop-at : goal.invariant-loop-at
-invariant-loop-at l = allows l.code (drop l.at l.line) ≡ allows l.code l.line

@@ -1,6 +1,0 @@
-use Rattle.std.proofs.Common.{◌≡◌, drop}
-use Rattle.warning_texts.specs.Allowance.{has}
-use Rattle.warning_texts.proofs.allowance.has.Given as goal
-
-abbrev pub invariant-loop-at : goal.invariant-loop-at
-invariant-loop-at l = has l.piece (drop l.at l.line) ≡ has l.piece l.line

@@ -1,6 +1,0 @@
-use Rattle.std.proofs.Common.{◌≡◌, drop}
-use Rattle.warning_texts.specs.Lines.{are_lines}
-use Rattle.warning_texts.proofs.lines.are_lines.Given as goal
-
-abbrev pub invariant-loop-byte : goal.invariant-loop-byte
-invariant-loop-byte l = are_lines l.left (drop l.byte-index l.text) ≡ are_lines l.count l.text

@@ -1,7 +1,0 @@
-use Rattle.std.proofs.Common.{◌≡◌, ◌++◌, drop, map}
-use Rattle.warning_texts.specs.Places.{of_region}
-use Rattle.warning_texts.proofs.places.region_places.Given as goal
-
-abbrev pub invariant-loop-region : goal.invariant-loop-region
-invariant-loop-region l =
-    l.places ++ map (λ r. r.at) (map of_region (drop l.region-index l.regions)) ≡ map (λ r. r.at) (map of_region l.regions)

@@ -1,5 +1,0 @@
-use Rattle.std.proofs.Common.{◌≡◌, ◌++◌, drop, map}
-use Rattle.warning_texts.proofs.places.variable_places.Given as goal
-
-abbrev pub invariant-loop-variable : goal.invariant-loop-variable
-invariant-loop-variable l = l.places ++ map (λ v. v.named.at) (drop l.variable-index l.variables) ≡ map (λ v. v.named.at) l.variables
