@@ -1,6 +1,6 @@
 //! A text that is put together.
 
-ghost use Rattle.std.specs.Prelude.{◌≡◌, [], IfOk, string_bytes};
+ghost use Rattle.std.specs.Prelude.{◌≡◌, [], IfErr, IfOk, true, string_bytes};
 ghost use Rattle.std.specs.Fmt.{decimal, signed_decimal};
 ghost use Rattle.drawing.specs.Drawing.{IsDrawing};
 ghost use Rattle.drawing.specs.Inside.Puts.{IsWhole, Puts, when};
@@ -63,7 +63,10 @@ impl Text {
     }
 
     /// Puts a text that was made, if memory was not refused to it.
-    pub(crate) fn put_made(&mut self, made: Result<String, AllocError>) {
+    pub(crate) fn put_made(&mut self, made: Result<String, AllocError>)
+        ensures put { IfOk made (λ text. Puts self.old self.new (string_bytes text)) }
+        ensures refused { IfErr made (λ _. self.new.is_refused ≡ true) }
+    {
         match made {
             Ok(made) => self.put(made.as_str()),
             Err(_) => self.refuse(),
@@ -71,7 +74,9 @@ impl Text {
     }
 
     /// Says that memory was refused.
-    pub(crate) fn refuse(&mut self) {
+    pub(crate) fn refuse(&mut self)
+        ensures { self.new.is_refused ≡ true }
+    {
         self.is_refused = true;
     }
 
