@@ -25,7 +25,6 @@ pub const OPEN_LIMIT: u8 = 64;
 
 /// Reads an expression from the front of the tokens, which are of a text of `end` bytes. Gives its operations
 /// and the tokens behind it. Err: the fault at the first token that can't go on, or memory was refused.
-#[tactic(auto, using(crate::proofs::Nesting::expression_stops, crate::proofs::Nesting::expression_reads))]
 pub fn expression(
     alloc: Global,
     tokens: &[Token],

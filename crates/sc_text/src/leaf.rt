@@ -36,7 +36,6 @@ pub fn encloses(tokens: &[Token]) -> bool
 }
 
 /// The operator of the level that is next, and the tokens behind it. Err: none is next.
-#[tactic(auto, using(crate::proofs::Steps::one_fails))]
 pub fn operator(
     level: Level,
     tokens: &[Token],
@@ -72,7 +71,6 @@ pub fn comparator(tokens: &[Token], end: usize) -> Result<(BinaryOperator, &[Tok
 }
 
 /// The function that is called next, and the tokens behind it. Err: none is next.
-#[tactic(auto, using(crate::proofs::Steps::one_fails))]
 pub fn function(tokens: &[Token], end: usize) -> Result<(BinaryOperator, &[Token]), ReadFault>
     ensures { MatchResult result
         (λ p. TakesOperator (read (one {L = text_tokens} calls) tokens.now) p.0 p.1.now)
@@ -88,7 +86,6 @@ pub fn function(tokens: &[Token], end: usize) -> Result<(BinaryOperator, &[Token
 }
 
 /// A name, a number or a truth value.
-#[tactic(auto, using(crate::proofs::Steps::leaf_fails, crate::proofs::Steps::leaf_reads))]
 pub fn leaf<'a>(
     tokens: &'a [Token],
     end: usize,
@@ -152,7 +149,6 @@ fn is_true(word: Word) -> bool
 }
 
 /// A division: the operator and what it divides by.
-#[tactic(auto, using(crate::proofs::Steps::quotient_fails, crate::proofs::Steps::quotient_stops, crate::proofs::Steps::quotient_reads))]
 pub fn quotient<'a>(
     tokens: &'a [Token],
     end: usize,
@@ -175,7 +171,6 @@ pub fn quotient<'a>(
     }
 }
 
-#[tactic(auto, using(crate::proofs::Steps::minus_stops, crate::proofs::Steps::minus_takes, crate::proofs::Steps::plain_stops, crate::proofs::Steps::plain_takes))]
 fn divisor(tokens: &[Token], end: usize) -> Result<(Divisor, &[Token]), ReadFault>
     ensures { MatchResult result
         (λ p. TakesDivisor (read divisor tokens.now) p.0 p.1.now)
@@ -190,7 +185,6 @@ fn divisor(tokens: &[Token], end: usize) -> Result<(Divisor, &[Token]), ReadFaul
 }
 
 // A number above 0, as a divisor with this sign.
-#[tactic(auto, using(crate::proofs::Steps::one_fails))]
 fn number_above_zero(
     tokens: &[Token],
     end: usize,

@@ -38,7 +38,6 @@ pub fn note_told(
 }
 
 // Whether there are as many flaws as are told, and this one comes before none of them.
-#[tactic(auto, using(crate::proofs::ToldInOrder::past_told))]
 fn is_past_told(found: &[Flaw], flaw: Flaw) -> bool
     ensures { IsTrue result → take told_limit (inserted flaw found.now) ≡ found.now }
 {
@@ -72,7 +71,6 @@ fn noted(alloc: Global, found: &[Flaw], flaw: Flaw) -> Result<Items<Flaw>, Alloc
     first_of(alloc, all.as_slice())
 }
 
-#[tactic(auto, using(crate::proofs::ToldInOrder::taken_whole))]
 fn first_of(alloc: Global, all: &[Flaw]) -> Result<Items<Flaw>, AllocError>
     ensures { IfOk result (λ first. first ≡ take told_limit all.now) }
 {

@@ -1,4 +1,5 @@
-use Rattle.std.proofs.Common.{◌≢◌, ℕ, List, slice_index, sym, subst}
+use Rattle.std.proofs.lemmas.Grind.{common_steps, elements}
+use Rattle.std.proofs.Common.{◌≢◌, ℕ, List, slice_index, sym, subst, arith}
 use Rattle.least_or_cycle.specs.Walks.{LeadsTo}
 use Rattle.least_or_cycle.specs.Inside.Tracing.{IsTraced}
 use Rattle.least_or_cycle.proofs.Walking.{traced_more}
@@ -22,3 +23,9 @@ unreachable-requires g c =
     let w = c.requires.ranks.falls c.loop-at.at c.loop-at.invariant.ranked ne in
     let Q : ℕ → Type 0 = λ below. LeadsTo leads c.args.ranks.now c.loop-at.at below w.0 in
     c.in-None.ensures w.0 (subst Q (sym c.from.ensures) w.1)
+
+pub returns : goal.returns
+returns g c = grind (arith, elements) steps 2000000
+
+pub bounds-ranks-at : goal.bounds-ranks-at
+bounds-ranks-at g c = grind (arith, common_steps) steps 2000000

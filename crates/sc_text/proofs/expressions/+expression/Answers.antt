@@ -1,3 +1,4 @@
+use Rattle.std.proofs.lemmas.Grind.{common_steps, elements}
 use Rattle.sc_text.proofs.Nesting.{atom_deep, call_reads, call_stops, called_reads, first_stops, flat_leaf_reads, flat_leaf_stops, function_stops, inside_reads}
 use Rattle.sc_text.proofs.Nesting.{inside_stops, leaf_reads, leaf_stops, minus_deep, negated_reads, negated_stops, no_minus_reads, no_minus_stops, no_not_reads}
 use Rattle.sc_text.proofs.Nesting.{no_not_stops, not_deep, not_reads, not_stops, opening_stops, second_stops}
@@ -134,3 +135,12 @@ atom-returns-in_err-rest-4 t c = search (rules, leaf_stops)
 
 pub atom-returns : goal.atom-returns
 atom-returns t c = search (rules, leaf_reads)
+
+pub closed-returns : goal.closed-returns
+closed-returns t c = grind (arith, elements) steps 2000000
+
+pub operand-returns : goal.operand-returns
+operand-returns t c = grind (arith, elements) steps 2000000
+
+pub chain-returns : goal.chain-returns
+chain-returns t c = grind (arith, common_steps) steps 2000000

@@ -1,4 +1,5 @@
-use Rattle.std.proofs.Common.{◌≡◌, ◌∙◌, [], ◌<◌, sym, subst, false, true, length, vec_len, rules}
+use Rattle.std.proofs.lemmas.Grind.{elements}
+use Rattle.std.proofs.Common.{◌≡◌, ◌∙◌, [], ◌<◌, sym, subst, false, true, length, vec_len, rules, arith}
 use Rattle.std.specs.Io.KnownBytes.{Consumes, IsAtEnd}
 use Rattle.std.proofs.KnownBytes.{prepend_known-nil}
 use Rattle.trace_lines.specs.Lines.{ahead, has_feed, line_limit}
@@ -65,3 +66,120 @@ returns-then-not-branch-clause-last g c =
     let empty = nothing_read c.refill.new.self c.in_ok-refill.field-0 c.if-not-branch.true c.in_ok-refill.ensures.more.1 in
     let ended : IsAtEnd to_come = rw c.if-not-branch.true at c.in_ok-refill.ensures.end in
     λ _. subst (λ held. IsAtEnd (ahead held to_come)) (sym empty) (subst IsAtEnd (sym (prepend_known-nil to_come)) ended)
+
+pub returns-then-len-gt-LINE_LIMIT-clause-line : goal.returns-then-len-gt-LINE_LIMIT-clause-line
+returns-then-len-gt-LINE_LIMIT-clause-line g c = grind (arith, elements) steps 2000000
+
+pub returns-then-len-gt-LINE_LIMIT-clause-one : goal.returns-then-len-gt-LINE_LIMIT-clause-one
+returns-then-len-gt-LINE_LIMIT-clause-one g c = grind (arith, elements) steps 2000000
+
+pub returns-then-len-gt-LINE_LIMIT-clause-short : goal.returns-then-len-gt-LINE_LIMIT-clause-short
+returns-then-len-gt-LINE_LIMIT-clause-short g c = grind (arith, elements) steps 2000000
+
+pub returns-then-len-gt-LINE_LIMIT-clause-last : goal.returns-then-len-gt-LINE_LIMIT-clause-last
+returns-then-len-gt-LINE_LIMIT-clause-last g c = grind (arith, elements) steps 2000000
+
+pub returns-then-len-gt-LINE_LIMIT-clause-failed : goal.returns-then-len-gt-LINE_LIMIT-clause-failed
+returns-then-len-gt-LINE_LIMIT-clause-failed g c = grind (arith, elements) steps 2000000
+
+pub returns-then-len-gt-LINE_LIMIT-clause-none_failed : goal.returns-then-len-gt-LINE_LIMIT-clause-none_failed
+returns-then-len-gt-LINE_LIMIT-clause-none_failed g c = grind (arith, elements) steps 2000000
+
+pub returns-then-len-gt-LINE_LIMIT-clause-end : goal.returns-then-len-gt-LINE_LIMIT-clause-end
+returns-then-len-gt-LINE_LIMIT-clause-end g c = grind (arith, elements) steps 2000000
+
+pub returns-then-len-gt-LINE_LIMIT-clause-going : goal.returns-then-len-gt-LINE_LIMIT-clause-going
+returns-then-len-gt-LINE_LIMIT-clause-going g c = grind (arith, elements) steps 2000000
+
+pub returns-then-len-gt-LINE_LIMIT-clause-not_behind : goal.returns-then-len-gt-LINE_LIMIT-clause-not_behind
+returns-then-len-gt-LINE_LIMIT-clause-not_behind g c = grind (arith, elements) steps 2000000
+
+pub returns-then-len-gt-LINE_LIMIT-clause-at_hand : goal.returns-then-len-gt-LINE_LIMIT-clause-at_hand
+returns-then-len-gt-LINE_LIMIT-clause-at_hand g c = grind (arith, elements) steps 2000000
+
+pub returns-then-is_whole-clause-short : goal.returns-then-is_whole-clause-short
+returns-then-is_whole-clause-short g c = grind (arith, elements) steps 2000000
+
+pub returns-then-is_whole-clause-last : goal.returns-then-is_whole-clause-last
+returns-then-is_whole-clause-last g c = grind (arith, elements) steps 2000000
+
+pub returns-then-is_whole-clause-failed : goal.returns-then-is_whole-clause-failed
+returns-then-is_whole-clause-failed g c = grind (arith, elements) steps 2000000
+
+pub returns-then-is_whole-clause-none_failed : goal.returns-then-is_whole-clause-none_failed
+returns-then-is_whole-clause-none_failed g c = grind (arith, elements) steps 2000000
+
+pub returns-then-is_whole-clause-end : goal.returns-then-is_whole-clause-end
+returns-then-is_whole-clause-end g c = grind (arith, elements) steps 2000000
+
+pub returns-then-is_whole-clause-going : goal.returns-then-is_whole-clause-going
+returns-then-is_whole-clause-going g c = grind (arith, elements) steps 2000000
+
+pub returns-then-is_whole-clause-not_behind : goal.returns-then-is_whole-clause-not_behind
+returns-then-is_whole-clause-not_behind g c = grind (arith, elements) steps 2000000
+
+pub returns-then-is_whole-clause-too_long : goal.returns-then-is_whole-clause-too_long
+returns-then-is_whole-clause-too_long g c = grind (arith, elements) steps 2000000
+
+pub returns-then-is_whole-clause-at_hand : goal.returns-then-is_whole-clause-at_hand
+returns-then-is_whole-clause-at_hand g c = grind (arith, elements) steps 2000000
+
+pub returns-then-is_empty-clause-line : goal.returns-then-is_empty-clause-line
+returns-then-is_empty-clause-line g c = grind (arith, elements) steps 2000000
+
+pub returns-then-is_empty-clause-one : goal.returns-then-is_empty-clause-one
+returns-then-is_empty-clause-one g c = grind (arith, elements) steps 2000000
+
+pub returns-then-is_empty-clause-short : goal.returns-then-is_empty-clause-short
+returns-then-is_empty-clause-short g c = grind (arith, elements) steps 2000000
+
+pub returns-then-is_empty-clause-last : goal.returns-then-is_empty-clause-last
+returns-then-is_empty-clause-last g c = grind (arith, elements) steps 2000000
+
+pub returns-then-is_empty-clause-failed : goal.returns-then-is_empty-clause-failed
+returns-then-is_empty-clause-failed g c = grind (arith, elements) steps 2000000
+
+pub returns-then-is_empty-clause-none_failed : goal.returns-then-is_empty-clause-none_failed
+returns-then-is_empty-clause-none_failed g c = grind (arith, elements) steps 2000000
+
+pub returns-then-is_empty-clause-end : goal.returns-then-is_empty-clause-end
+returns-then-is_empty-clause-end g c = grind (arith, elements) steps 2000000
+
+pub returns-then-is_empty-clause-going : goal.returns-then-is_empty-clause-going
+returns-then-is_empty-clause-going g c = grind (arith, elements) steps 2000000
+
+pub returns-then-is_empty-clause-not_behind : goal.returns-then-is_empty-clause-not_behind
+returns-then-is_empty-clause-not_behind g c = grind (arith, elements) steps 2000000
+
+pub returns-then-is_empty-clause-too_long : goal.returns-then-is_empty-clause-too_long
+returns-then-is_empty-clause-too_long g c = grind (arith, elements) steps 2000000
+
+pub returns-then-is_empty-clause-at_hand : goal.returns-then-is_empty-clause-at_hand
+returns-then-is_empty-clause-at_hand g c = grind (arith, elements) steps 2000000
+
+pub returns-then-not-branch-clause-short : goal.returns-then-not-branch-clause-short
+returns-then-not-branch-clause-short g c = grind (arith, elements) steps 2000000
+
+pub returns-then-not-branch-clause-failed : goal.returns-then-not-branch-clause-failed
+returns-then-not-branch-clause-failed g c = grind (arith, elements) steps 2000000
+
+pub returns-then-not-branch-clause-none_failed : goal.returns-then-not-branch-clause-none_failed
+returns-then-not-branch-clause-none_failed g c = grind (arith, elements) steps 2000000
+
+pub returns-then-not-branch-clause-end : goal.returns-then-not-branch-clause-end
+returns-then-not-branch-clause-end g c = grind (arith, elements) steps 2000000
+
+pub returns-then-not-branch-clause-going : goal.returns-then-not-branch-clause-going
+returns-then-not-branch-clause-going g c = grind (arith, elements) steps 2000000
+
+pub returns-then-not-branch-clause-not_behind : goal.returns-then-not-branch-clause-not_behind
+returns-then-not-branch-clause-not_behind g c = grind (arith, elements) steps 2000000
+
+pub returns-then-not-branch-clause-too_long : goal.returns-then-not-branch-clause-too_long
+returns-then-not-branch-clause-too_long g c = grind (arith, elements) steps 2000000
+
+pub returns-then-not-branch-clause-at_hand : goal.returns-then-not-branch-clause-at_hand
+returns-then-not-branch-clause-at_hand g c = grind (arith, elements) steps 2000000
+
+pub loop-is_whole-smaller : goal.loop-is_whole-smaller
+loop-is_whole-smaller g c = grind (arith, elements) steps 2000000
