@@ -1,4 +1,4 @@
-use Rattle.std.proofs.lemmas.Grind.{elements}
+use Rattle.std.proofs.lemmas.Grind.{elements, common_steps}
 use Rattle.std.proofs.Common.{◌≡◌, ◌∙◌, ap, subst, sym, rules, arith}
 use Rattle.sc_graph.specs.Tick.{start}
 use Rattle.tick_core.specs.State.{BeginsTick}
@@ -67,3 +67,12 @@ returns-in-Whole-clause-accepted c = grind (arith, elements) steps 2000000
 
 pub returns-in-Whole-clause-refused : goal.returns-in-Whole-clause-refused
 returns-in-Whole-clause-refused c = grind (arith, elements) steps 2000000
+
+pub started-requires-clause-values : goal.started-requires-clause-values
+started-requires-clause-values c = grind (arith, common_steps) steps 2000000
+
+pub replay-requires-clause-begins : goal.replay-requires-clause-begins
+replay-requires-clause-begins c = grind (arith, common_steps) steps 2000000
+
+pub started-requires-clause-accepted : goal.started-requires-clause-accepted
+started-requires-clause-accepted c = grind (arith, common_steps) steps 2000000

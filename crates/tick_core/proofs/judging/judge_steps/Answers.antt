@@ -1,4 +1,5 @@
-use Rattle.std.proofs.Common.{◌≡◌, ap, subst, refl, ◌∙◌}
+use Rattle.std.proofs.lemmas.Grind.{common_steps}
+use Rattle.std.proofs.Common.{◌≡◌, ap, subst, refl, ◌∙◌, arith}
 use Rattle.sc_values.specs.Runs.{IsOver, IsOrdered}
 use Rattle.sc_graph.specs.Program.{Program}
 use Rattle.sc_graph.specs.Machine.{machine}
@@ -27,3 +28,9 @@ returns-in-None c =
       over = subst (λ (p : Program). IsOver (machine p) c.args.reached) same c.in-None.ensures;
       same = refl;
     }
+
+pub leader-requires-clause-length : goal.leader-requires-clause-length
+leader-requires-clause-length c = grind (arith, common_steps) steps 2000000
+
+pub returns-in-Some : goal.returns-in-Some
+returns-in-Some c = grind (arith, common_steps) steps 2000000

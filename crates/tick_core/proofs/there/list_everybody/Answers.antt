@@ -1,3 +1,4 @@
+use Rattle.std.proofs.lemmas.Grind.{common_steps}
 use Rattle.std.proofs.Common.{Contains, sym, subst, arith}
 use Rattle.tick_core.proofs.ListedThreads.{push_each}
 use Rattle.tick_core.proofs.there.list_everybody.Goals as goal
@@ -13,3 +14,6 @@ loop-thread-preserved c =
 
 pub returns-clause-listed : goal.returns-clause-listed
 returns-clause-listed c = λ t below. c.loop-thread.invariant.each t (omega (arith, below, c.loop-thread-test.false, c.thread_count-thread-end.ensures.count))
+
+pub loop-thread-init : goal.loop-thread-init
+loop-thread-init c = grind (arith, common_steps) steps 2000000

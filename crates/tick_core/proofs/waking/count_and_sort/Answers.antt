@@ -1,4 +1,4 @@
-use Rattle.std.proofs.lemmas.Grind.{elements}
+use Rattle.std.proofs.lemmas.Grind.{elements, common_steps}
 use Rattle.std.proofs.Common.{◌∙◌, Option, ℕ, arith, ap, sym, subst, slice_set}
 use Rattle.tick_core.specs.Rows.{HasRoom}
 use Rattle.tick_core.proofs.OwnRoom.{room_there}
@@ -37,3 +37,6 @@ returns-clause-counted c =
 
 pub returns-clause-sorted : goal.returns-clause-sorted
 returns-clause-sorted c = grind (arith, elements) steps 2000000
+
+pub loop-thread-init : goal.loop-thread-init
+loop-thread-init c = grind (arith, common_steps) steps 2000000

@@ -10,3 +10,6 @@ loop-parameter-preserved c = grind (arith, common_steps) steps 2000000
 
 pub returns : goal.returns
 returns c = grind (arith, common_steps) steps 2000000
+
+pub returns-in_err-misfit_at-in-len1-up : goal.returns-in_err-misfit_at-in-len1-up
+returns-in_err-misfit_at-in-len1-up c = grind (arith, common_steps) steps 2000000

@@ -7,3 +7,6 @@ loop-parameter-preserved c = grind (arith, common_steps) steps 2000000
 
 pub returns : goal.returns
 returns c = grind (arith, common_steps) steps 2000000
+
+pub returns-in_err-right_parameter : goal.returns-in_err-right_parameter
+returns-in_err-right_parameter c = grind (arith, common_steps) steps 2000000

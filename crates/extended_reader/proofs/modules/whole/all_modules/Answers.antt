@@ -7,3 +7,6 @@ loop-count-preserved c = search (rules, modules_go)
 
 pub returns-then-not-begins : goal.returns-then-not-begins
 returns-then-not-begins c = search (rules, modules_end)
+
+pub returns-in_err-module : goal.returns-in_err-module
+returns-in_err-module c = search rules

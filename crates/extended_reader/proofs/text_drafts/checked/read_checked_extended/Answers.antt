@@ -1,4 +1,4 @@
-use Rattle.std.proofs.Common.{None, subst, sym, ◌∙◌, ap}
+use Rattle.std.proofs.Common.{None, subst, sym, ◌∙◌, ap, rules}
 use Rattle.sc_text.specs.First.{first_behind}
 use Rattle.extended_reader.specs.Flaws.{extended_flaws}
 use Rattle.extended_reader.specs.Reading.{IsExtendedDraft}
@@ -20,3 +20,6 @@ returns-in-None-clause-ok c =
     subst (IsSound c.args.text.now) (sym c.into_inner.ensures)
     (sound _ c.in_ok-draft.draft drafted
     (sym c.in-None.is ∙ c.in_ok-flaw.ensures ∙ ap (λ d. first_behind None (extended_flaws d)) c.get.ensures))
+
+pub returns-in_err-read_extended_draft-clause-fault : goal.returns-in_err-read_extended_draft-clause-fault
+returns-in_err-read_extended_draft-clause-fault c = search rules

@@ -1,7 +1,7 @@
-use Rattle.std.proofs.Common.{◌≡◌, ◌∙◌, Some, refl, sym, slice_get}
+use Rattle.std.proofs.Common.{◌≡◌, ◌∙◌, Some, refl, sym, slice_get, rules}
 use Rattle.std.proofs.lemmas.Option.{slice_get_read}
 use Rattle.extended_reader.specs.Flaws.{region_inside_flaws, state_inside_flaws}
-use Rattle.extended_reader.proofs.Told.{part_told, parts_over}
+use Rattle.extended_reader.proofs.Told.{part_told, parts_over, state_told}
 use Rattle.extended_reader.proofs.text_drafts.inside_flaws.+inside.Goals as goal
 
 pub regions_inside_flaws-loop-region-preserved : goal.regions_inside_flaws-loop-region-preserved
@@ -28,3 +28,6 @@ pub states_inside_flaws-returns : goal.states_inside_flaws-returns
 states_inside_flaws-returns t c =
     sym (parts_over (state_inside_flaws c.args.signals.now.variables.now) c.args.states.now c.loop-state.state-index _ c.loop-state-test.false)
     ∙ c.loop-state.invariant
+
+pub state_inside_flaws-returns : goal.state_inside_flaws-returns
+state_inside_flaws-returns t c = search (rules, state_told)

@@ -2,7 +2,7 @@ use Rattle.std.proofs.Common.{rules, ◌≡◌, true, false, [], ◌∷◌}
 use Rattle.grammar.specs.Read.{starts}
 use Rattle.sc_text.specs.Classes.{AName}
 use Rattle.sc_text.specs.Expression.{text_tokens}
-use Rattle.extended_reader.proofs.ItemParts.{bare_signal_read, is_worded_typed}
+use Rattle.extended_reader.proofs.ItemParts.{bare_signal_read, is_worded_typed, bare_signal_fails}
 use Rattle.chart_reader.proofs.Same.{same_reading}
 use Rattle.extended_reader.proofs.text_drafts.items.worded_body.Goals as goal
 
@@ -17,3 +17,6 @@ returns c =
     let on = c.if-name_follows.false in
     let other : starts text_tokens (AName ∷ []) c.args.ahead.now.tokens.now ≡ false = search (rules, on, c.name_follows.ensures) in
     same_reading _ _ _ _ _ (is_worded_typed _ other) c.typed.ensures
+
+pub returns-in_err-named : goal.returns-in_err-named
+returns-in_err-named c = search (rules, bare_signal_fails)

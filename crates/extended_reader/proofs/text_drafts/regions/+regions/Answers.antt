@@ -13,6 +13,7 @@ use Rattle.extended_reader.specs.ExtendedText.{rowed, state, region, within}
 use Rattle.extended_reader.specs.Inside.TextDrafts.{Puts, put_part, put_parts, put_body}
 use Rattle.extended_reader.proofs.Putting.{putting_ends, putting_over, putting_stops, putting_on, parts_put}
 use Rattle.extended_reader.proofs.Nesting.{regions_put, states_put, no_first_region, no_first_state, region_puts, state_puts, braced_puts, braced_puts_stops}
+use Rattle.extended_reader.proofs.Nesting.{brace_stops, regions_stop, too_deep_stops}
 use Rattle.extended_reader.proofs.Nesting.{simple_puts, acting_read, acting_puts, inside_stops, bare_puts, bare_stops, nested_puts, leaving_stops}
 use Rattle.extended_reader.proofs.text_drafts.regions.+regions.Goals as goal
 
@@ -145,3 +146,12 @@ inside-returns t c =
     let some = c.if-depth-eq0.false in
     either_way _ c.leaving-2.ensures (λ x p. nested_puts _ _ _ _ _ begins some c.in_ok-regions.ensures _ _ _ _ _ p refl)
     (λ f. leaving_stops _ _ _ _ _ begins some c.in_ok-regions.ensures _ f)
+
+pub inside-returns-then-depth-eq0 : goal.inside-returns-then-depth-eq0
+inside-returns-then-depth-eq0 t c = search (rules, too_deep_stops)
+
+pub body-returns-in_err-skip_sign : goal.body-returns-in_err-skip_sign
+body-returns-in_err-skip_sign t c = search (rules, brace_stops)
+
+pub inside-returns-in_err-regions : goal.inside-returns-in_err-regions
+inside-returns-in_err-regions t c = search (rules, regions_stop)

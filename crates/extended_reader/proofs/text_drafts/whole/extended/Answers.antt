@@ -3,7 +3,7 @@ use Rattle.grammar.specs.Read.{read}
 use Rattle.sc_text.specs.declared.read_fault.ReadFault.{ReadFault}
 use Rattle.sc_text.specs.Reading.{Stops}
 use Rattle.extended_reader.specs.ExtendedText.{extended_text}
-use Rattle.extended_reader.proofs.Nesting.{chart_of, extended_gives, chart_stops}
+use Rattle.extended_reader.proofs.Nesting.{chart_of, extended_gives, chart_stops, word_stops}
 use Rattle.extended_reader.proofs.text_drafts.whole.extended.Goals as goal
 
 pub returns-in_err-chart : goal.returns-in_err-chart
@@ -15,3 +15,6 @@ returns-in_err-chart c =
 
 pub returns : goal.returns
 returns c = extended_gives _ _ _ _ _ _ c.in_ok-word.ensures c.in_ok-chart.ensures c.in_ok-draft.ensures
+
+pub returns-in_err-word : goal.returns-in_err-word
+returns-in_err-word c = search (rules, word_stops)

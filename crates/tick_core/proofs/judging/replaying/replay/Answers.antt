@@ -1,4 +1,4 @@
-use Rattle.std.proofs.lemmas.Grind.{elements}
+use Rattle.std.proofs.lemmas.Grind.{elements, common_steps}
 use Rattle.std.proofs.Common.{take, get_or, arith}
 use Rattle.std.proofs.lemmas.Option.{slice_get-get_or}
 use Rattle.tick_core.proofs.Replaying.{reached_by, some_step, runs_more}
@@ -32,3 +32,6 @@ loop-at-preserved c =
 
 pub returns : goal.returns
 returns c = grind (arith, elements) steps 2000000
+
+pub step_if_enabled-requires-clause-kinds : goal.step_if_enabled-requires-clause-kinds
+step_if_enabled-requires-clause-kinds c = grind (arith, common_steps) steps 2000000

@@ -1,4 +1,4 @@
-use Rattle.std.proofs.Common.{arith}
+use Rattle.std.proofs.Common.{arith, rules}
 use Rattle.std.proofs.lemmas.Grind.{common_steps, elements}
 use Rattle.tick_core.proofs.state.TickSpace.begin.Goals as goal
 
@@ -19,3 +19,6 @@ returns-in-Err-clause-refused c = grind (arith, elements) steps 2000000
 
 pub returns-in-Ok-clause-refused : goal.returns-in-Ok-clause-refused
 returns-in-Ok-clause-refused c = grind (arith, common_steps) steps 2000000
+
+pub go_on-requires : goal.go_on-requires
+go_on-requires c = search rules

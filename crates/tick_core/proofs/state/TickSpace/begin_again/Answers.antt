@@ -1,3 +1,4 @@
+use Rattle.std.proofs.lemmas.Grind.{common_steps}
 use Rattle.std.proofs.Common.{◌<◌, ◌∙◌, length, arith, ap, sym, subst}
 use Rattle.sc_graph.specs.Tick.{IsConfiguration}
 use Rattle.sc_graph.specs.Valid.{IsValid}
@@ -89,3 +90,9 @@ begin_in-requires-clause-space c =
         statuses = ap (λ (d : Control). length d.statuses) c.copy_into.ensures ∙ ok.threads;
       };
     }
+
+pub count_and_sort-requires-clause-places : goal.count_and_sort-requires-clause-places
+count_and_sort-requires-clause-places c = grind (arith, common_steps) steps 2000000
+
+pub returns : goal.returns
+returns c = grind (arith, common_steps) steps 2000000

@@ -1,4 +1,4 @@
-use Rattle.std.proofs.lemmas.Grind.{elements}
+use Rattle.std.proofs.lemmas.Grind.{elements, common_steps}
 use Rattle.std.proofs.Common.{◌≡◌, ◌∙◌, length, ap, sym, subst, arith}
 use Rattle.sc_graph.specs.declared.control.Control.{Control}
 use Rattle.sc_graph.specs.Tick.{Rests, start}
@@ -113,3 +113,27 @@ returns-clause-refused c = grind (arith, elements) steps 2000000
 
 pub returns-clause-why : goal.returns-clause-why
 returns-clause-why c = grind (arith, elements) steps 2000000
+
+pub start-requires-clause-values : goal.start-requires-clause-values
+start-requires-clause-values c = grind (arith, common_steps) steps 2000000
+
+pub start_twice-requires-clause-values : goal.start_twice-requires-clause-values
+start_twice-requires-clause-values c = grind (arith, common_steps) steps 2000000
+
+pub list_present-requires-clause-configuration : goal.list_present-requires-clause-configuration
+list_present-requires-clause-configuration c = grind (arith, common_steps) steps 2000000
+
+pub start_twice-requires-clause-given : goal.start_twice-requires-clause-given
+start_twice-requires-clause-given c = grind (arith, common_steps) steps 2000000
+
+pub start-requires-clause-given : goal.start-requires-clause-given
+start-requires-clause-given c = grind (arith, common_steps) steps 2000000
+
+pub begin_listed-requires-clause-bare : goal.begin_listed-requires-clause-bare
+begin_listed-requires-clause-bare c = grind (arith, common_steps) steps 2000000
+
+pub list_present-requires-clause-space : goal.list_present-requires-clause-space
+list_present-requires-clause-space c = grind (arith, elements) steps 2000000
+
+pub returns-clause-start : goal.returns-clause-start
+returns-clause-start c = grind arith steps 2000000

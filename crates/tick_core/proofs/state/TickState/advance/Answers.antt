@@ -1,3 +1,4 @@
+use Rattle.std.proofs.lemmas.Grind.{common_steps}
 use Rattle.std.proofs.Common.{◌∙◌, length, length-set, refl, sym, ap, subst, arith, None, slice_get}
 use Rattle.std.specs.Prelude.{IfSome, count_by, is_some}
 use Rattle.sc_graph.specs.Control.{status_of}
@@ -119,3 +120,6 @@ returns-clause-next c =
     c.self.inside.rows)) program_is
     (subst (λ q. IfSome c.step_on-next.result (LeadsOn c.program.result.now q c.self.inside.present c.step_on-next.new.control c.args.thread
     c.self.inside.rows)) tables_is c.step_on-next.ensures.on))
+
+pub returns-clause-step : goal.returns-clause-step
+returns-clause-step c = grind (arith, common_steps) steps 2000000

@@ -1,3 +1,4 @@
+use Rattle.std.proofs.lemmas.Grind.{common_steps}
 use Rattle.std.proofs.Common.{◌∙◌, length, length-set, None, sym, ap, subst, arith}
 use Rattle.std.specs.Prelude.{count_by, is_some}
 use Rattle.sc_graph.specs.Tick.{IsConfiguration}
@@ -44,3 +45,15 @@ invariant_of-self c = (
   c.self.invariant.7,
   c.self.invariant.8,
 )
+
+pub returns : goal.returns
+returns c = grind (arith, common_steps) steps 2000000
+
+pub sort-requires-clause-valid : goal.sort-requires-clause-valid
+sort-requires-clause-valid c = grind (arith, common_steps) steps 2000000
+
+pub sort-requires-clause-rows : goal.sort-requires-clause-rows
+sort-requires-clause-rows c = grind (arith, common_steps) steps 2000000
+
+pub sort-requires-clause-place : goal.sort-requires-clause-place
+sort-requires-clause-place c = grind (arith, common_steps) steps 2000000

@@ -1,3 +1,4 @@
+use Rattle.std.proofs.lemmas.Grind.{common_steps}
 use Rattle.std.proofs.Common.{◌∙◌, length, refl, sym, ap, subst, arith}
 use Rattle.std.specs.Prelude.{count_by, is_some}
 use Rattle.sc_graph.specs.Tick.{IsConfiguration}
@@ -56,3 +57,12 @@ returns-else-self-gt0 c =
       no_claim = nobody_open _ c.self.invariant.0 c.self.inside.rows c.self.invariant.4 c.self.inside.claimed c.self.inside.level c.self.invariant.5
           (omega (arith, c.if-self-gt0.false));
     })
+
+pub sort_every-requires-clause-rows : goal.sort_every-requires-clause-rows
+sort_every-requires-clause-rows c = grind (arith, common_steps) steps 2000000
+
+pub returns-then-self-gt0 : goal.returns-then-self-gt0
+returns-then-self-gt0 c = grind (arith, common_steps) steps 2000000
+
+pub sort_every-requires-clause-valid : goal.sort_every-requires-clause-valid
+sort_every-requires-clause-valid c = grind (arith, common_steps) steps 2000000

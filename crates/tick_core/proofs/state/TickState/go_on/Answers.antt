@@ -1,4 +1,4 @@
-use Rattle.std.proofs.lemmas.Grind.{elements}
+use Rattle.std.proofs.lemmas.Grind.{elements, common_steps}
 use Rattle.std.proofs.Common.{◌≡◌, ◌<◌, ◌∙◌, None, length, refl, sym, ap, subst, arith}
 use Rattle.std.proofs.lemmas.List.{length-map}
 use Rattle.sc_values.specs.Runs.{IsOver}
@@ -140,3 +140,21 @@ returns-clause-same c = grind (arith, elements) steps 2000000
 
 pub returns-clause-why : goal.returns-clause-why
 returns-clause-why c = grind (arith, elements) steps 2000000
+
+pub start_anew-requires-clause-given : goal.start_anew-requires-clause-given
+start_anew-requires-clause-given c = grind (arith, common_steps) steps 2000000
+
+pub sort_listed-requires-clause-rows : goal.sort_listed-requires-clause-rows
+sort_listed-requires-clause-rows c = grind (arith, common_steps) steps 2000000
+
+pub sort_listed-requires-clause-listed : goal.sort_listed-requires-clause-listed
+sort_listed-requires-clause-listed c = grind (arith, common_steps) steps 2000000
+
+pub sort_listed-requires-clause-valid : goal.sort_listed-requires-clause-valid
+sort_listed-requires-clause-valid c = grind (arith, common_steps) steps 2000000
+
+pub start_anew-requires-clause-fits : goal.start_anew-requires-clause-fits
+start_anew-requires-clause-fits c = grind (arith, common_steps) steps 2000000
+
+pub invariant_of-self : goal.invariant_of-self
+invariant_of-self c = grind (arith, common_steps) steps 2000000

@@ -1,4 +1,5 @@
-use Rattle.std.proofs.Common.{◌∙◌, ap, refl}
+use Rattle.std.proofs.lemmas.Grind.{common_steps}
+use Rattle.std.proofs.Common.{◌∙◌, ap, refl, arith}
 use Rattle.tick_core.proofs.StateKept.{finished, none_open}
 use Rattle.tick_core.proofs.StartKept.{begun_places}
 use Rattle.tick_core.proofs.state.TickState.hand_over.Goals as goal
@@ -26,3 +27,9 @@ returns-clause-rests c = (finished _ _ _ _ c.self.view_is c.self.invariant.0 c.r
 
 pub returns-clause-tick : goal.returns-clause-tick
 returns-clause-tick c = (finished _ _ _ _ c.self.view_is c.self.invariant.0 c.requires (ap (λ s. s.present) c.self.view_is) refl).tick
+
+pub returns-clause-by_priority : goal.returns-clause-by_priority
+returns-clause-by_priority c = grind (arith, common_steps) steps 2000000
+
+pub returns-clause-room : goal.returns-clause-room
+returns-clause-room c = grind (arith, common_steps) steps 2000000

@@ -39,3 +39,6 @@ index_mut-requires c = grind (arith, elements) steps 2000000
 
 pub overflow_add-self : goal.overflow_add-self
 overflow_add-self c = grind (arith, common_steps) steps 2000000
+
+pub set-requires : goal.set-requires
+set-requires c = grind (arith, elements) steps 2000000

@@ -1,5 +1,5 @@
 use Rattle.std.proofs.Common.{arith}
-use Rattle.std.proofs.lemmas.Grind.{elements}
+use Rattle.std.proofs.lemmas.Grind.{elements, common_steps}
 use Rattle.tick_core.proofs.LeadingThreads.{run_begins, run_goes_on}
 use Rattle.tick_core.proofs.state.TickState.run_past.Goals as goal
 
@@ -14,3 +14,6 @@ returns-clause-over g c = grind (arith, elements) steps 2000000
 
 pub returns-clause-by : goal.returns-clause-by
 returns-clause-by g c = grind (arith, elements) steps 2000000
+
+pub loop-next-smaller : goal.loop-next-smaller
+loop-next-smaller g c = grind (arith, common_steps) steps 2000000

@@ -1,3 +1,4 @@
+use Rattle.std.proofs.lemmas.Grind.{common_steps}
 use Rattle.std.proofs.Common.{◌∙◌, None, length, arith, refl, ap, sym, subst}
 use Rattle.std.proofs.lemmas.List.{length-map}
 use Rattle.tick_core.specs.State.{BeginsTick}
@@ -34,3 +35,6 @@ invariant_of-result c =
       c.requires.space.given,
       fits_begun c.args.verified.now.program c.args.begun c.args.room.spare _ c.requires.same c.requires.space.listed c.requires.listed,
     )
+
+pub returns : goal.returns
+returns c = grind (arith, common_steps) steps 2000000

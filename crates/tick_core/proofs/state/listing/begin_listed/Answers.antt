@@ -1,4 +1,5 @@
-use Rattle.std.proofs.Common.{◌∙◌, ap, sym, subst}
+use Rattle.std.proofs.lemmas.Grind.{common_steps}
+use Rattle.std.proofs.Common.{◌∙◌, ap, sym, subst, arith, rules}
 use Rattle.sc_graph.specs.Tick.{IsConfiguration}
 use Rattle.tick_core.specs.Inside.Astir.{AstirListed}
 use Rattle.tick_core.specs.Space.Sorting.{OwnRows}
@@ -32,3 +33,18 @@ begin_in-requires-clause-space c =
       present = c.requires.space.present;
       spare = c.requires.space.spare;
     }
+
+pub sort_listed-requires-clause-rows : goal.sort_listed-requires-clause-rows
+sort_listed-requires-clause-rows c = grind (arith, common_steps) steps 2000000
+
+pub begin_in-requires-clause-counted : goal.begin_in-requires-clause-counted
+begin_in-requires-clause-counted c = grind (arith, common_steps) steps 2000000
+
+pub begin_in-requires-clause-sorted : goal.begin_in-requires-clause-sorted
+begin_in-requires-clause-sorted c = grind (arith, common_steps) steps 2000000
+
+pub sort_listed-requires-clause-counts : goal.sort_listed-requires-clause-counts
+sort_listed-requires-clause-counts c = search rules
+
+pub sort_listed-requires-clause-valid : goal.sort_listed-requires-clause-valid
+sort_listed-requires-clause-valid c = search rules

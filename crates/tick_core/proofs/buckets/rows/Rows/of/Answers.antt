@@ -1,4 +1,5 @@
-use Rattle.std.proofs.Common.{◌≡◌, ◌∙◌, ◌<◌, ap, sym, subst, rules, length, take}
+use Rattle.std.proofs.lemmas.Grind.{common_steps, elements}
+use Rattle.std.proofs.Common.{◌≡◌, ◌∙◌, ◌<◌, ap, sym, subst, rules, length, take, arith}
 use Rattle.std.specs.Prelude.{replicate, sum_by}
 use Rattle.std.proofs.lemmas.List.{length-replicate}
 use Rattle.tick_core.proofs.Counting.{stand_empty}
@@ -17,3 +18,9 @@ invariant_of-result c =
     (search rules)
     (search rules)
     (ap length places_are ∙ length-replicate c.args.items 0)
+
+pub returns-clause-rooms : goal.returns-clause-rooms
+returns-clause-rooms c = grind (arith, common_steps) steps 2000000
+
+pub returns-clause-empty : goal.returns-clause-empty
+returns-clause-empty c = grind (arith, elements) steps 2000000

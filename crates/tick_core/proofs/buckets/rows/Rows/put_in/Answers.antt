@@ -39,3 +39,12 @@ overflow_add-at c = grind (arith, elements) steps 2000000
 
 pub overflow_add-self : goal.overflow_add-self
 overflow_add-self c = grind (arith, common_steps) steps 2000000
+
+pub index_mut-requires-3 : goal.index_mut-requires-3
+index_mut-requires-3 c = grind (arith, common_steps) steps 2000000
+
+pub index_mut-requires-2 : goal.index_mut-requires-2
+index_mut-requires-2 c = grind (arith, common_steps) steps 2000000
+
+pub index_mut-requires-4 : goal.index_mut-requires-4
+index_mut-requires-4 c = grind (arith, common_steps) steps 2000000

@@ -1,4 +1,5 @@
-use Rattle.std.proofs.Common.{ap, ◌∙◌, slice_get, None}
+use Rattle.std.proofs.lemmas.Grind.{common_steps}
+use Rattle.std.proofs.Common.{ap, ◌∙◌, slice_get, None, arith}
 use Rattle.tick_core.proofs.Lists.{get_set_same}
 use Rattle.tick_core.proofs.Moving.{room_after, room_known, set_again}
 use Rattle.tick_core.proofs.buckets.rows.Rows.set.Goals as goal
@@ -12,3 +13,6 @@ put_in-requires-clause-nowhere c = ap (λ r. slice_get r.classes c.args.item) c.
 
 pub returns-in-Some : goal.returns-in-Some
 returns-in-Some c = set_again _ _ _ c.args.item c.in-Some.class c.args.class c.in-Some.is c.take_out.ensures c.put_in.ensures
+
+pub take_out-requires : goal.take_out-requires
+take_out-requires c = grind (arith, common_steps) steps 2000000

@@ -98,3 +98,6 @@ returns-in_default c = grind (arith, common_steps) steps 2000000
 
 pub overflow_sub-self : goal.overflow_sub-self
 overflow_sub-self c = grind (arith, common_steps) steps 2000000
+
+pub index_mut-requires-4 : goal.index_mut-requires-4
+index_mut-requires-4 c = grind (arith, common_steps) steps 2000000

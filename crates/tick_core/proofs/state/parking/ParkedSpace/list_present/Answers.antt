@@ -1,5 +1,5 @@
 use Rattle.std.proofs.Common.{arith}
-use Rattle.std.proofs.lemmas.Grind.{elements}
+use Rattle.std.proofs.lemmas.Grind.{elements, common_steps}
 use Rattle.tick_core.proofs.state.parking.ParkedSpace.list_present.Goals as goal
 
 pub returns-then-not-is_empty-clause-space : goal.returns-then-not-is_empty-clause-space
@@ -37,3 +37,18 @@ returns-clause-bare c = grind (arith, elements) steps 2000000
 
 pub returns-clause-given : goal.returns-clause-given
 returns-clause-given c = grind (arith, elements) steps 2000000
+
+pub clear_listed-requires : goal.clear_listed-requires
+clear_listed-requires c = grind (arith, common_steps) steps 2000000
+
+pub list_all-requires-clause-formed : goal.list_all-requires-clause-formed
+list_all-requires-clause-formed c = grind (arith, common_steps) steps 2000000
+
+pub list_all-requires-clause-room : goal.list_all-requires-clause-room
+list_all-requires-clause-room c = grind (arith, common_steps) steps 2000000
+
+pub list_all-requires-clause-configuration : goal.list_all-requires-clause-configuration
+list_all-requires-clause-configuration c = grind (arith, common_steps) steps 2000000
+
+pub list_all-requires-clause-places : goal.list_all-requires-clause-places
+list_all-requires-clause-places c = grind (arith, common_steps) steps 2000000

@@ -1,0 +1,6 @@
+use Rattle.std.proofs.Common.{arith}
+use Rattle.std.proofs.lemmas.Grind.{common_steps}
+use Rattle.chart_reduction.proofs.rows.before.Goals as goal
+
+pub returns-then-has_some : goal.returns-then-has_some
+returns-then-has_some c = grind (arith, common_steps) steps 2000000

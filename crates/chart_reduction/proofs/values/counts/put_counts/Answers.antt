@@ -1,0 +1,9 @@
+use Rattle.std.proofs.Common.{arith}
+use Rattle.std.proofs.lemmas.Grind.{common_steps}
+use Rattle.chart_reduction.proofs.values.counts.put_counts.Goals as goal
+
+pub returns : goal.returns
+returns c = grind (arith, common_steps) steps 2000000
+
+pub returns-then-not-has_some : goal.returns-then-not-has_some
+returns-then-not-has_some c = grind (arith, common_steps) steps 2000000
