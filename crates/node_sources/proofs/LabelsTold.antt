@@ -1,5 +1,5 @@
 -- Where a label stands.
-use Rattle.std.proofs.Common.{◌≡◌, ℕ, zero, suc, Option, Some, None, IfSome, List, [], ◌∷◌, ◌++◌, map, slice_get, refl, sym, ap, subst, ◌∙◌}
+use Rattle.std.proofs.Common.{◌≡◌, ℕ, zero, suc, Option, Some, None, IfOk, IfSome, Result, Ok, Err, List, [], ◌∷◌, ◌++◌, map, slice_get, refl, sym, ap, subst, ◌∙◌}
 use Rattle.sc_text.specs.declared.language.Language.TheVariants as language
 use Rattle.sc_text.specs.declared.token.Token.{Token}
 use Rattle.sc_text.specs.Tokens.{AreTokens}
@@ -67,6 +67,15 @@ chart_labelled text c p scl name k core elements (Some o) placed lowers label sa
       ap (λ core. label_origin p (slice_get (map (through (expansion_origins c)) (point_origins core)) k)) (sym same)
       ∙ ap (λ es. label_origin p (slice_get es k)) (sym made) ∙ sym is;
 }
+
+-- the same of what a function answers
+pub chart_label_answered : {E : Type 0} (text : List ℕ) (c : Chart) (p : Places) (scl : Scl) (name : List ℕ) (k : ℕ) (core : Chart)
+    (elements : List (Option Element)) (r : Result (Option Origin) E) → IsPlaced text c p → IsSclOf c scl → IsLabel scl name k →
+    core ≡ expanded c → elements ≡ map (through (expansion_origins c)) (point_origins core) →
+    IfOk r (λ found. found ≡ label_origin p (slice_get elements k)) → IfOk r (λ found. IfSome found (ChartLabel text name))
+chart_label_answered text c p scl name k core elements (Ok found) placed lowers label same made is =
+    chart_labelled text c p scl name k core elements found placed lowers label same made is
+chart_label_answered text c p scl name k core elements (Err e) placed lowers label same made is = tt
 
 pub scl_labelled : (text : List ℕ) (d : Draft) (tokens : List Token) (scl : Scl) (name : List ℕ) (k : ℕ) (spots : List StatementPlace) (r : Option Origin) →
     IsFlawless text d → AreTokens language.Scl 0 text tokens → IsProgramOf d scl → IsLabel scl name k → spots ≡ spots_of tokens d.statements →

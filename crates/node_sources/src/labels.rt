@@ -4,6 +4,7 @@ ghost use Rattle.std.specs.Prelude.{◌≡◌, ◌++◌, ◌↔◌, IfOk, IfSome
 ghost use Rattle.node_elements.specs.Points.{in_row, points_of, text_points};
 ghost use Rattle.node_sources.specs.Labels.{ChartLabel, IsLabel, IsLabelOrigin, SclLabel};
 ghost use Rattle.node_sources.specs.Labels.{label_at, label_origin, label_part};
+ghost use Rattle.node_sources.specs.Places.{places_of};
 ghost use Rattle.compiler.specs.Kept.{KeepsChart, KeepsDraft};
 
 use crate::chart_origins::element_origin;
@@ -11,6 +12,7 @@ use crate::chart_places::{Places, places_of};
 use crate::origin::{Origin, SourcePart};
 use crate::scl_sources::{first_origin, tokens_of};
 use crate::statements::spots_of;
+use chart_reader::DraftChart;
 use compiler::{ReadChart, ReadSource, ReadText};
 use core_charts::Element;
 use node_elements::point_elements;
@@ -141,7 +143,6 @@ fn origin_of(places: &Places, elements: &[Option<Element>], number: usize) -> Op
 }
 
 // The label of this name in the lowering of the chart of a text.
-#[tactic(auto, using(crate::proofs::ChartsTold::placed_in))]
 fn chart_label(
     alloc: Global,
     text: &str,
@@ -152,12 +153,43 @@ fn chart_label(
     requires { KeepsChart text.now scl.now kept.now }
     ensures { IfOk result (λ found. IfSome found (ChartLabel text.now label)) }
 {
-    let Some(number) = label_point(alloc, scl, label)? else {
-        return Ok(None);
-    };
+    match label_point(alloc, scl, label)? {
+        Some(number) => chart_label_at(alloc, text, kept, scl, label, number),
+        None => Ok(None),
+    }
+}
+
+// The same, where the label stands at the point of this number.
+fn chart_label_at(
+    alloc: Global,
+    text: &str,
+    kept: &ReadChart,
+    scl: &Scl,
+    label: Name,
+    number: usize,
+) -> Result<Option<Origin>, AllocError>
+    requires kept { KeepsChart text.now scl.now kept.now }
+    requires label { IsLabel scl.now label number }
+    ensures { IfOk result (λ found. IfSome found (ChartLabel text.now label)) }
+{
     let elements = point_elements(alloc, &kept.chart, &kept.core)?;
-    let places = places_of(alloc, &kept.draft)?;
-    Ok(origin_of(&places, elements.as_slice(), number))
+    drafted_origin(alloc, &kept.draft, elements.as_slice(), number)
+}
+
+// The origin of the label at the point of this number, where the points come from these elements of the chart of this
+// draft.
+fn drafted_origin(
+    alloc: Global,
+    draft: &DraftChart,
+    elements: &[Option<Element>],
+    number: usize,
+) -> Result<Option<Origin>, AllocError>
+    ensures { IfOk result (λ found. found ≡ label_origin (places_of draft.now) (slice_get elements.now number)) }
+{
+    let places = places_of(alloc, draft)?;
+    let found = origin_of(&places, elements, number);
+    drop(places);
+    Ok(found)
 }
 
 // The label of this name in the draft of an SCL text.

@@ -1,6 +1,8 @@
 //! The chart to which the extended chart of a text is reduced, on its way to a program.
 
-ghost use Rattle.std.specs.Prelude.{◌≡◌, IfOk, IfSome};
+ghost use Rattle.std.specs.Prelude.{◌≡◌, IfOk, IfSome, None};
+ghost use Rattle.core_charts.specs.declared.features.Features.TheVariants as features;
+ghost use Rattle.core_charts.specs.Rules.{IsChart};
 ghost use Rattle.abort_expansion.specs.Expansion.{expanded};
 ghost use Rattle.compiler.specs.Charts.{IsSclOf};
 ghost use Rattle.node_sources.specs.ExtendedRead.{IsAuthorPlaced};
@@ -28,15 +30,20 @@ pub(crate) struct Lowered {
 fn core_of(alloc: Global, chart: &Chart) -> Result<(CoreChart, Scl), ExpandFault>
     ensures { IfOk result (λ made. (made.0 ≡ expanded chart.now) × IsSclOf chart.now made.1) }
 {
-    let (core, _states) = expand(alloc, chart)?;
+    let (core, states) = expand(alloc, chart)?;
+    drop(states);
     // It keeps the rules of core charts.
     let _regions = core.regions();
-    let scl = lower(alloc, &core)?;
-    Ok((core, scl))
+    match lower(alloc, &core) {
+        Ok(scl) => Ok((core, scl)),
+        Err(AllocError) => {
+            drop(core);
+            Err(ExpandFault::Memory)
+        }
+    }
 }
 
 // The same of the chart that is placed. None: it has none.
-#[tactic(auto, using(crate::proofs::Told::is_lowered))]
 fn lowered_from(
     alloc: Global,
     text: &str,
@@ -48,9 +55,40 @@ fn lowered_from(
     // It keeps the rules of charts.
     let _name = placed.chart.name();
     match core_of(alloc, &placed.chart) {
-        Ok((core, scl)) => Ok(Some(Boxed::new(alloc, Lowered { placed, core, scl })?)),
-        Err(ExpandFault::Limit) => Ok(None),
-        Err(ExpandFault::Memory) => Err(AllocError),
+        Ok(made) => lowered_with(alloc, text, placed, made),
+        Err(fault) => unlowered(placed, fault),
+    }
+}
+
+// The chart that is placed, with its core chart and its SCL program.
+#[tactic(auto, using(crate::proofs::Told::is_lowered))]
+fn lowered_with(
+    alloc: Global,
+    text: &str,
+    placed: AuthorPlaced,
+    made: (CoreChart, Scl),
+) -> Result<Option<Boxed<Lowered>>, AllocError>
+    requires placed { IsAuthorPlaced text.now placed.chart placed.origins placed.places }
+    requires rules { IsChart features.Extended placed.chart }
+    requires core { made.0 ≡ expanded placed.chart }
+    requires lowers { IsSclOf placed.chart made.1 }
+    ensures { IfOk result (λ found. IfSome found (IsLowered text.now)) }
+{
+    let (core, scl) = made;
+    match Boxed::new(alloc, Lowered { placed, core, scl }) {
+        Ok(lowered) => Ok(Some(lowered)),
+        Err(error) => Err(error),
+    }
+}
+
+// What is answered of a chart that is placed, and has no core chart or none that memory was given for.
+fn unlowered(placed: AuthorPlaced, fault: ExpandFault) -> Result<Option<Boxed<Lowered>>, AllocError>
+    ensures { IfOk result (λ found. found ≡ None) }
+{
+    drop(placed);
+    match fault {
+        ExpandFault::Limit => Ok(None),
+        ExpandFault::Memory => Err(AllocError),
     }
 }
 
