@@ -1,3 +1,5 @@
+use Rattle.std.proofs.Common.{arith}
+use Rattle.std.proofs.lemmas.Grind.{common_steps}
 use Rattle.chart_machine.proofs.RegionRows.{given_by_region, row_first}
 use Rattle.chart_machine.proofs.tabling.+parts.Goals as goal
 
@@ -19,3 +21,12 @@ put_region-returns-clause-regions t c =
     c.in_ok-inside.ensures c.in_ok-next.ensures)
     (row_first _ _ _ _ _ _ _ _ _ c.in_ok-put_region_row.ensures c.in_ok-put_states.ensures.regions c.new-others.ensures c.in_ok-put_states.ensures.others
     c.in_ok-append.ensures)
+
+pub put_states-loop-state-preserved : goal.put_states-loop-state-preserved
+put_states-loop-state-preserved t c = grind (arith, common_steps) steps 2000000
+
+pub put_side_by_side-loop-region-preserved : goal.put_side_by_side-loop-region-preserved
+put_side_by_side-loop-region-preserved t c = grind (arith, common_steps) steps 2000000
+
+pub put_states-returns : goal.put_states-returns
+put_states-returns t c = grind (arith, common_steps) steps 2000000

@@ -1,4 +1,5 @@
-use Rattle.std.proofs.Common.{ℕ, subst}
+use Rattle.std.proofs.lemmas.Grind.{common_steps}
+use Rattle.std.proofs.Common.{ℕ, subst, arith}
 use Rattle.std.specs.Prelude.{slice_index}
 use Rattle.least_or_cycle.specs.Least.{IsWithin}
 use Rattle.least_or_cycle.specs.Walks.{Falls}
@@ -12,3 +13,6 @@ returns-in-Some-2 g c =
       least_alike (g.G.NumberRule.keeps c.args.graph.now) (Falls (g.G.Graph.leads c.args.graph.now)) c.args.count c.in-Some-2.table.items c.requires least,
       subst P c.from.ensures (c.in_ok-table.ensures.within c.in-Some-2.table c.in-Some-2.is),
     )
+
+pub returns-in-Some-3 : goal.returns-in-Some-3
+returns-in-Some-3 g c = grind (arith, common_steps) steps 2000000

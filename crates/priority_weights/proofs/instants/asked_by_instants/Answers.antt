@@ -1,4 +1,5 @@
-use Rattle.std.proofs.Common.{ℕ, List, ◌⊎◌, subst, sym}
+use Rattle.std.proofs.lemmas.Grind.{common_steps}
+use Rattle.std.proofs.Common.{ℕ, List, ◌⊎◌, subst, sym, arith}
 use Rattle.sc_graph.specs.Protocol.{Instant}
 use Rattle.program_edges.specs.Sorts.{IsOn, IsEntry, children_of}
 use Rattle.program_edges.specs.Sorts.{IsNext}
@@ -21,3 +22,6 @@ returns-in-Some c =
     subst P (sym c.max.ensures)
     (asked_alike (λ n. IsOn p m s n ⊎ IsEntry p (children_of s) n) (Instant p m) table 0 _ (instants_are p m s (sym c.in-Some.ensures))
     (asked_either (IsOn p m s) (IsEntry p (children_of s)) table 0 c.asked_by_next.result c.asked_by_entries.result on into))
+
+pub returns-in-None : goal.returns-in-None
+returns-in-None c = grind (arith, common_steps) steps 2000000

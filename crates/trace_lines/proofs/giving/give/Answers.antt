@@ -1,4 +1,5 @@
-use Rattle.std.proofs.Common.{◌≡◌, ◌≤◌, ◌++◌, ◌∷◌, [], Some, slice_get, sym, rules}
+use Rattle.std.proofs.lemmas.Grind.{elements}
+use Rattle.std.proofs.Common.{◌≡◌, ◌≤◌, ◌++◌, ◌∷◌, [], Some, slice_get, sym, rules, arith}
 use Rattle.trace_lines.specs.Inside.Ordered.{with_given}
 use Rattle.trace_lines.proofs.Expecting.{given_last, given_among}
 use Rattle.trace_lines.proofs.giving.give.Goals as goal
@@ -21,3 +22,6 @@ returns c =
     let there : slice_get es c.args.given.0 ≡ Some input = sym c.in-Some.ensures in
     let is : c.put.new.found.items ≡ with_given (input.0, c.args.given.1) found = search rules in
     given_among es found c.put.new.found.items c.args.given input there is
+
+pub overflow_add-result : goal.overflow_add-result
+overflow_add-result c = grind (arith, elements) steps 2000000

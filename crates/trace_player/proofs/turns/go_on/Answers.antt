@@ -1,4 +1,5 @@
-use Rattle.std.proofs.Common.{◌≡◌, ◌∙◌, ◌+◌, ◌++◌, Err, Some, [], ap, sym, subst, refl, rules}
+use Rattle.std.proofs.lemmas.Grind.{common_steps}
+use Rattle.std.proofs.Common.{◌≡◌, ◌∙◌, ◌+◌, ◌++◌, Err, Some, [], ap, sym, subst, refl, rules, arith}
 use Rattle.std.specs.Io.KnownBytes.{IsAtEnd, append_known}
 use Rattle.std.proofs.lemmas.Result.{err_from_is_err_and}
 use Rattle.sc_values.specs.Streams.{GrowsInto}
@@ -307,3 +308,15 @@ returns-in_err-react-clause-write g c =
     λ e.
     let is : fault ≡ play_fault.Write = cc (here, same, e) in
     absurd (tells_no_write i.program _ _ fault c.in_err-react.ensures.fault is)
+
+pub overflow_step-turn : goal.overflow_step-turn
+overflow_step-turn g c = grind (arith, common_steps) steps 2000000
+
+pub react-requires-clause-short : goal.react-requires-clause-short
+react-requires-clause-short g c = grind (arith, common_steps) steps 2000000
+
+pub returns-then-not-write_or_hold-clause-same : goal.returns-then-not-write_or_hold-clause-same
+returns-then-not-write_or_hold-clause-same g c = grind (arith, common_steps) steps 2000000
+
+pub returns-then-not-write_or_hold-clause-write : goal.returns-then-not-write_or_hold-clause-write
+returns-then-not-write_or_hold-clause-write g c = grind (arith, common_steps) steps 2000000

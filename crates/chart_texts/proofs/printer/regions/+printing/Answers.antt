@@ -30,3 +30,12 @@ put_states-loop-state-preserved t c = grind (arith, common_steps) steps 2000000
 
 pub put_states-returns : goal.put_states-returns
 put_states-returns t c = grind (arith, common_steps) steps 2000000
+
+pub put_state-deeper-requires-text-margin : goal.put_state-deeper-requires-text-margin
+put_state-deeper-requires-text-margin t c = grind (arith, common_steps) steps 2000000
+
+pub put_state-put_line-requires-text-margin : goal.put_state-put_line-requires-text-margin
+put_state-put_line-requires-text-margin t c = grind (arith, common_steps) steps 2000000
+
+pub put_region-put_line-requires-text-margin : goal.put_region-put_line-requires-text-margin
+put_region-put_line-requires-text-margin t c = grind (arith, common_steps) steps 2000000

@@ -1,3 +1,4 @@
+use Rattle.std.proofs.lemmas.Grind.{common_steps}
 use Rattle.std.proofs.Common.{◌≡◌, Some, arith, refl, slice_get, ◌-◌, ◌<◌, length}
 use Rattle.std.proofs.lemmas.Option.{slice_get_read}
 use Rattle.std.specs.Prelude.{nat_eq}
@@ -16,3 +17,6 @@ loop-left-preserved c =
       places = one_before (get (pointwise nat_eq) c.loop-left.hashed) (get (pointwise nat_eq) c.insert.new.self) c.args.names.now c.loop-left.left name
           c.loop-left-test.true is c.loop-left.invariant.places c.in_ok-insert.ensures.updates.0;
     }
+
+pub loop-left-init : goal.loop-left-init
+loop-left-init c = grind (arith, common_steps) steps 2000000

@@ -1,4 +1,4 @@
-use Rattle.std.proofs.lemmas.Grind.{elements}
+use Rattle.std.proofs.lemmas.Grind.{elements, common_steps}
 use Rattle.std.proofs.Common.{◌≡◌, ◌∙◌, [], ◌<◌, sym, subst, false, true, length, vec_len, rules, arith}
 use Rattle.std.specs.Io.KnownBytes.{Consumes, IsAtEnd}
 use Rattle.std.proofs.KnownBytes.{prepend_known-nil}
@@ -183,3 +183,6 @@ returns-then-not-branch-clause-at_hand g c = grind (arith, elements) steps 20000
 
 pub loop-is_whole-smaller : goal.loop-is_whole-smaller
 loop-is_whole-smaller g c = grind (arith, elements) steps 2000000
+
+pub refill-requires : goal.refill-requires
+refill-requires g c = grind (arith, common_steps) steps 2000000

@@ -1,4 +1,5 @@
-use Rattle.std.proofs.Common.{◌≡◌, ◌∙◌, ◌+◌, Err, ap, sym, subst, refl, rules, Some}
+use Rattle.std.proofs.lemmas.Grind.{common_steps}
+use Rattle.std.proofs.Common.{◌≡◌, ◌∙◌, ◌+◌, Err, ap, sym, subst, refl, rules, Some, arith}
 use Rattle.std.specs.Io.KnownBytes.{IsAtEnd}
 use Rattle.std.proofs.lemmas.Result.{err_from_is_err_and}
 use Rattle.trace_lines.specs.Lines.{ahead, TakesLine, IsTooLong}
@@ -214,3 +215,6 @@ returns-clause-came g c =
     came_short makes ends from before at
     (stopped makes ends from before.source.to_come before.sink.taken (ahead l.lines at.source.to_come) l.player at.sink.taken l.invariant.played)
     l.invariant.none_read l.invariant.none_write (open_not_behind before.source.progress at.source.progress l.invariant.going)
+
+pub overflow_step-turn : goal.overflow_step-turn
+overflow_step-turn g c = grind (arith, common_steps) steps 2000000

@@ -1,0 +1,9 @@
+use Rattle.std.proofs.Common.{arith}
+use Rattle.std.proofs.lemmas.Grind.{common_steps}
+use Rattle.chart_machine.proofs.table.Table.effected.Goals as goal
+
+pub returns : goal.returns
+returns c = grind (arith, common_steps) steps 2000000
+
+pub returns-then-not-takes : goal.returns-then-not-takes
+returns-then-not-takes c = grind (arith, common_steps) steps 2000000
