@@ -1,3 +1,5 @@
+use Rattle.std.proofs.lemmas.Grind.{elements}
+use Rattle.std.proofs.Common.{arith}
 use Rattle.std.proofs.lemmas.Result.{err_from_is_err_and}
 use Rattle.bytecode.specs.Layout.{node_rows}
 use Rattle.bytecode.specs.Reading.{each_at}
@@ -30,3 +32,6 @@ returns-clause-gives c =
     let front = node_rows c.loop.columns.nodes c.loop.columns.priorities c.loop.columns.weights c.loop.columns.end_bits in
     is_done (node_at c.args.version) front c.args.count c.loop.counter c.loop.rest.now (each_at (node_at c.args.version) c.args.count c.args.bytes.now)
     c.loop-test.false c.loop.invariant.read
+
+pub loop-init : goal.loop-init
+loop-init c = grind (arith, elements) steps 2000000

@@ -1,3 +1,5 @@
+use Rattle.std.proofs.lemmas.Grind.{common_steps}
+use Rattle.std.proofs.Common.{arith}
 use Rattle.sc_graph.proofs.Loads.{load_refused, load_passed}
 use Rattle.sc_graph.proofs.program.Program.loads_fit.Goals as goal
 
@@ -15,3 +17,6 @@ loop-operation-preserved c =
     let step = load_passed c.args.self.now c.operations-operation-items.result.now c.loop-operation.operation-index _ c.loop-operation-test.true
     c.operation-item.is (c.load_fits.ensures.0 c.if-not-load_fits.false) in
     (λ fits. step.0 (c.loop-operation.invariant.0 fits), λ fits. c.loop-operation.invariant.1 (step.1 fits))
+
+pub returns : goal.returns
+returns c = grind (arith, common_steps) steps 2000000

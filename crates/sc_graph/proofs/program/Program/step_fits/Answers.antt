@@ -1,4 +1,5 @@
-use Rattle.std.proofs.Common.{◌≡◌, true, subst}
+use Rattle.std.proofs.lemmas.Grind.{common_steps}
+use Rattle.std.proofs.Common.{◌≡◌, true, subst, arith}
 use Rattle.sc_graph.specs.declared.program.Step.{Step}
 use Rattle.sc_graph.specs.Size.{StepFits}
 use Rattle.sc_graph.proofs.program.Program.step_fits.Goals as goal
@@ -25,3 +26,12 @@ returns-else-loads_fit-2 c = (
         | else-has_variable-2 w ↦ let e : c.has_variable-in-Update.result ≡ true = c.has_variable-in-Update.ensures.1 parts.0 in cc
       ],
 )
+
+pub returns-then-children_fit : goal.returns-then-children_fit
+returns-then-children_fit c = grind (arith, common_steps) steps 2000000
+
+pub returns-then-loads_fit : goal.returns-then-loads_fit
+returns-then-loads_fit c = grind (arith, common_steps) steps 2000000
+
+pub returns-then-loads_fit-2 : goal.returns-then-loads_fit-2
+returns-then-loads_fit-2 c = grind (arith, common_steps) steps 2000000
