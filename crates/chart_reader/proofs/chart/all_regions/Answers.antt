@@ -1,4 +1,5 @@
-use Rattle.std.proofs.Common.{◌≡◌, IfOk, List, subst, ◌∙◌}
+use Rattle.chart_reader.proofs.Whole.{few_declared}
+use Rattle.std.proofs.Common.{◌≡◌, IfOk, List, subst, ◌∙◌, rules}
 use Rattle.sc_text.specs.declared.drafts.parts.Declaration.{Declaration}
 use Rattle.sc_text.specs.Flaws.{variable_names}
 use Rattle.chart_reader.specs.declared.text_drafts.draft.DraftRegion.{DraftRegion}
@@ -16,3 +17,6 @@ returns c =
     (c.in_ok-scope.ensures ∙ c.as_slice.ensures)
     (subst (λ (texts : List DraftRegion). IfOk c.regions.result (λ all. all ≡ regions_of (variable_names c.in_ok-scope.scope.variables.now) texts))
     c.as_slice-2.ensures c.regions.ensures)
+
+pub regions-requires-clause-few_variables : goal.regions-requires-clause-few_variables
+regions-requires-clause-few_variables c = search (rules, few_declared)

@@ -1,5 +1,6 @@
+use mathlib.Core.Bool.{true≢false}
 use Rattle.std.proofs.lemmas.Grind.{elements}
-use Rattle.std.proofs.Common.{◌≡◌, ◌<◌, Some, None, length, slice_get, refl, sym, subst, arith}
+use Rattle.std.proofs.Common.{◌≡◌, ◌<◌, Some, None, length, slice_get, refl, sym, subst, arith, ◌∙◌}
 use Rattle.std.proofs.lemmas.Option.{slice_get_read, slice_get_within}
 use Rattle.tick_core.specs.Inside.Inputs.{IsForAt, NamesInput}
 use Rattle.tick_core.specs.Space.Given.{Gives, IsGiven}
@@ -16,7 +17,7 @@ returns-then-is_given-clause-accepted c =
     let it : IsForAt p.variables input c.in-Some.place = subst (λ vs. IsForAt vs input c.in-Some.place) c.variables-variables.ensures c.in-Some.ensures in
     let before : IsGiven l.values.items c.in-Some.place = subst (λ vs. IsGiven vs c.in-Some.place) c.deref.ensures.value
     (c.is_given.ensures.0 c.if-is_given.true) in (
-      λ no. absurd cc,
+      λ no. absurd (true≢false (sym no)),
       λ all. absurd (given_twice p c.requires.names c.args.inputs.now l.values.items l.at c.in-Some.place input before.value l.invariant.gives is it before.is
           all),
     )
@@ -28,7 +29,7 @@ returns-in_default-clause-accepted c =
     let input = c.index-inputs-at.result in
     let is : slice_get c.args.inputs.now l.at ≡ Some input = slice_get_read _ _ _ _ refl c.loop-at-test.true c.index-inputs-at.is in
     let nowhere : ¬ NamesInput p.variables input = subst (λ vs. ¬ NamesInput vs input) c.variables-variables.ensures c.in_default.ensures in (
-      λ no. absurd cc,
+      λ no. absurd (true≢false (sym no)),
       λ all. absurd (given_nowhere p c.args.inputs.now l.at input is nowhere all),
     )
 
@@ -45,7 +46,7 @@ loop-at-preserved c =
     (λ some.
     let yes = c.is_given.ensures.1 (subst (λ vs. IsGiven vs place) (sym c.deref.ensures.value) some) in
     let no = c.if-is_given.false in
-    cc) in
+    true≢false (sym yes ∙ no)) in
     record {
       gives =
           subst (Gives p.variables _) (sym c.give.ensures)

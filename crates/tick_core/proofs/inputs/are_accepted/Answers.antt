@@ -1,11 +1,12 @@
-use Rattle.std.proofs.Common.{◌≡◌, ◌<◌, length, true, refl, arith}
+use mathlib.Core.Bool.{true≢false}
+use Rattle.std.proofs.Common.{◌≡◌, ◌<◌, length, true, refl, arith, sym}
 use Rattle.std.proofs.lemmas.Option.{slice_get_within}
 use Rattle.tick_core.proofs.Accepted.{accepted_from, accepted_at, accepted_below}
 use Rattle.tick_core.proofs.inputs.are_accepted.Goals as goal
 
 pub returns-then-not-is_accepted_at : goal.returns-then-not-is_accepted_at
 returns-then-not-is_accepted_at c = (
-  λ no. absurd cc,
+  λ no. absurd (true≢false (sym no)),
   λ all.
       let yes : c.is_accepted_at.result ≡ true = c.is_accepted_at.ensures.1 (accepted_at c.args.program.now c.args.inputs.now all _) in
       let no = c.if-not-is_accepted_at.true in cc,

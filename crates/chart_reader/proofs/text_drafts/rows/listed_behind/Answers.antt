@@ -1,4 +1,5 @@
-use Rattle.std.proofs.Common.{rules, ◌≡◌, true}
+use Rattle.std.proofs.lemmas.Grind.{common_steps}
+use Rattle.std.proofs.Common.{rules, ◌≡◌, true, arith}
 use Rattle.grammar.specs.Read.{starts}
 use Rattle.sc_text.specs.declared.sign.Sign.TheVariants as sign
 use Rattle.sc_text.specs.Expression.{text_tokens, after}
@@ -15,3 +16,6 @@ returns g c =
     same_reading _ _ _ _ _
     (some_behind (the_word c.args.word) (listed phrase (after (the_sign sign.Comma) phrase)) c.args.ahead.now.tokens.now _ begins c.behind-ahead.ensures)
     c.listed.ensures
+
+pub returns-then-not-word_follows : goal.returns-then-not-word_follows
+returns-then-not-word_follows g c = grind (arith, common_steps) steps 2000000

@@ -1,4 +1,5 @@
-use Rattle.std.proofs.Common.{get_or}
+use mathlib.Core.Bool.{true≢false}
+use Rattle.std.proofs.Common.{get_or, sym}
 use Rattle.tick_core.proofs.Forbidding.{no_step, two_steps, concurrent_by, concurrent_threads, none_between, not_true, not_from}
 use Rattle.tick_core.proofs.judging.forbidden.are_concurrent.Goals as goal
 
@@ -19,6 +20,6 @@ returns-in-None c =
     let two = two_steps c.args.steps.now c.args.first c.args.second c.requires.before c.requires.within in
     let s = get_or c.args.steps.now c.args.first no_step in
     let t = get_or c.args.steps.now c.args.second no_step in (
-      λ e. absurd (cc),
+      λ e. absurd (true≢false (sym e)),
       λ both. c.in-None.ensures.concurrent.1 (concurrent_threads c.args.program.now c.args.steps.now c.args.first c.args.second s t two both),
     )

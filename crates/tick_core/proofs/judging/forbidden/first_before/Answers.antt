@@ -1,4 +1,5 @@
-use Rattle.std.proofs.Common.{◌≡◌, ◌<◌, true, arith}
+use mathlib.Core.Bool.{true≢false}
+use Rattle.std.proofs.Common.{◌≡◌, ◌<◌, true, arith, sym, ◌∙◌}
 use Rattle.sc_graph.specs.Threads.{ForkedApart}
 use Rattle.tick_core.specs.Judging.{IsForbidden}
 use Rattle.tick_core.specs.Inside.Judging.{acts_at}
@@ -17,7 +18,7 @@ pub loop-first-preserved : goal.loop-first-preserved
 loop-first-preserved c =
     none_more (λ h. IsForbidden (ForkedApart c.args.program.now) (acts_at c.args.program.now c.args.steps.now) h c.args.second) c.loop-first.first
     c.loop-first.invariant
-    (λ f. let refused : c.is_forbidden.result ≡ true = c.is_forbidden.ensures.1 f in let other = c.if-is_forbidden.false in absurd (cc))
+    (λ f. let refused : c.is_forbidden.result ≡ true = c.is_forbidden.ensures.1 f in let other = c.if-is_forbidden.false in absurd (true≢false (sym refused ∙ other)))
 
 pub returns : goal.returns
 returns c i f =
