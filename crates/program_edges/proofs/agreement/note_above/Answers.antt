@@ -1,4 +1,5 @@
-use Rattle.std.proofs.Common.{◌≡◌, None, Some}
+use Rattle.program_edges.proofs.Alone.{parent_less}
+use Rattle.std.proofs.Common.{◌≡◌, None, Some, rules}
 use Rattle.sc_graph.specs.Program.{parent_of}
 use Rattle.program_edges.proofs.Agreeing.{gone_none, gone_more, gone_all}
 use Rattle.program_edges.proofs.agreement.note_above.Goals as goal
@@ -17,3 +18,6 @@ returns c = λ t.
     let top : parent_of c.args.program.now c.loop-parent.below ≡ None = cc (c.parent.ensures, c.in_default.is) in
     gone_all c.args.program.now c.args.way c.args.x c.args.seen.now.items c.loop-parent.seen.items c.args.thread c.loop-parent.below c.args.n
     c.requires.formed top c.loop-parent.invariant
+
+pub loop-parent-smaller : goal.loop-parent-smaller
+loop-parent-smaller c = search (rules, parent_less)

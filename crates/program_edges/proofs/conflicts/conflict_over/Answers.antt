@@ -1,3 +1,5 @@
+use Rattle.std.proofs.Common.{arith}
+use Rattle.std.proofs.lemmas.Grind.{common_steps}
 use Rattle.program_edges.proofs.Variables.{no_conflict_on}
 use Rattle.program_edges.proofs.Covered.{inits_alike, updates_alike}
 use Rattle.program_edges.proofs.conflicts.conflict_over.Goals as goal
@@ -19,3 +21,9 @@ returns-in-None-2 c =
     let first = rw c.in-None.is at c.in_ok-pair.ensures in
     let second = rw c.in-None-2.is at c.in_ok-pair-2.ensures in
     no_conflict_on c.args.program.now c.args.x c.args.inits.now c.args.updates.now c.requires.inits c.requires.updates first second
+
+pub returns-in-Some-2 : goal.returns-in-Some-2
+returns-in-Some-2 c = grind (arith, common_steps) steps 2000000
+
+pub returns-in-Some : goal.returns-in-Some
+returns-in-Some c = grind (arith, common_steps) steps 2000000

@@ -1,4 +1,5 @@
-use Rattle.std.proofs.Common.{◌≡◌, true}
+use Rattle.std.proofs.lemmas.Grind.{common_steps}
+use Rattle.std.proofs.Common.{◌≡◌, true, arith}
 use Rattle.program_edges.proofs.conflicts.is_conflict.Goals as goal
 
 pub returns-then-not-nodes_clash : goal.returns-then-not-nodes_clash
@@ -12,3 +13,6 @@ returns c = (
   λ e. record { in_order = c.if-n-m.false; concurrent = c.are_concurrent.ensures.0 e; clash = c.nodes_clash.ensures.0 c.if-not-nodes_clash.false },
   λ w. c.are_concurrent.ensures.1 w.concurrent,
 )
+
+pub returns-then-n-m : goal.returns-then-n-m
+returns-then-n-m c = grind (arith, common_steps) steps 2000000

@@ -1,4 +1,5 @@
-use Rattle.std.proofs.Common.{subst}
+use Rattle.std.proofs.lemmas.Grind.{common_steps}
+use Rattle.std.proofs.Common.{subst, arith}
 use Rattle.std.specs.Bool.{IsTrue}
 use Rattle.std.specs.Prelude.{◌↔◌}
 use Rattle.sc_values.specs.Access.{Access, Clash}
@@ -15,3 +16,9 @@ returns-in-Some-Some c =
     let Q : Access → Type 0 = λ y. IsTrue c.clashes.result ↔ Clash (accesses p c.args.m) y in
     subst Q (access_there p c.args.n b c.in-Some-Some.ensures')
     (subst P (access_there p c.args.m a c.in-Some-Some.ensures) c.clashes.ensures)
+
+pub returns-in_default-2 : goal.returns-in_default-2
+returns-in_default-2 c = grind (arith, common_steps) steps 2000000
+
+pub returns-in_default : goal.returns-in_default
+returns-in_default c = grind (arith, common_steps) steps 2000000

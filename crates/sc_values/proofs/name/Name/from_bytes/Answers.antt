@@ -1,0 +1,6 @@
+use Rattle.std.proofs.lemmas.Grind.{common_steps}
+use Rattle.std.proofs.Common.{arith}
+use Rattle.sc_values.proofs.name.Name.from_bytes.Goals as goal
+
+pub invariant_of-result : goal.invariant_of-result
+invariant_of-result c = grind (arith, common_steps) steps 2000000
