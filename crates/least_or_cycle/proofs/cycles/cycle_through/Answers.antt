@@ -1,4 +1,4 @@
-use Rattle.std.proofs.lemmas.Grind.{elements}
+use Rattle.std.proofs.lemmas.Grind.{elements, common_steps}
 use Rattle.std.proofs.Common.{ℕ, List, subst, arith}
 use Rattle.least_or_cycle.specs.Walks.{LeadsStrictlyTo}
 use Rattle.least_or_cycle.proofs.Cutting.{cut}
@@ -14,3 +14,9 @@ returns g c =
 
 pub returns-in-Some : goal.returns-in-Some
 returns-in-Some g c = grind (arith, elements) steps 2000000
+
+pub closed-requires-clause-ranks : goal.closed-requires-clause-ranks
+closed-requires-clause-ranks g c = grind (arith, common_steps) steps 2000000
+
+pub closed-requires-clause-first : goal.closed-requires-clause-first
+closed-requires-clause-first g c = grind (arith, common_steps) steps 2000000

@@ -1,3 +1,4 @@
+use Rattle.std.proofs.lemmas.Grind.{common_steps}
 use Rattle.std.proofs.Common.{◌≡◌, ◌<◌, ◌≤◌, ◌+◌, length, slice_index, arith, refl}
 use Rattle.least_or_cycle.proofs.Ranked.{room, ranked_more, none_found}
 use Rattle.least_or_cycle.proofs.ranking.rank_one.Goals as goal
@@ -18,3 +19,6 @@ returns-in-Some g c =
 pub returns-in-None : goal.returns-in-None
 returns-in-None g c =
     (refl, none_found (g.G.Graph.leads c.args.graph.now) c.args.target c.args.ranks.now c.args.node _ c.requires.ranks (omega arith) c.in-None.ensures)
+
+pub bounds-ranks-next : goal.bounds-ranks-next
+bounds-ranks-next g c = grind (arith, common_steps) steps 2000000

@@ -10,3 +10,6 @@ returns-clause-ranks g c = grind (arith, common_steps) steps 2000000
 
 pub returns-clause-complete : goal.returns-clause-complete
 returns-clause-complete g c = grind (arith, common_steps) steps 2000000
+
+pub complete-requires-clause-ranks : goal.complete-requires-clause-ranks
+complete-requires-clause-ranks g c = grind (arith, common_steps) steps 2000000

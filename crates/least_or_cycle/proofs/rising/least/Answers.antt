@@ -25,3 +25,9 @@ returns-then-branch-clause-least g c = grind (arith, common_steps) steps 2000000
 
 pub returns-then-rises-clause-least : goal.returns-then-rises-clause-least
 returns-then-rises-clause-least g c = grind (arith, common_steps) steps 2000000
+
+pub rises-requires-clause-under : goal.rises-requires-clause-under
+rises-requires-clause-under g c = grind (arith, common_steps) steps 2000000
+
+pub raise_parts-requires : goal.raise_parts-requires
+raise_parts-requires g c = grind (arith, common_steps) steps 2000000

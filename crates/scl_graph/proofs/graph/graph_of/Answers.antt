@@ -1,4 +1,5 @@
-use Rattle.std.proofs.Common.{rules, ◌≡◌, List, ap, subst, ◌∙◌}
+use Rattle.std.proofs.lemmas.Grind.{common_steps}
+use Rattle.std.proofs.Common.{rules, ◌≡◌, List, ap, subst, ◌∙◌, arith}
 use Rattle.scl.specs.declared.program.Scl.{Scl}
 use Rattle.scl.specs.declared.statement.Statement.{Statement}
 use Rattle.scl_graph.specs.declared.hops.Hop.{Hop}
@@ -39,3 +40,9 @@ returns-in-Ok c =
 
 pub returns-in_err-targets : goal.returns-in_err-targets
 returns-in_err-targets c = search (rules, empty_loop_is)
+
+pub lay_program-requires-clause-tallied : goal.lay_program-requires-clause-tallied
+lay_program-requires-clause-tallied c = grind (arith, common_steps) steps 2000000
+
+pub lay_program-requires-clause-room : goal.lay_program-requires-clause-room
+lay_program-requires-clause-room c = grind (arith, common_steps) steps 2000000

@@ -7,3 +7,6 @@ loop-tally-preserved c = grind (arith, common_steps) steps 2000000
 
 pub returns : goal.returns
 returns c = grind (arith, common_steps) steps 2000000
+
+pub of-requires : goal.of-requires
+of-requires c = grind (arith, common_steps) steps 2000000

@@ -73,3 +73,9 @@ statement_totals-loop-branch-preserved t c = grind (arith, common_steps) steps 2
 
 pub statement_totals-returns-after-loop-branch : goal.statement_totals-returns-after-loop-branch
 statement_totals-returns-after-loop-branch t c = grind (arith, common_steps) steps 2000000
+
+pub statement_totals-plus-requires-in-loop-branch : goal.statement_totals-plus-requires-in-loop-branch
+statement_totals-plus-requires-in-loop-branch t c = grind (arith, common_steps) steps 2000000
+
+pub statement_totals-plus-requires-in-If : goal.statement_totals-plus-requires-in-If
+statement_totals-plus-requires-in-If t c = grind (arith, common_steps) steps 2000000

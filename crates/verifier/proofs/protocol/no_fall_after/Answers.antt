@@ -1,3 +1,4 @@
+use Rattle.std.proofs.lemmas.Grind.{common_steps}
 use Rattle.std.proofs.Common.{ℕ, ◌≡◌, arith, true}
 use Rattle.program_edges.proofs.Variables.{of_each}
 use Rattle.program_edges.specs.AlongVariables.{FallsTo}
@@ -12,3 +13,6 @@ pub returns : goal.returns
 returns c =
     let P : ℕ → Type 0 = λ n. FallsTo c.args.program.now c.args.tables.now.priorities c.args.m n in
     of_each c.args.seconds.now P (λ k h. c.loop-n.invariant k (omega (arith, h)))
+
+pub returns-then-not-falls : goal.returns-then-not-falls
+returns-then-not-falls c = grind (arith, common_steps) steps 2000000

@@ -1,3 +1,4 @@
+use Rattle.std.proofs.lemmas.Grind.{common_steps}
 use Rattle.std.proofs.Common.{ℕ, get_or, arith, below_more}
 use Rattle.std.specs.Prelude.{Contains}
 use Rattle.program_edges.specs.AlongVariables.{FallsTo}
@@ -14,3 +15,6 @@ pub returns : goal.returns
 returns c =
     let P : ℕ → Type 0 = λ m. (n : ℕ) → Contains c.args.seconds.now n → FallsTo c.args.program.now c.args.tables.now.priorities m n in
     λ m n a b. of_each c.args.firsts.now P (λ k h. c.loop-m.invariant k (omega (arith, h))) m a n b
+
+pub returns-in-Some : goal.returns-in-Some
+returns-in-Some c = grind (arith, common_steps) steps 2000000

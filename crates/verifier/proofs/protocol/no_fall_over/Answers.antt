@@ -1,3 +1,5 @@
+use Rattle.std.proofs.Common.{arith}
+use Rattle.std.proofs.lemmas.Grind.{common_steps}
 use Rattle.sc_graph.specs.Protocol.{ProtocolAt}
 use Rattle.program_edges.specs.AlongVariables.{AllFall, FallsOn}
 use Rattle.verifier.specs.Inside.Pairs.{NoFallBetween}
@@ -27,3 +29,21 @@ returns c =
     c.in_default.ensures c.in_default-no_fall_by.ensures h)
     (λ at r. update_read_breaks p q c.args.x c.args.updates.now c.args.reads.now c.requires.updates c.requires.reads at r)
     c.no_fall_by-3.ensures
+
+pub no_fall_by-requires-2-clause-greatest : goal.no_fall_by-requires-2-clause-greatest
+no_fall_by-requires-2-clause-greatest c = grind (arith, common_steps) steps 2000000
+
+pub no_fall_by-requires-3-clause-greatest : goal.no_fall_by-requires-3-clause-greatest
+no_fall_by-requires-3-clause-greatest c = grind (arith, common_steps) steps 2000000
+
+pub no_fall_by-requires-clause-greatest : goal.no_fall_by-requires-clause-greatest
+no_fall_by-requires-clause-greatest c = grind (arith, common_steps) steps 2000000
+
+pub no_fall_by-requires-2-clause-least : goal.no_fall_by-requires-2-clause-least
+no_fall_by-requires-2-clause-least c = grind (arith, common_steps) steps 2000000
+
+pub no_fall_by-requires-3-clause-least : goal.no_fall_by-requires-3-clause-least
+no_fall_by-requires-3-clause-least c = grind (arith, common_steps) steps 2000000
+
+pub no_fall_by-requires-clause-least : goal.no_fall_by-requires-clause-least
+no_fall_by-requires-clause-least c = grind (arith, common_steps) steps 2000000

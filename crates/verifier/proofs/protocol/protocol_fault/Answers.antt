@@ -1,3 +1,4 @@
+use Rattle.std.proofs.lemmas.Grind.{elements}
 use Rattle.std.proofs.Common.{arith, below_more}
 use Rattle.program_edges.specs.AlongVariables.{FallsOn}
 use Rattle.verifier.proofs.Ordering.{falls_kept}
@@ -17,3 +18,9 @@ loop-x-preserved c = below_more (FallsOn c.args.program.now c.args.tables.now.pr
 
 pub returns : goal.returns
 returns c = falls_kept c.args.program.now c.args.tables.now c.requires.formed (λ x h. c.loop-x.invariant x (omega (arith, h)))
+
+pub no_fall_over-requires-clause-inits : goal.no_fall_over-requires-clause-inits
+no_fall_over-requires-clause-inits c = grind (arith, elements) steps 2000000
+
+pub no_fall_over-requires-clause-reads : goal.no_fall_over-requires-clause-reads
+no_fall_over-requires-clause-reads c = grind (arith, elements) steps 2000000

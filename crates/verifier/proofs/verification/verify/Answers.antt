@@ -1,4 +1,5 @@
-use Rattle.std.proofs.Common.{◌≡◌, subst}
+use Rattle.std.proofs.lemmas.Grind.{elements}
+use Rattle.std.proofs.Common.{◌≡◌, subst, arith}
 use Rattle.sc_graph.specs.declared.tables.Tables.{Tables}
 use Rattle.sc_graph.specs.Program.{Program}
 use Rattle.verifier.specs.declared.rule.Refusal.TheVariants as refusal
@@ -21,3 +22,6 @@ returns-in-Err-clause-accepted c = λ valid broken e.
     (subst (λ (q : Tables). IsLowestBroken c.program-in-Err.result.now q broken) c.tables-in-Err.ensures.value
     (c.refusal_without_memory-refusal.ensures.broken broken same)) in
     lowest.breaks (kept_of_valid c.args.image.program c.args.image.tables valid broken.rule broken.place)
+
+pub verify_by-requires : goal.verify_by-requires
+verify_by-requires c = grind (arith, elements) steps 2000000

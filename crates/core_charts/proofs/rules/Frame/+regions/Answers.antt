@@ -1,3 +1,4 @@
+use Rattle.std.proofs.lemmas.Grind.{common_steps, elements}
 use Rattle.std.proofs.Common.{ℕ, suc, ◌≡◌, ◌≤◌, ◌-◌, IsTrue, IsFalse, List, map, slice_get, Some, true, false, length, count_by, subst, sym, ap, ◌∙◌, refl}
 use Rattle.std.proofs.Common.{rules, arith}
 use Rattle.sc_text.specs.Parts.{IsNameIn, are_distinct}
@@ -97,3 +98,36 @@ is_state-returns t c =
       },
       λ is. c.in_ok-inside_keeps.ensures.1 (subst (λ xs. AreRegions c.args.self.features c.args.self.variables.now c.args.levels xs) (sym regions) is.regions),
     )
+
+pub are_regions-loop-region-init : goal.are_regions-loop-region-init
+are_regions-loop-region-init t c = grind (arith, common_steps) steps 2000000
+
+pub is_state-returns-then-not-is_bare_if_final : goal.is_state-returns-then-not-is_bare_if_final
+is_state-returns-then-not-is_bare_if_final t c = grind (arith, common_steps) steps 2000000
+
+pub is_region-returns-then-not-are_distinct : goal.is_region-returns-then-not-are_distinct
+is_region-returns-then-not-are_distinct t c = grind (arith, common_steps) steps 2000000
+
+pub is_state-returns-then-not-is_within : goal.is_state-returns-then-not-is_within
+is_state-returns-then-not-is_within t c = grind (arith, common_steps) steps 2000000
+
+pub is_state-returns-then-not-takes_name : goal.is_state-returns-then-not-takes_name
+is_state-returns-then-not-takes_name t c = grind (arith, common_steps) steps 2000000
+
+pub is_region-returns-then-not-is_within : goal.is_region-returns-then-not-is_within
+is_region-returns-then-not-is_within t c = grind (arith, common_steps) steps 2000000
+
+pub is_region-returns-then-not-takes_name : goal.is_region-returns-then-not-takes_name
+is_region-returns-then-not-takes_name t c = grind (arith, common_steps) steps 2000000
+
+pub is_state-returns-then-join_count-gt1 : goal.is_state-returns-then-join_count-gt1
+is_state-returns-then-join_count-gt1 t c = grind (arith, common_steps) steps 2000000
+
+pub are_regions-returns-then-not-branch : goal.are_regions-returns-then-not-branch
+are_regions-returns-then-not-branch t c = grind (arith, elements) steps 2000000
+
+pub are_states-returns-then-not-branch : goal.are_states-returns-then-not-branch
+are_states-returns-then-not-branch t c = grind (arith, elements) steps 2000000
+
+pub are_regions-returns-then-not-are_distinct : goal.are_regions-returns-then-not-are_distinct
+are_regions-returns-then-not-are_distinct t c = grind (arith, elements) steps 2000000

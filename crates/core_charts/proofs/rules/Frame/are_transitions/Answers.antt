@@ -1,4 +1,5 @@
-use Rattle.std.proofs.Common.{refl}
+use Rattle.std.proofs.lemmas.Grind.{elements}
+use Rattle.std.proofs.Common.{refl, arith}
 use Rattle.core_charts.specs.Rules.{IsTransition}
 use Rattle.sc_graph.proofs.Each.{each_more, each_of_all}
 use Rattle.core_charts.proofs.rules.Frame.are_transitions.Goals as goal
@@ -13,3 +14,6 @@ returns c = (
   λ yes. each_of_all (IsTransition _ _ _ _) _ _ c.loop-transition-test.false c.loop-transition.invariant,
   λ all. refl,
 )
+
+pub returns-then-not-is_transition : goal.returns-then-not-is_transition
+returns-then-not-is_transition c = grind (arith, elements) steps 2000000
