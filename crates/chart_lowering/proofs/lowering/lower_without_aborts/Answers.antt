@@ -1,4 +1,5 @@
-use Rattle.std.proofs.Common.{List, sym, subst, ℕ}
+use Rattle.std.proofs.lemmas.Grind.{common_steps}
+use Rattle.std.proofs.Common.{List, sym, subst, ℕ, arith}
 use Rattle.sc_graph.specs.declared.program.Variable.{Variable}
 use Rattle.core_charts.specs.declared.region.Region.{Region}
 use Rattle.core_charts.specs.declared.features.Features.TheVariants as features
@@ -15,3 +16,6 @@ program-requires c =
     subst Named (sym c.name.ensures.value)
     (subst Declared (sym c.variables.ensures.value)
     (subst Parted (sym c.regions.ensures.value) (features.Extended, c.regions.ensures.rules)))
+
+pub returns-clause-body : goal.returns-clause-body
+returns-clause-body c = grind (arith, common_steps) steps 2000000

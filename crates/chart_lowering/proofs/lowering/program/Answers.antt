@@ -1,3 +1,4 @@
+use Rattle.std.proofs.lemmas.Grind.{common_steps}
 use Rattle.std.proofs.Common.{◌≡◌, ◌+◌, ◌≤◌, ◌^◌, List, [], ◌∷◌, ◌++◌, map, ap, sym, subst, ◌∙◌, arith}
 use Rattle.sc_graph.specs.declared.program.Variable.{Variable}
 use Rattle.scl.specs.declared.statement.Statement.{Statement}
@@ -19,3 +20,6 @@ known-requires c =
     let Declared : List Variable → Type 0 = λ variables. KeepsRules chart.name variables c.push.new.self in
     let Written : List Statement → Type 0 = λ text. KeepsRules chart.name chart.variables text in
     subst Declared (sym c.in_ok-declared.ensures) (subst Written (sym body) (keeps_rules c.requires.0 chart c.requires.1 small))
+
+pub returns-clause-body : goal.returns-clause-body
+returns-clause-body c = grind (arith, common_steps) steps 2000000
