@@ -1,3 +1,4 @@
+use mathlib.Core.Bool.{true≢false}
 use Rattle.std.proofs.lemmas.Grind.{elements}
 use Rattle.std.proofs.Common.{ℕ, ◌<◌, List, inl, inr, sum, sym, ◌∙◌, subst, arith}
 use Rattle.std.specs.Prelude.{slice_index}
@@ -22,8 +23,8 @@ loop-node-preserved c =
           record {
             under = raised.under;
             more = λ e. more_after c.loop-node.raised first old new before.more before.same raised.more;
-            same = λ e. absurd (cc (e, is));
-            kept = λ e. absurd (cc (e, is));
+            same = λ e. absurd (true≢false (sym is ∙ e));
+            kept = λ e. absurd (true≢false (sym is ∙ e));
           }
       | else-cover w' ↦
           let covered = rw w'.if-cover.false at c.cover.ensures in

@@ -1,4 +1,5 @@
-use Rattle.std.proofs.Common.{ℕ, ◌≡◌, true, get_or, arith, below_more}
+use mathlib.Core.Bool.{true≢false}
+use Rattle.std.proofs.Common.{ℕ, ◌≡◌, ◌∙◌, true, sym, get_or, arith, below_more}
 use Rattle.program_edges.specs.AlongVariables.{FallsTo}
 use Rattle.program_edges.proofs.Variables.{of_each}
 use Rattle.priority_weights.proofs.kept.falls_to_all.Goals as goal
@@ -13,7 +14,7 @@ returns-then-not-has_company c = λ yes n at. record {
   falls = λ concurrent. absurd (
       let e : c.has_company.result ≡ true = c.has_company.ensures n concurrent in
       let f = c.if-not-has_company.true in
-      cc);
+      true≢false (sym e ∙ f));
 }
 
 pub returns : goal.returns

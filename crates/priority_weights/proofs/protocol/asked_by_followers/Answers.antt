@@ -1,4 +1,5 @@
-use Rattle.std.proofs.Common.{ℕ, ◌≡◌, ◌≤◌, ◌+◌, true, get_or, refl, sym, subst, arith}
+use mathlib.Core.Bool.{true≢false}
+use Rattle.std.proofs.Common.{ℕ, ◌≡◌, ◌≤◌, ◌+◌, true, get_or, ◌∙◌, refl, sym, subst, arith}
 use Rattle.std.specs.Prelude.{slice_index}
 use Rattle.sc_graph.specs.Threads.{ConcurrentNodes}
 use Rattle.priority_weights.specs.Inside.Ordered.{IsFollower}
@@ -37,7 +38,7 @@ loop-follower-preserved c =
                 let Q : ℕ → Type 0 = λ k. ConcurrentNodes p c.args.node k in
                 let yes : w'.are_concurrent.result ≡ true = w'.are_concurrent.ensures.1 (subst Q h.0 h.1) in
                 let no = w'.if-are_concurrent.false in
-                absurd (cc)
+                absurd (true≢false (sym yes ∙ no))
             | else-asked-more-via-else-asked-more w' ↦
                 let le = w'.if-asked-more.false in
                 subst R (sym h.0) (omega (arith, le, more))

@@ -1,4 +1,5 @@
-use Rattle.std.proofs.Common.{sym}
+use mathlib.Core.Bool.{true≢false}
+use Rattle.std.proofs.Common.{sym, ◌∙◌}
 use Rattle.sc_text.proofs.FirstToken.{blank_first, comment_first, neither}
 use Rattle.sc_text.proofs.first_token.passed_length.Goals as goal
 
@@ -11,4 +12,5 @@ returns-then-starts_comment c =
 
 pub returns : goal.returns
 returns c =
-    neither c.args.text.now (sym c.if-is_blank.ensures) (λ h. let t = c.starts_comment.ensures.1 h in let f = c.if-starts_comment.false in cc)
+    neither c.args.text.now (sym c.if-is_blank.ensures)
+    (λ h. let t = c.starts_comment.ensures.1 h in let f = c.if-starts_comment.false in true≢false (sym t ∙ f))

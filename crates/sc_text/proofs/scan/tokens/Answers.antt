@@ -19,7 +19,7 @@ loop-at-preserved c =
     let step : IsStep c.args.language (drop c.loop-at.at c.as_bytes-bytes.result.now) c.in-Ok.step =
     subst (λ t. IsStep c.args.language t c.in-Ok.step) (slice_rest c.loop-at.at c.as_bytes-bytes.result.now) c.in-Ok.ensures in
     let p = c.in_ok-put.ensures in
-    let put : c.put.new.tokens ≡ c.loop-at.tokens ++ token_at c.loop-at.at c.in-Ok.step.kind = cc in
+    let put : c.put.new.tokens ≡ c.loop-at.tokens ++ token_at c.loop-at.at c.in-Ok.step.kind = p in
     record {
       within = step_within c.args.language c.loop-at.at c.in-Ok.step.length bytes c.in-Ok.step.kind step.cuts step.gives c.loop-at.invariant.within;
       done = λ more a. subst (λ t. AreTokens c.args.language 0 bytes (t ++ more)) (sym put)

@@ -1,8 +1,8 @@
-use Rattle.std.proofs.Common.{◌∙◌, ap}
+use Rattle.std.proofs.Common.{◌∙◌, ap, rules}
 use Rattle.sc_text.specs.Flaws.{variable_names}
 use Rattle.sc_text.specs.Resolved.{variables_of}
 use Rattle.scl_reader.specs.Resolved.{statements_of}
-use Rattle.scl_reader.proofs.SclRulesKept.{parts_kept, parts_are}
+use Rattle.scl_reader.proofs.SclRulesKept.{parts_kept, parts_are, few_declared}
 use Rattle.scl_reader.proofs.program.program_of.Goals as goal
 
 pub known-requires : goal.known-requires
@@ -19,3 +19,6 @@ returns c =
     (c.in_ok-variables.ensures ∙ ap variables_of c.as_slice.ensures)
     (c.in_ok-body.ensures ∙ ap (statements_of (variable_names c.in_ok-scope.scope.variables.now)) c.as_slice-3.ensures)
     c.known.ensures.name c.known.ensures.variables c.known.ensures.body
+
+pub statements-requires : goal.statements-requires
+statements-requires c = search (rules, few_declared)

@@ -1,5 +1,6 @@
+use mathlib.Core.Bool.{true≢false}
 use Rattle.std.proofs.lemmas.Grind.{common_steps}
-use Rattle.std.proofs.Common.{◌≡◌, ◌∙◌, ◌+◌, ◌++◌, Err, Some, [], ap, sym, subst, refl, rules, arith}
+use Rattle.std.proofs.Common.{◌≡◌, ◌∙◌, ◌+◌, ◌++◌, Err, Some, ap, sym, subst, refl, rules, arith}
 use Rattle.std.specs.Io.KnownBytes.{IsAtEnd, append_known}
 use Rattle.std.proofs.lemmas.Result.{err_from_is_err_and}
 use Rattle.sc_values.specs.Streams.{GrowsInto}
@@ -38,7 +39,7 @@ loop-turn-init g c =
       none_write = refl;
       not_behind = open_not_behind at.source.progress at.source.progress (λ e. e);
       going = λ _ e. e;
-      ended = λ e. absurd cc;
+      ended = λ e. absurd (true≢false (sym e));
       same = refl;
     }
 
@@ -250,7 +251,7 @@ loop-turn-preserved g c =
       not_behind = same_end before.source next.source after.source source (λ e. c.next.ensures.not_behind (l.invariant.going c.if-is_ended.false e));
       going = λ more e.
           let feed : c.in-Ok-Some.end ≡ line_end.Feed =
-          feed_of c.in-Ok-Some.end (λ i. let yes = c.is_last-is_ended.ensures.1 i in let no = more in absurd cc) in
+          feed_of c.in-Ok-Some.end (λ i. let yes = c.is_last-is_ended.ensures.1 i in let no = more in absurd (true≢false (sym yes ∙ no))) in
           ap (λ (s : SourceSeen). s.progress) source
           ∙ c.in-Ok-Some.ensures.going (c.in-Ok-Some.field-0-is ∙ ap Some feed) (l.invariant.going c.if-is_ended.false e);
       ended = λ e.
@@ -295,7 +296,7 @@ returns-in_err-react-clause-read g c =
     let here = exit.1 in
     let same = exit.2 in
     λ e.
-    let is : fault ≡ play_fault.Read = cc (here, same, e) in
+    let is : fault ≡ play_fault.Read = sym same ∙ one_stop _ _ play_fault.Read here e in
     absurd (tells_no_read i.program _ _ fault c.in_err-react.ensures.fault is)
 
 pub returns-in_err-react-clause-write : goal.returns-in_err-react-clause-write
@@ -306,7 +307,7 @@ returns-in_err-react-clause-write g c =
     let here = exit.1 in
     let same = exit.2 in
     λ e.
-    let is : fault ≡ play_fault.Write = cc (here, same, e) in
+    let is : fault ≡ play_fault.Write = sym same ∙ one_stop _ _ play_fault.Write here e in
     absurd (tells_no_write i.program _ _ fault c.in_err-react.ensures.fault is)
 
 pub overflow_step-turn : goal.overflow_step-turn

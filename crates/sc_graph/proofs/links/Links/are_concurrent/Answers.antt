@@ -1,3 +1,5 @@
+use mathlib.Core.Bool.{true≢false}
+use Rattle.std.proofs.Common.{sym}
 use Rattle.sc_graph.proofs.Formed.{forks_apart, one_fork_apart, parts, within_threads}
 use Rattle.sc_graph.proofs.links.Links.are_concurrent.Goals as goal
 
@@ -25,7 +27,7 @@ returns-in-Some c =
 
 pub returns-in-None : goal.returns-in-None
 returns-in-None c = (
-  λ yes. absurd (cc yes),
+  λ yes. absurd (true≢false (sym yes)),
   λ x. absurd (c.in-None.ensures x.apart.left x.apart.right x.forking
       (parts c.args.program.now c.requires.formed c.args.first c.args.second x.forking x.apart)),
 )

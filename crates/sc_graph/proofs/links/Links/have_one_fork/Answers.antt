@@ -1,3 +1,4 @@
+use mathlib.Core.Bool.{true≢false}
 use Rattle.std.proofs.Common.{◌≡◌, None, sym, ◌∙◌}
 use Rattle.sc_graph.specs.Links.{only_at}
 use Rattle.sc_graph.proofs.Formed.{one_fork_known, one_fork_left, one_fork_right}
@@ -16,7 +17,7 @@ pub returns-in_default : goal.returns-in_default
 returns-in_default c =
     let p = c.args.program.now in
     let none : only_at c.args.self.now.forks c.args.right ≡ None = sym c.fork_of-2.ensures ∙ c.in_default.is-1 in (
-      λ yes. cc yes,
+      λ yes. absurd (true≢false (sym yes)),
       λ one.
           absurd (fork_unknown p c.args.self.now c.args.right c.requires.links c.requires.right none
           (one_fork_right p c.requires.formed c.args.left c.args.right one)),
@@ -26,7 +27,7 @@ pub returns-in_default-2 : goal.returns-in_default-2
 returns-in_default-2 c =
     let p = c.args.program.now in
     let none : only_at c.args.self.now.forks c.args.left ≡ None = sym c.fork_of.ensures ∙ c.in_default.is-0 in (
-      λ yes. cc yes,
+      λ yes. absurd (true≢false (sym yes)),
       λ one.
           absurd (fork_unknown p c.args.self.now c.args.left c.requires.links c.requires.left none
           (one_fork_left p c.requires.formed c.args.left c.args.right one)),

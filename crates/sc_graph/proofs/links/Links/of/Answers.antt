@@ -1,4 +1,5 @@
 use Rattle.std.proofs.Common.{ℕ, ◌≡◌, ◌≤◌, ◌+◌, length, arith, sym, ◌∙◌, subst}
+use Rattle.std.proofs.lemmas.Option.{none-some}
 use Rattle.sc_graph.specs.declared.links.Links.{Links}
 use Rattle.sc_graph.specs.Inside.Linking.{IsBlank, after_step}
 use Rattle.sc_graph.proofs.Linking.{TellsBelow, tells_none, tells_more, tells_all, unlinked}
@@ -24,7 +25,7 @@ loop-node-preserved c =
       | in-None w ↦
           (let none = w.in-None.ensures in
           subst (λ (l : Links). TellsBelow p l (n + 1)) (sym w.links-is)
-          (unlinked p c.loop-node.links n (λ ks j e. cc (e, none)) (λ d e. cc (e, none)) c.loop-node.invariant))
+          (unlinked p c.loop-node.links n (λ ks j e. none-some _ (none ∙ e)) (λ d e. none-some _ (none ∙ e)) c.loop-node.invariant))
     ]
 
 pub returns : goal.returns

@@ -1,4 +1,5 @@
-use Rattle.std.proofs.Common.{◌≡◌, Some, None, slice_get, arith}
+use mathlib.Core.Bool.{true≢false}
+use Rattle.std.proofs.Common.{◌≡◌, Some, None, slice_get, sym, arith}
 use Rattle.std.proofs.lemmas.Grind.{common_steps}
 use Rattle.std.proofs.lemmas.Option.{gets}
 use Rattle.sc_graph.proofs.Names.{name_decides, no_name}
@@ -18,4 +19,4 @@ returns-in-Some c =
 pub returns-in-None : goal.returns-in-None
 returns-in-None c =
     let none : slice_get c.args.self.now.variables c.args.variable ≡ None = grind (arith, common_steps, gets, c.in-None.ensures.lookup, c.variables.ensures) in
-    (λ yes. cc, λ e. absurd (no_name c.args.self.now c.args.variable c.args.name.now none e))
+    (λ yes. absurd (true≢false (sym yes)), λ e. absurd (no_name c.args.self.now c.args.variable c.args.name.now none e))

@@ -1,14 +1,15 @@
+use mathlib.Core.Bool.{true≢false}
 use Rattle.std.proofs.lemmas.Grind.{common_steps}
-use Rattle.std.proofs.Common.{arith}
+use Rattle.std.proofs.Common.{◌∙◌, sym, arith}
 use Rattle.sc_graph.proofs.Loads.{load_refused, load_passed}
 use Rattle.sc_graph.proofs.program.Program.loads_fit.Goals as goal
 
 pub returns-then-not-load_fits : goal.returns-then-not-load_fits
 returns-then-not-load_fits c = (
-  λ yes. cc,
+  λ yes. absurd (true≢false (sym yes)),
   λ fits. absurd (load_refused c.args.self.now c.operations-operation-items.result.now c.loop-operation.operation-index _ c.loop-operation-test.true
       c.operation-item.is
-      (λ yes. let e = c.load_fits.ensures.1 yes in cc)
+      (λ yes. let e = c.load_fits.ensures.1 yes in true≢false (sym e ∙ c.if-not-load_fits.true))
       (c.loop-operation.invariant.0 fits)),
 )
 

@@ -1,5 +1,6 @@
+use mathlib.Core.Bool.{true≢false}
 use Rattle.std.proofs.lemmas.Grind.{common_steps}
-use Rattle.std.proofs.Common.{◌≡◌, true, subst, arith}
+use Rattle.std.proofs.Common.{◌≡◌, ◌∙◌, true, sym, subst, arith}
 use Rattle.sc_graph.specs.declared.program.Step.{Step}
 use Rattle.sc_graph.specs.Size.{StepFits}
 use Rattle.sc_graph.proofs.program.Program.step_fits.Goals as goal
@@ -7,23 +8,31 @@ use Rattle.sc_graph.proofs.program.Program.step_fits.Goals.{then-has_variable, e
 
 pub returns-else-loads_fit : goal.returns-else-loads_fit
 returns-else-loads_fit c = (
-  λ yes. absurd (cc),
+  λ yes. absurd (true≢false (sym yes ∙ c.if-loads_fit.false)),
   λ fits.
       let parts = subst (λ (s : Step). StepFits c.args.self.now s) c.in-Assign.is fits in
       elim c.if-has_variable.branch [
-        | then-has_variable w ↦ let e : w.loads_fit.result ≡ true = w.loads_fit.ensures.1 parts.1 in cc
-        | else-has_variable w ↦ let e : c.has_variable.result ≡ true = c.has_variable.ensures.1 parts.0 in cc
+        | then-has_variable w ↦
+            let e : w.loads_fit.result ≡ true = w.loads_fit.ensures.1 parts.1 in
+            absurd (true≢false (sym (w.value-is ∙ e) ∙ c.if-loads_fit.false))
+        | else-has_variable w ↦
+            let e : c.has_variable.result ≡ true = c.has_variable.ensures.1 parts.0 in
+            absurd (true≢false (sym e ∙ w.if-has_variable.false))
       ],
 )
 
 pub returns-else-loads_fit-2 : goal.returns-else-loads_fit-2
 returns-else-loads_fit-2 c = (
-  λ yes. absurd (cc),
+  λ yes. absurd (true≢false (sym yes ∙ c.if-loads_fit-2.false)),
   λ fits.
       let parts = subst (λ (s : Step). StepFits c.args.self.now s) c.in-Update.is fits in
       elim c.if-has_variable-2.branch [
-        | then-has_variable-2 w ↦ let e : w.loads_fit-then-has_variable-2.result ≡ true = w.loads_fit-then-has_variable-2.ensures.1 parts.1 in cc
-        | else-has_variable-2 w ↦ let e : c.has_variable-in-Update.result ≡ true = c.has_variable-in-Update.ensures.1 parts.0 in cc
+        | then-has_variable-2 w ↦
+            let e : w.loads_fit-then-has_variable-2.result ≡ true = w.loads_fit-then-has_variable-2.ensures.1 parts.1 in
+            absurd (true≢false (sym (w.value-is ∙ e) ∙ c.if-loads_fit-2.false))
+        | else-has_variable-2 w ↦
+            let e : c.has_variable-in-Update.result ≡ true = c.has_variable-in-Update.ensures.1 parts.0 in
+            absurd (true≢false (sym e ∙ w.if-has_variable-2.false))
       ],
 )
 

@@ -1,4 +1,5 @@
-use Rattle.std.proofs.Common.{◌≡◌, ◌∙◌, ℕ, ◌+◌, List, drop, ap, subst}
+use Rattle.std.proofs.lemmas.Grind.{common_steps}
+use Rattle.std.proofs.Common.{◌≡◌, ◌∙◌, ℕ, ◌+◌, List, drop, ap, subst, arith}
 use Rattle.sc_text.specs.declared.read_fault.FaultKind.TheVariants as broken
 use Rattle.sc_text.specs.Flaws.{flaw_if, is_repeated}
 use Rattle.sc_text.specs.Index.{IsIndex}
@@ -21,3 +22,6 @@ loop-at-preserved c =
     (c.in_ok-note_told.ensures ∙ ap (λ b. told_behind c.loop-at.told (flaw_if b broken.Repeated l.at)) again)
     ∙ repeated_step labels all at l c.loop-at.told c.at-label.ensures
     ∙ c.loop-at.invariant
+
+pub returns : goal.returns
+returns c = grind (arith, common_steps) steps 2000000

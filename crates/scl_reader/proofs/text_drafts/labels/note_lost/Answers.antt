@@ -1,4 +1,5 @@
-use Rattle.std.proofs.Common.{◌≡◌, ◌∙◌, ℕ, ◌+◌, List, drop, ap, subst}
+use Rattle.std.proofs.lemmas.Grind.{common_steps}
+use Rattle.std.proofs.Common.{◌≡◌, ◌∙◌, ℕ, ◌+◌, List, drop, ap, subst, arith}
 use Rattle.std.specs.Prelude.{not}
 use Rattle.sc_text.specs.declared.read_fault.FaultKind.TheVariants as broken
 use Rattle.sc_text.specs.Flaws.{flaw_if, is_among}
@@ -22,3 +23,6 @@ loop-at-preserved c =
     (c.in_ok-note_told.ensures ∙ ap (λ b. told_behind c.loop-at.told (flaw_if (not b) broken.Unknown g.at)) known)
     ∙ lost_step labels all at g c.loop-at.told c.at-target.ensures
     ∙ c.loop-at.invariant
+
+pub returns : goal.returns
+returns c = grind (arith, common_steps) steps 2000000

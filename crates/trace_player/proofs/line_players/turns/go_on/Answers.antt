@@ -1,3 +1,4 @@
+use mathlib.Core.Bool.{true≢false}
 use Rattle.std.proofs.lemmas.Grind.{common_steps}
 use Rattle.std.proofs.Common.{◌≡◌, ◌∙◌, ◌+◌, Err, ap, sym, subst, refl, rules, Some, arith}
 use Rattle.std.specs.Io.KnownBytes.{IsAtEnd}
@@ -194,7 +195,8 @@ loop-turn-preserved g c =
     let reads : next.source.failures ≡ at.source.failures = search rules in
     let source = c.write.ensures.source in
     let ahead_same : ahead c.next.new.lines after.source.to_come ≡ now' = ap (λ (s : SourceSeen). ahead c.next.new.lines s.to_come) source in
-    let feed : c.in-Ok-Some.end ≡ line_end.Feed = feed_of c.in-Ok-Some.end (λ i. let yes = c.is_last.ensures.1 i in let no = c.if-is_last.false in absurd cc) in
+    let feed : c.in-Ok-Some.end ≡ line_end.Feed =
+    feed_of c.in-Ok-Some.end (λ i. let yes = c.is_last.ensures.1 i in let no = c.if-is_last.false in absurd (true≢false (sym yes ∙ no))) in
     record {
       played = subst (λ ys. Played makes ends from start ys to old after.sink.taken) (sym ahead_same) played;
       ready = c.in_ok-player.ensures.ready;
