@@ -1,5 +1,6 @@
 -- Where a label stands.
-use Rattle.std.proofs.Common.{◌≡◌, ℕ, zero, suc, Option, Some, None, IfOk, IfSome, Result, Ok, Err, List, [], ◌∷◌, ◌++◌, map, slice_get, refl, sym, ap, subst, ◌∙◌}
+use Rattle.std.proofs.Common.{◌≡◌, ℕ, zero, suc, Option, Some, None, IfOk, IfSome, Result, Ok, Err, List, [], ◌∷◌, ◌++◌, map, slice_get, refl}
+use Rattle.std.proofs.Common.{sym, ap, subst, ◌∙◌}
 use Rattle.sc_text.specs.declared.language.Language.TheVariants as language
 use Rattle.sc_text.specs.declared.token.Token.{Token}
 use Rattle.sc_text.specs.Tokens.{AreTokens}

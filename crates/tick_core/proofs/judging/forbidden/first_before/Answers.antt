@@ -18,7 +18,10 @@ pub loop-first-preserved : goal.loop-first-preserved
 loop-first-preserved c =
     none_more (λ h. IsForbidden (ForkedApart c.args.program.now) (acts_at c.args.program.now c.args.steps.now) h c.args.second) c.loop-first.first
     c.loop-first.invariant
-    (λ f. let refused : c.is_forbidden.result ≡ true = c.is_forbidden.ensures.1 f in let other = c.if-is_forbidden.false in absurd (true≢false (sym refused ∙ other)))
+    (λ f.
+    let refused : c.is_forbidden.result ≡ true = c.is_forbidden.ensures.1 f in
+    let other = c.if-is_forbidden.false in
+    absurd (true≢false (sym refused ∙ other)))
 
 pub returns : goal.returns
 returns c i f =
