@@ -1,4 +1,5 @@
-use Rattle.std.proofs.Common.{◌≡◌, ◌∙◌, ◌<◌, ◌∷◌, true, map, option_map, rules, subst, take}
+use Rattle.std.proofs.lemmas.Grind.{common_steps}
+use Rattle.std.proofs.Common.{◌≡◌, ◌∙◌, ◌<◌, ◌∷◌, true, map, option_map, rules, subst, take, arith}
 use Rattle.trace_player.specs.Trace.{lines_of}
 use Rattle.controller_tests.specs.Inside.Lines.{Begins}
 use Rattle.controller_tests.specs.Replay.{line_of}
@@ -24,3 +25,9 @@ loop-turn-preserved c =
       so_many = one_more_played (map line_of c.loop-turn.session.ticks) (map line_of c.play_line.new.session.ticks) line c.loop-turn._turn one
           c.loop-turn.invariant.so_many;
     }
+
+pub returns-then-not-branch-clause-so_many : goal.returns-then-not-branch-clause-so_many
+returns-then-not-branch-clause-so_many c = grind (arith, common_steps) steps 2000000
+
+pub returns-then-not-branch-clause-lacks : goal.returns-then-not-branch-clause-lacks
+returns-then-not-branch-clause-lacks c = search rules
