@@ -1,4 +1,5 @@
-use Rattle.std.proofs.Common.{subst, sym}
+use Rattle.std.proofs.lemmas.Grind.{common_steps}
+use Rattle.std.proofs.Common.{subst, sym, arith}
 use Rattle.command_files.specs.Files.{HasBytes}
 use Rattle.command_files.specs.Standing.{HasSource}
 use Rattle.sct_command.proofs.Compiled.{compiles, refuses_compile, reported, warned}
@@ -24,3 +25,6 @@ pub returns-clause-reported : goal.returns-clause-reported
 returns-clause-reported g c = reported c.compile_held.result _ _ _ _ _
     (subst (HasSource (g.F.Files.contents c.args.files.now) c.args.from.now) (sym c.deref.ensures.value) c.in_ok-source.ensures.source)
     c.compile_held.ensures.reported
+
+pub returns-clause-missed : goal.returns-clause-missed
+returns-clause-missed g c = grind (arith, common_steps) steps 2000000

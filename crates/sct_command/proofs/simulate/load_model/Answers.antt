@@ -1,4 +1,5 @@
-use Rattle.std.proofs.Common.{sym, subst}
+use Rattle.std.proofs.lemmas.Grind.{common_steps}
+use Rattle.std.proofs.Common.{sym, subst, arith}
 use Rattle.std.proofs.lemmas.Result.{err_from_is_err_and}
 use Rattle.command_files.specs.Sources.{IsCompiledFrom}
 use Rattle.image_charts.proofs.TextImages.{compiled_in}
@@ -16,3 +17,6 @@ returns-in_err-states-clause-lacks g c =
     rw (p.1, p.2) (no_states (g.F.Files.contents c.args.files.now) c.args.name.now c.in_ok-bytes.bytes.items c.deref.result.now c.deref-2.result.now
     c.in_ok-compiled.compiled c.in_ok-image.image c.get.result.now c.in_err-states.field-0.0 c.in_ok-bytes.ensures.bytes c.deref.ensures.value
     c.deref-2.ensures.value c.in_ok-compiled.ensures.image c.in_ok-image.ensures c.get.ensures c.in_err-states.ensures.lacks)
+
+pub returns-clause-none_failed : goal.returns-clause-none_failed
+returns-clause-none_failed g c = grind (arith, common_steps) steps 2000000

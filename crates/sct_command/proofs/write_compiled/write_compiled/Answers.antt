@@ -1,4 +1,5 @@
-use Rattle.std.proofs.Common.{subst, sym}
+use Rattle.std.proofs.lemmas.Grind.{common_steps}
+use Rattle.std.proofs.Common.{subst, sym, arith}
 use Rattle.command_files.specs.Files.{HasBytes}
 use Rattle.command_files.specs.Standing.{HasSource}
 use Rattle.sct_command.proofs.Compiled.{refuses_writing, reported, warned, writes_program}
@@ -23,3 +24,9 @@ pub returns-clause-reported : goal.returns-clause-reported
 returns-clause-reported g c = reported c.write_held.result _ _ _ _ _
     (subst (HasSource (g.F.Files.contents c.args.files.now) c.args.from.now) (sym c.deref.ensures.value) c.in_ok-source.ensures.source)
     c.write_held.ensures.reported
+
+pub returns-clause-missed : goal.returns-clause-missed
+returns-clause-missed g c = grind (arith, common_steps) steps 2000000
+
+pub returns-clause-none_missed : goal.returns-clause-none_missed
+returns-clause-none_missed g c = grind (arith, common_steps) steps 2000000

@@ -1,4 +1,5 @@
-use Rattle.std.proofs.Common.{◌∙◌, subst, sym}
+use Rattle.std.proofs.lemmas.Grind.{elements}
+use Rattle.std.proofs.Common.{◌∙◌, subst, sym, arith}
 use Rattle.command_files.specs.Sources.{SpellsImage}
 use Rattle.sct_command.proofs.Compiled.{none_said, refuses_spelling, spells}
 use Rattle.sct_command.proofs.write_compiled.write_held.Goals as goal
@@ -13,3 +14,6 @@ returns-clause-refused g c = refuses_spelling c.write_warned.result _ _ _ _
 
 pub returns-clause-reported : goal.returns-clause-reported
 returns-clause-reported g c = none_said c.write_warned.result _ _ _ _ c.write_warned.ensures.quiet
+
+pub write_warned-requires-clause-text : goal.write_warned-requires-clause-text
+write_warned-requires-clause-text g c = grind (arith, elements) steps 2000000
