@@ -1,10 +1,11 @@
-use Rattle.std.proofs.Common.{refl, IsTrue}
+use mathlib.Core.Bool.{true≢false}
+use Rattle.std.proofs.Common.{refl, IsTrue, sym, ◌∙◌}
 use Rattle.program_edges.proofs.Agreeing.{not_both}
 use Rattle.program_edges.proofs.agreement.with_node.Goals as goal
 
 pub returns-then-not-is_writer : goal.returns-then-not-is_writer
 returns-then-not-is_writer c = record {
-  keeps = λ b m noted quiet. absurd (let e : IsTrue c.is_writer.result = c.is_writer.ensures.1 noted.writer in let f = c.if-not-is_writer.true in cc);
+  keeps = λ b m noted quiet. absurd (let e : IsTrue c.is_writer.result = c.is_writer.ensures.1 noted.writer in true≢false (sym e ∙ c.if-not-is_writer.true));
   gains = λ quiet. record {
     writer = c.requires;
     together = λ t. refl;

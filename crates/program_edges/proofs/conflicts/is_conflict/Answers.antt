@@ -1,11 +1,12 @@
+use mathlib.Core.Bool.{true≢false}
 use Rattle.std.proofs.lemmas.Grind.{common_steps}
-use Rattle.std.proofs.Common.{◌≡◌, true, arith}
+use Rattle.std.proofs.Common.{◌≡◌, true, arith, sym, ◌∙◌}
 use Rattle.program_edges.proofs.conflicts.is_conflict.Goals as goal
 
 pub returns-then-not-nodes_clash : goal.returns-then-not-nodes_clash
 returns-then-not-nodes_clash c = (
-  λ e. absurd (cc),
-  λ w. let e : c.nodes_clash.result ≡ true = c.nodes_clash.ensures.1 w.clash in let f = c.if-not-nodes_clash.true in cc,
+  λ e. absurd (true≢false (sym e)),
+  λ w. let e : c.nodes_clash.result ≡ true = c.nodes_clash.ensures.1 w.clash in absurd (true≢false (sym e ∙ c.if-not-nodes_clash.true)),
 )
 
 pub returns : goal.returns

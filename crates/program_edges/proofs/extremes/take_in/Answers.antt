@@ -1,4 +1,5 @@
-use Rattle.std.proofs.Common.{ℕ, ◌≡◌, ◌++◌, ◌∷◌, List, [], true, sym, subst}
+use mathlib.Core.Bool.{true≢false}
+use Rattle.std.proofs.Common.{ℕ, ◌≡◌, ◌++◌, ◌∷◌, List, [], true, sym, subst, ◌∙◌}
 use Rattle.program_edges.specs.Inside.TakingIn.{OwnedAlike, TakesIn}
 use Rattle.program_edges.proofs.Gaining.{on_ok}
 use Rattle.program_edges.proofs.Standing.{takes_last, takes_none, takes_place}
@@ -31,7 +32,7 @@ returns-else-beats g c =
     let other = c.in-Some.other in
     let at = c.of-at.result in
     let alike : OwnedAlike p old at n other = subst (λ (l : List ℕ). OwnedAlike p l at n other) c.as_slice.ensures c.in-Some.ensures in
-    takes_none p q c.args.extreme old at n other alike (λ b. let yes : c.beats.result ≡ true = c.beats.ensures.1 b in let no = c.if-beats.false in cc (yes, no))
+    takes_none p q c.args.extreme old at n other alike (λ b. let yes : c.beats.result ≡ true = c.beats.ensures.1 b in true≢false (sym yes ∙ c.if-beats.false))
 
 pub returns-in-None : goal.returns-in-None
 returns-in-None g c =
