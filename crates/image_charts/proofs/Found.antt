@@ -1,5 +1,5 @@
 -- What was found of a text and an image.
-use Rattle.std.proofs.Common.{◌≡◌, ◌≢◌, ◌∙◌, ℕ, true, Option, List, ◌++◌, map, refl, ap}
+use Rattle.std.proofs.Common.{◌≡◌, ◌∙◌, ℕ, true, Option, List, ◌++◌, map, refl, ap}
 use Rattle.std.specs.Prelude.{Result, Ok, Err, OnOk}
 use Rattle.std.specs.Str.{IsUtf8}
 use Rattle.json.specs.Print.{quoted}

@@ -1,12 +1,10 @@
 use Rattle.std.proofs.lemmas.Grind.{common_steps, elements}
-use Rattle.std.proofs.Common.{ℕ, suc, ◌≡◌, ◌≤◌, ◌-◌, IsTrue, IsFalse, List, map, slice_get, Some, true, false, length, count_by, subst, sym, ap, ◌∙◌, refl}
+use Rattle.std.proofs.Common.{suc, ◌≡◌, ◌≤◌, ◌-◌, IsTrue, map, slice_get, true, false, length, count_by, subst, sym, ap, ◌∙◌, refl}
 use Rattle.std.proofs.Common.{rules, arith}
 use Rattle.sc_text.specs.Parts.{IsNameIn, are_distinct}
-use Rattle.core_charts.specs.declared.region.State.{State}
-use Rattle.core_charts.specs.declared.region.Transition.{Transition}
 use Rattle.core_charts.specs.declared.region.Region.TheViews.{out-Region, out-State}
 use Rattle.core_charts.specs.Tests.{is_join}
-use Rattle.core_charts.specs.Rules.{IsTransition, IsState, IsRegion, AreSideBySide, AreRegions, IsWithin, state_limit, transition_limit, has_regions}
+use Rattle.core_charts.specs.Rules.{IsTransition, IsState, IsRegion, AreRegions, IsWithin, state_limit, transition_limit}
 use Rattle.sc_graph.proofs.Each.{each_more, each_of_all}
 use Rattle.core_charts.proofs.rules.Frame.+regions.Goals as goal
 
