@@ -1,4 +1,5 @@
-use Rattle.std.proofs.Common.{◌≡◌, ◌++◌, map, ap, sym, ◌∙◌}
+use Rattle.std.proofs.lemmas.Grind.{common_steps}
+use Rattle.std.proofs.Common.{◌≡◌, ◌++◌, map, ap, sym, ◌∙◌, arith}
 use Rattle.core_charts.specs.declared.region.Region.TheViews.{out-State}
 use Rattle.core_charts.specs.Tests.{at_once}
 use Rattle.chart_warnings.specs.Names.{joined, entered, when_initial, entry_of_region, entry_of_state}
@@ -45,3 +46,9 @@ mark_entry-returns t c =
     both_marked c.args.way (at_once c.as_slice.result.now) (joined (map entry_of_region c.as_slice-2.result.now)) (entry_of_state s).transitions
     c.args.marks.now.items c.mark_immediate.new.marks.items c.mark_entered.new.marks.items
     c.mark_immediate.ensures c.mark_entered.ensures whole
+
+pub mark_initial-returns : goal.mark_initial-returns
+mark_initial-returns t c = grind (arith, common_steps) steps 2000000
+
+pub mark_entered-returns : goal.mark_entered-returns
+mark_entered-returns t c = grind (arith, common_steps) steps 2000000

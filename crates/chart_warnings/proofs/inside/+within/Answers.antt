@@ -1,4 +1,5 @@
-use Rattle.std.proofs.Common.{◌≡◌, ◌++◌, map, ap, sym, ◌∙◌}
+use Rattle.std.proofs.lemmas.Grind.{common_steps}
+use Rattle.std.proofs.Common.{◌≡◌, ◌++◌, map, ap, sym, ◌∙◌, arith}
 use Rattle.core_charts.specs.declared.region.Region.TheViews.{out-State}
 use Rattle.chart_warnings.specs.Names.{joined, within_region, within_state}
 use Rattle.chart_warnings.specs.Inside.Marks.{all_by, marked}
@@ -32,3 +33,9 @@ mark_state-returns t c =
     both_marked c.args.way (joined (map within_region c.as_slice.result.now)) c.as_slice-2.result.now (within_state s)
     c.args.marks.now.items c.mark_regions.new.marks.items c.mark_transitions.new.marks.items
     c.mark_regions.ensures c.mark_transitions.ensures whole
+
+pub mark_states-returns : goal.mark_states-returns
+mark_states-returns t c = grind (arith, common_steps) steps 2000000
+
+pub mark_regions-returns : goal.mark_regions-returns
+mark_regions-returns t c = grind (arith, common_steps) steps 2000000

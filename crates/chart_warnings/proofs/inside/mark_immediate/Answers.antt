@@ -1,4 +1,5 @@
-use Rattle.std.proofs.Common.{List, Bool, ap, ◌∙◌}
+use Rattle.std.proofs.lemmas.Grind.{common_steps}
+use Rattle.std.proofs.Common.{List, Bool, ap, ◌∙◌, arith}
 use Rattle.core_charts.specs.Tests.{at_once}
 use Rattle.chart_warnings.specs.Inside.Marks.{all_by, marked}
 use Rattle.chart_warnings.proofs.Marking.{immediate_marked, delayed_marked}
@@ -18,3 +19,6 @@ loop-transition-preserved c =
           c.loop-transition.marks.items c.if-transition.marks.items done c.loop-transition-test.true c.transition-item.is
           w.if-transition.false (ap (λ v. v.items) w.marks-is) c.loop-transition.invariant
     ]
+
+pub returns : goal.returns
+returns c = grind (arith, common_steps) steps 2000000

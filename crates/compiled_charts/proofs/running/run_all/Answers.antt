@@ -1,4 +1,5 @@
-use Rattle.std.proofs.Common.{◌≡◌, ◌∙◌, ◌+◌, ◌++◌, ◌∷◌, [], Err, ap, sym, subst}
+use Rattle.std.proofs.lemmas.Grind.{common_steps}
+use Rattle.std.proofs.Common.{◌≡◌, ◌∙◌, ◌+◌, ◌++◌, ◌∷◌, [], Err, ap, sym, subst, arith}
 use Rattle.compiled_charts.specs.Inside.Ran.{RanTo}
 use Rattle.compiled_charts.proofs.Row.{on_at, refused_at}
 use Rattle.compiled_charts.proofs.running.run_all.Goals as goal
@@ -15,3 +16,6 @@ loop-at-preserved g c =
     subst (RanTo c.args.verified.now c.args.ticks.now (c.loop-at.at + 1) c.in-Ok.ran.0) (sym pushed)
     (on_at c.args.verified.now c.args.ticks.now c.loop-at.at c.loop-at.present c.in-Ok.ran.0 c.loop-at.controls c.index-ticks-at.result c.in-Ok.ran.1
     c.loop-at.invariant c.loop-at-test.true c.index-ticks-at.is c.in-Ok.ensures.tick)
+
+pub loop-at-init : goal.loop-at-init
+loop-at-init g c = grind (arith, common_steps) steps 2000000

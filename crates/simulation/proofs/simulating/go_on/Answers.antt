@@ -1,4 +1,5 @@
-use Rattle.std.proofs.Common.{◌≡◌, false, rules, subst}
+use Rattle.std.proofs.lemmas.Grind.{common_steps}
+use Rattle.std.proofs.Common.{◌≡◌, false, rules, subst, arith}
 use Rattle.trace_lines.specs.Lines.{ahead}
 use Rattle.simulation.specs.Inside.Turns.{Ends, TurnsTo}
 use Rattle.simulation.proofs.Turns.{has_ended, has_stopped, at_start, one_more}
@@ -31,3 +32,30 @@ loop-turn-init g c = search (rules, at_start)
 
 pub loop-turn-preserved : goal.loop-turn-preserved
 loop-turn-preserved g c = search (rules, one_more)
+
+pub overflow_step-turn : goal.overflow_step-turn
+overflow_step-turn g c = grind (arith, common_steps) steps 2000000
+
+pub returns-in-Err-clause-read : goal.returns-in-Err-clause-read
+returns-in-Err-clause-read g c = grind (arith, common_steps) steps 2000000
+
+pub returns-in-Ok-false-clause-not_write : goal.returns-in-Ok-false-clause-not_write
+returns-in-Ok-false-clause-not_write g c = grind (arith, common_steps) steps 2000000
+
+pub returns-in-Err-clause-write : goal.returns-in-Err-clause-write
+returns-in-Err-clause-write g c = grind (arith, common_steps) steps 2000000
+
+pub returns-in-Err-clause-not_write : goal.returns-in-Err-clause-not_write
+returns-in-Err-clause-not_write g c = grind (arith, common_steps) steps 2000000
+
+pub returns-in-Ok-false-clause-not_read : goal.returns-in-Ok-false-clause-not_read
+returns-in-Ok-false-clause-not_read g c = grind (arith, common_steps) steps 2000000
+
+pub returns-in-Err-clause-not_read : goal.returns-in-Err-clause-not_read
+returns-in-Err-clause-not_read g c = grind (arith, common_steps) steps 2000000
+
+pub returns-in-Ok-false-clause-write : goal.returns-in-Ok-false-clause-write
+returns-in-Ok-false-clause-write g c = grind (arith, common_steps) steps 2000000
+
+pub returns-in-Ok-false-clause-read : goal.returns-in-Ok-false-clause-read
+returns-in-Ok-false-clause-read g c = grind (arith, common_steps) steps 2000000

@@ -1,4 +1,5 @@
-use Rattle.std.proofs.Common.{◌≡◌, ◌∙◌, Some, ap, option_map, rules, subst}
+use Rattle.std.proofs.lemmas.Grind.{common_steps}
+use Rattle.std.proofs.Common.{◌≡◌, ◌∙◌, Some, ap, option_map, rules, subst, arith}
 use Rattle.std.specs.Io.KnownBytes.{Appends, IsAtEnd}
 use Rattle.trace_lines.specs.declared.lines.LineEnd.TheVariants as line_end
 use Rattle.trace_lines.specs.Lines.{ahead, TakesLine}
@@ -23,3 +24,36 @@ returns-clause-done g c =
     let written : Appends old new told = subst (Appends old new) c.deref-2.ensures.value (c.write.ensures.whole c.if-not-write.false) in
     let last : c.in-Ok-Some.end ≡ line_end.Input → IsAtEnd after = λ e. c.in-Ok-Some.ensures.last (c.in-Ok-Some.field-0-is ∙ ap Some e) in
     is_answered c.goes_on.result c.in-Ok-Some.end line told h next now after old new c.goes_on.ensures last takes answers written
+
+pub returns-clause-read : goal.returns-clause-read
+returns-clause-read g c = grind (arith, common_steps) steps 2000000
+
+pub returns-clause-not_write : goal.returns-clause-not_write
+returns-clause-not_write g c = grind (arith, common_steps) steps 2000000
+
+pub returns-then-not-write-clause-not_write : goal.returns-then-not-write-clause-not_write
+returns-then-not-write-clause-not_write g c = grind (arith, common_steps) steps 2000000
+
+pub returns-then-not-write-clause-end : goal.returns-then-not-write-clause-end
+returns-then-not-write-clause-end g c = grind (arith, common_steps) steps 2000000
+
+pub returns-clause-end : goal.returns-clause-end
+returns-clause-end g c = grind (arith, common_steps) steps 2000000
+
+pub returns-then-not-write-clause-read : goal.returns-then-not-write-clause-read
+returns-then-not-write-clause-read g c = grind (arith, common_steps) steps 2000000
+
+pub returns-in-Ok-None-answer-clause-read : goal.returns-in-Ok-None-answer-clause-read
+returns-in-Ok-None-answer-clause-read g c = grind (arith, common_steps) steps 2000000
+
+pub returns-in-Ok-None-answer-clause-not_read : goal.returns-in-Ok-None-answer-clause-not_read
+returns-in-Ok-None-answer-clause-not_read g c = grind (arith, common_steps) steps 2000000
+
+pub returns-clause-write : goal.returns-clause-write
+returns-clause-write g c = grind (arith, common_steps) steps 2000000
+
+pub returns-then-not-write-clause-not_read : goal.returns-then-not-write-clause-not_read
+returns-then-not-write-clause-not_read g c = grind (arith, common_steps) steps 2000000
+
+pub returns-clause-not_read : goal.returns-clause-not_read
+returns-clause-not_read g c = grind (arith, common_steps) steps 2000000

@@ -1,4 +1,5 @@
-use Rattle.std.proofs.Common.{◌≡◌, ◌<◌, ◌++◌, codes, length, rules, string_bytes}
+use Rattle.std.proofs.lemmas.Grind.{common_steps}
+use Rattle.std.proofs.Common.{◌≡◌, ◌<◌, ◌++◌, codes, length, rules, string_bytes, arith}
 use Rattle.std.specs.List.{position_or_len, after_first}
 use Rattle.simulation.specs.Pieces.{is_between}
 use Rattle.simulation.specs.Tree.{state_line}
@@ -24,3 +25,6 @@ returns-in-None c =
     let none : position_or_len (is_between 47) c.loop-inner.rest.now ≡ length c.loop-inner.rest.now = search rules in
     state_put c.put_own.result (string_bytes c.args.text.now ++ state_line c.args.is_active c.args.path.now) (string_bytes c.loop-inner.text)
     (string_bytes c.put_own.new.text) c.loop-inner.rest.now c.args.is_active none c.put_own.ensures c.loop-inner.invariant.line
+
+pub loop-inner-smaller : goal.loop-inner-smaller
+loop-inner-smaller c = grind (arith, common_steps) steps 2000000

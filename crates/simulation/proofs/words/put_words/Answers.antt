@@ -1,4 +1,5 @@
-use Rattle.std.proofs.Common.{◌≡◌, ◌<◌, ◌++◌, ℕ, List, ◌∷◌, false, length, rules, string_bytes}
+use Rattle.std.proofs.lemmas.Grind.{common_steps}
+use Rattle.std.proofs.Common.{◌≡◌, ◌<◌, ◌++◌, ℕ, List, ◌∷◌, false, length, rules, string_bytes, arith}
 use Rattle.std.specs.List.{position_or_len, before_first, after_first}
 use Rattle.simulation.specs.Pieces.{is_between}
 use Rattle.simulation.specs.Words.{members_of, words_in}
@@ -32,3 +33,6 @@ returns-in-None c =
     last_put (string_bytes c.args.object.now ++ members_of false (words_in c.args.words.now)) (string_bytes c.loop-word.object)
     (string_bytes c.put_word-in-None.new.object) text c.loop-word.later c.in_ok-put_word-in-None.field-0 none c.in_ok-put_word-in-None.ensures
     c.loop-word.invariant.members
+
+pub loop-word-smaller : goal.loop-word-smaller
+loop-word-smaller c = grind (arith, common_steps) steps 2000000

@@ -1,4 +1,5 @@
-use Rattle.std.proofs.Common.{string_bytes, subst}
+use Rattle.std.proofs.lemmas.Grind.{common_steps}
+use Rattle.std.proofs.Common.{string_bytes, subst, arith}
 use Rattle.chart_reduction.specs.Reduction.{LacksChart}
 use Rattle.extended_reader.proofs.Reading.{shaped}
 use Rattle.chart_warnings.proofs.ToldOfAuthor.{limited, reduction}
@@ -18,3 +19,6 @@ pub returns-in-Err-Limit : goal.returns-in-Err-Limit
 returns-in-Err-Limit c =
     limited c.args.name.now c.args.text.now (string_bytes c.new.result) c.args.draft.now c.in_ok-extended.extended c.requires.sound
     c.in_ok-extended.ensures (subst (LacksChart c.in_ok-extended.extended) c.in-Err-Limit.field-0-is c.in-Err-Limit.ensures) c.new.ensures.bytes
+
+pub returns-in-Ok : goal.returns-in-Ok
+returns-in-Ok c = grind (arith, common_steps) steps 2000000

@@ -1,3 +1,4 @@
+use Rattle.std.proofs.lemmas.Grind.{common_steps}
 use Rattle.std.proofs.Common.{◌≡◌, ◌++◌, ◌∷◌, [], Option, Some, None, take, length, length-append, subst, sym, ap, ◌∙◌, arith}
 use Rattle.probe.specs.Progress.{Progress}
 use Rattle.probe.specs.Inside.Copies.{IsAt}
@@ -33,3 +34,15 @@ invariant_of-self-in-Ok g c =
           ∙ cc (publisher, ap (take 1) rows, first_snoc note.rows c.args.end c.self.invariant.3),
       omega (arith, ap length rows, length-append note.rows (c.args.end ∷ [])),
     )
+
+pub returns-in-Ok-clause-shown : goal.returns-in-Ok-clause-shown
+returns-in-Ok-clause-shown g c = grind (arith, common_steps) steps 2000000
+
+pub invariant_of-self-in-Err-1 : goal.invariant_of-self-in-Err-1
+invariant_of-self-in-Err-1 g c = grind (arith, common_steps) steps 2000000
+
+pub returns-in-Ok-clause-publisher : goal.returns-in-Ok-clause-publisher
+returns-in-Ok-clause-publisher g c = grind (arith, common_steps) steps 2000000
+
+pub returns-in-Ok-clause-rows : goal.returns-in-Ok-clause-rows
+returns-in-Ok-clause-rows g c = grind (arith, common_steps) steps 2000000

@@ -1,4 +1,6 @@
-use Rattle.std.proofs.Common.{◌≡◌, ℕ, Err, IfNone, IfSome, ap, subst, sym}
+use mathlib.Core.Bool.{true≢false}
+use Rattle.std.proofs.lemmas.Grind.{common_steps}
+use Rattle.std.proofs.Common.{◌≡◌, ℕ, Err, IfNone, IfSome, ap, subst, sym, arith, true, ◌∙◌}
 use Rattle.serde_json.specs.View.{view}
 use Rattle.sc_graph.specs.declared.control.Control.{Control}
 use Rattle.sc_graph.specs.Tick.{Rests}
@@ -24,6 +26,8 @@ returns-then-not-fits-clause-none c = λ is t e rests saved.
     let held : Holds (view c.in-Ok.json) s.ticks s.control =
     subst (λ o. IfSome o (λ a. Holds (view c.in-Ok.json) a.ticks a.control)) c.in-Some.is c.in_ok-saved.ensures.held in
     let same = one_held (view c.in-Ok.json) s.ticks t s.control e held (c.in-Ok.ensures.only t e saved) in
-    let fits = c.fits.ensures.1 (subst (Rests c.args.program.now) (sym same.1) rests) in
-    let no = c.if-not-fits.true in
-    absurd cc
+    let yes : c.fits.result ≡ true = c.fits.ensures.1 (subst (Rests c.args.program.now) (sym same.1) rests) in
+    absurd (true≢false (sym yes ∙ c.if-not-fits.true))
+
+pub returns-clause-rests : goal.returns-clause-rests
+returns-clause-rests c = grind (arith, common_steps) steps 2000000

@@ -1,4 +1,5 @@
-use Rattle.std.proofs.Common.{◌≡◌, ◌<◌, ◌++◌, ◌∷◌, [], length, rules}
+use Rattle.std.proofs.lemmas.Grind.{common_steps}
+use Rattle.std.proofs.Common.{◌≡◌, ◌<◌, ◌++◌, ◌∷◌, [], length, rules, arith}
 use Rattle.ruled_runs.specs.Texts.{status_in}
 use Rattle.ruled_runs.proofs.Lists.{one_behind, deep_behind}
 use Rattle.ruled_runs.proofs.controls.statuses.statuses_json.Goals as goal
@@ -14,3 +15,6 @@ loop-status-preserved c =
       given = one_behind status_in l.list.items new made c.args.statuses.now l.status-index _ more l.invariant.given c.in_ok-status_json.ensures.status less;
       depth = deep_behind l.list.items new made 1 more l.invariant.depth c.in_ok-status_json.ensures.depth;
     }
+
+pub returns-clause-statuses : goal.returns-clause-statuses
+returns-clause-statuses c = grind (arith, common_steps) steps 2000000

@@ -1,3 +1,4 @@
+use Rattle.std.proofs.lemmas.Grind.{common_steps}
 use Rattle.std.proofs.Common.{◌≡◌, ◌<◌, ◌++◌, ◌∷◌, [], length, arith, rules}
 use Rattle.ruled_runs.specs.Texts.{value_in}
 use Rattle.ruled_runs.proofs.Lists.{one_behind, deep_behind}
@@ -14,3 +15,6 @@ loop-value-preserved c =
       given = one_behind value_in l.list.items new made c.args.values.now l.value-index _ more l.invariant.given c.value_json.ensures.value less;
       depth = deep_behind l.list.items new made 1 more l.invariant.depth (omega (arith, c.value_json.ensures.depth));
     }
+
+pub returns-clause-values : goal.returns-clause-values
+returns-clause-values c = grind (arith, common_steps) steps 2000000
